@@ -1,0 +1,44 @@
+-- Offsets and coordinates correspond one to one below the volume. By induction on the lengths, each axis being one digit.
+use mathlib.Core.Path.{_≡_, refl, sym, ap, ap₂, _∙_, subst}
+use mathlib.Core.List.{List, [], _∷_}
+use Prim.Native.Nat.{ℕ, zero, suc, _+_, _*_, _/_, _%_, _<_, _≤_, zero-le, suc-le-suc}
+use native.Mathlib.Omega.{arith}
+use native.Mathlib.Nat.{mod-lt, div-add-mod', div-lt-iff-lt-mul, mul-zero, eq-zero-or-pos, not-suc-le-zero}
+use mathlib.Core.Logic.{⊎-elim}
+use lib.ListN.{length}
+use lib.Arith.{digits-div, digits-mod, digits-lt, lt-one}
+use Rattle.layout.specs.Layout.{volume, Within, at, coords}
+use Rattle.layout.specs.Layout.Within.{none, more}
+
+pub within-length : {ds x : List ℕ} → Within ds x → length x ≡ length ds
+within-length none = refl
+within-length (more h w) = ap suc (within-length w)
+
+pub at-lt : {ds x : List ℕ} → Within ds x → at ds x < volume ds
+unfolding at volume
+at-lt none = suc-le-suc zero-le
+at-lt (more h w) = digits-lt h (at-lt w)
+
+-- the block has a word, so what follows the first axis has one
+rest-pos : (d v p : ℕ) → p < d * v → 0 < v
+rest-pos d v p h = ⊎-elim (λ (e : v ≡ 0). let z : p < 0 = rw (e, mul-zero) at h in absurd (not-suc-le-zero z)) (λ (k : 0 < v). k) (eq-zero-or-pos v)
+
+pub within-coords : (ds : List ℕ) (p : ℕ) → p < volume ds → Within ds (coords ds p)
+unfolding coords volume
+within-coords [] p h = none
+within-coords (d ∷ ds) p h =
+    let v : 0 < volume ds = rest-pos d (volume ds) p h in
+    more (div-lt-iff-lt-mul v .1 h) (within-coords ds (p % volume ds) (mod-lt p v))
+
+pub at-coords : (ds : List ℕ) (p : ℕ) → p < volume ds → at ds (coords ds p) ≡ p
+unfolding at coords volume
+at-coords [] p h = sym (lt-one h)
+at-coords (d ∷ ds) p h =
+    let v : 0 < volume ds = rest-pos d (volume ds) p h in
+    ap (λ (z : ℕ). p / volume ds * volume ds + z) (at-coords ds (p % volume ds) (mod-lt p v)) ∙ div-add-mod' p (volume ds)
+
+pub coords-at : {ds x : List ℕ} → Within ds x → coords ds (at ds x) ≡ x
+unfolding at coords
+coords-at none = refl
+coords-at (more {x = y} {ds = es} h w) =
+    ap₂ _∷_ (digits-div y (at-lt w)) (ap (coords es) (digits-mod y (at-lt w)) ∙ coords-at w)

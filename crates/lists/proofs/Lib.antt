@@ -1,0 +1,3 @@
+pub mod Tab
+pub mod Test
+pub mod Decide

@@ -1,0 +1,1 @@
+// Definitions and laws of lists: no function stands here.
