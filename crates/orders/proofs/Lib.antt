@@ -1,0 +1,3 @@
+pub mod Swaps
+pub mod Chains
+pub mod Layouts
