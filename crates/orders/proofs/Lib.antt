@@ -3,3 +3,9 @@ pub mod Chains
 pub mod Layouts
 pub mod Arranged
 pub mod Numbers
+pub mod Relabels
+pub mod Counts
+pub mod Falling
+pub mod Rising
+pub mod Plans
+pub mod FourAxes
