@@ -1,56 +1,65 @@
--- The orders of four axes by number, and their plans. One computed test finds that the plan of each of the 24 names it and has at
--- most six swaps; so each is an order that a chain names, and the laws over any number of axes hold of it.
-use mathlib.Core.Path.{_≡_, refl, subst}
-use mathlib.Core.Bool.{Bool}
-use mathlib.Core.List.{List, [], _∷_, map}
+-- The orders of four axes and their plans, by number. That there are 24, that no two are the same and that none has more than
+-- six falling pairs is computed, each by one test; what remains are the laws over any number of axes at four.
+use mathlib.Core.Path.{_≡_, refl, sym, ap, _∙_}
+use mathlib.Core.List.{List}
 use Prim.Native.Nat.{ℕ, _<_, _≤_}
-use lib.Dec.{T, leb, leb→le}
+use lib.Dec.{T, eqb, eqb→eq, leb, leb→le}
 use lib.ListN.{length}
-use Rattle.lists.specs.Choose.{both, same}
-use Rattle.lists.proofs.Test.{both-left, both-right, same→eq, below, at-number}
+use Rattle.lists.proofs.Test.{below, at-number}
 use Rattle.layout.proofs.Picks.{Below}
-use Rattle.orders.specs.Chains.{exchange, follow, named}
-use Rattle.orders.specs.Numbers.{arrangements, orders, orderOf}
-use Rattle.orders.specs.Plans.{under, falling, Plan, relabelled, firstBack, planned, planOf}
-use Rattle.orders.proofs.Plans.{plan-is, length-plan, plan-below}
-use Rattle.layout.specs.Layout.{placeOf}
+use Rattle.orders.specs.Chains.{exchange, named}
+use Rattle.orders.specs.Numbers.{arrangements, orders, orderOf, rank, numberOf}
+use Rattle.orders.specs.Plans.{under, falling, Plan, planOf}
+use Rattle.orders.proofs.Numbers.{number-below, next-order}
+use Rattle.orders.proofs.Plans.{length-plan, plan-of-number, plan-of-number-below}
 
--- the plan of order k names it, and order k has at most six falling pairs
-planned-4 : ℕ → Bool
-planned-4 k = both (same (named 4 (planOf (orderOf 4 k))) (orderOf 4 k)) (leb (falling (orderOf 4 k)) 6)
+-- there are 24 orders of four axes
+pub orders-4 : length (orders 4) ≡ 24
+unfolding orders arrangements
+orders-4 = refl
 
-all-planned : T (below 24 planned-4)
-unfolding planned-4 exchange follow named arrangements orders orderOf under falling relabelled firstBack planned planOf placeOf
-all-planned = tt
+found-again : T (below 24 (λ k. eqb (numberOf 4 (orderOf 4 k)) k))
+unfolding numberOf orderOf orders arrangements rank
+found-again = tt
+
+-- the number of the order with number k
+pub number-order-4 : (k : ℕ) → k < 24 → numberOf 4 (orderOf 4 k) ≡ k
+number-order-4 k h = eqb→eq (numberOf 4 (orderOf 4 k)) k (at-number 24 (λ j. eqb (numberOf 4 (orderOf 4 j)) j) found-again k h)
+
+-- different numbers are different orders
+pub one-number-4 : (j k : ℕ) → j < 24 → k < 24 → orderOf 4 j ≡ orderOf 4 k → j ≡ k
+one-number-4 j k h i e = sym (number-order-4 j h) ∙ ap (numberOf 4) e ∙ number-order-4 k i
+
+-- the number of the order that a chain names
+pub number-below-4 : (c : List ℕ) → numberOf 4 (named 4 c) < 24
+number-below-4 c = rw orders-4 at (number-below 4 c)
+
+few-falling : T (below 24 (λ k. leb (falling (orderOf 4 k)) 6))
+unfolding arrangements orders orderOf under falling
+few-falling = tt
 
 module _ (k : ℕ) (h : k < 24) where
-  -- the plan of order k names it
-  pub plan-names-4 : named 4 (planOf (orderOf 4 k)) ≡ orderOf 4 k
-  unfolding planned-4
-  plan-names-4 =
-      same→eq (named 4 (planOf (orderOf 4 k))) (orderOf 4 k)
-      (both-left (same (named 4 (planOf (orderOf 4 k))) (orderOf 4 k)) (leb (falling (orderOf 4 k)) 6) (at-number 24 planned-4 all-planned k h))
+  numbered : k < length (orders 4)
+  numbered = rw orders-4 h
 
-  -- order k has at most six falling pairs, and its plan at most six swaps
+  -- the number of order k after swap s
+  pub next-number-4 : (s : ℕ) → numberOf 4 (exchange s (orderOf 4 k)) < 24
+  next-number-4 s = rw orders-4 at (next-order 4 k s numbered .0)
+
+  pub next-order-4 : (s : ℕ) → orderOf 4 (numberOf 4 (exchange s (orderOf 4 k))) ≡ exchange s (orderOf 4 k)
+  next-order-4 s = next-order 4 k s numbered .1
+
+  -- order k has at most six falling pairs, so its plan at most six swaps
   pub falling-4 : falling (orderOf 4 k) ≤ 6
-  unfolding planned-4
-  falling-4 =
-      leb→le (falling (orderOf 4 k)) 6
-      (both-right (same (named 4 (planOf (orderOf 4 k))) (orderOf 4 k)) (leb (falling (orderOf 4 k)) 6) (at-number 24 planned-4 all-planned k h))
+  falling-4 = leb→le (falling (orderOf 4 k)) 6 (at-number 24 (λ j. leb (falling (orderOf 4 j)) 6) few-falling k h)
 
   pub length-plan-4 : length (planOf (orderOf 4 k)) ≤ 6
   length-plan-4 = rw (length-plan (orderOf 4 k)) falling-4
 
   -- the computed plan of order k is its plan
   pub plan-is-4 : Plan 4 (orderOf 4 k) (planOf (orderOf 4 k))
-  plan-is-4 = subst (λ (o : List ℕ). Plan 4 o (planOf o)) plan-names-4 (plan-is 4 (planOf (orderOf 4 k)))
+  plan-is-4 = plan-of-number 4 k numbered
 
   -- the swaps of a plan are 0, 1 and 2
   pub plan-below-4 : Below 3 (planOf (orderOf 4 k))
-  plan-below-4 = subst (λ (o : List ℕ). Below 3 (planOf o)) plan-names-4 (plan-below 3 (planOf (orderOf 4 k)))
-
--- the plans of document 01
-pub plans-4 : map (λ k. planOf (orderOf 4 k)) (0 ∷ 9 ∷ 18 ∷ 16 ∷ 23 ∷ [])
-    ≡ [] ∷ (0 ∷ 1 ∷ 2 ∷ []) ∷ (2 ∷ 1 ∷ 0 ∷ []) ∷ (1 ∷ 0 ∷ 2 ∷ 1 ∷ []) ∷ (0 ∷ 1 ∷ 0 ∷ 2 ∷ 1 ∷ 0 ∷ []) ∷ []
-unfolding arrangements orders orderOf under falling relabelled firstBack planned planOf placeOf
-plans-4 = refl
+  plan-below-4 = plan-of-number-below 3 k numbered

@@ -1,7 +1,8 @@
+pub mod Bench
 pub mod Swaps
 pub mod Chains
 pub mod Layouts
-pub mod Arranged
+pub mod Listed
 pub mod Numbers
 pub mod Relabels
 pub mod Counts

@@ -1,17 +1,20 @@
--- Orders by number. Every order that a chain names is in the list of orders, where a search finds it.
--- Of four axes there are 24 orders, no two the same: each number is found again, by one computed test.
+-- Orders by number, over any number of axes. Every order that a chain names is in the list of orders, where a search finds it,
+-- and a chain names every order in the list.
 use mathlib.Core.Path.{_≡_, refl, sym, ap, subst, _∙_}
 use mathlib.Core.Bool.{Bool, true, false}
-use mathlib.Core.List.{List, [], _∷_, map, List·Memᴰ, List·Memᴰ·not-nil, List·Memᴰ·cases-cons}
+use mathlib.Core.List.{List, [], _∷_, _++_, List·Memᴰ, List·Memᴰ·not-nil, List·Memᴰ·cases-cons}
+use mathlib.Core.List.List·Memᴰ.{List·Memᴰ·head, List·Memᴰ·tail}
 use mathlib.Core.Logic.{⊎-elim}
-use Prim.Native.Nat.{ℕ, _<_, zero-le, suc-le-suc}
-use lib.Dec.{T, eqb, eqb→eq}
+use Prim.Native.Nat.{ℕ, zero, suc, _<_, zero-le, suc-le-suc}
+use native.Mathlib.Nat.{not-suc-le-zero, le-of-suc-le-suc}
+use lib.Dec.{T}
 use lib.ListN.{length, getD}
 use Rattle.lists.specs.Choose.{same}
-use Rattle.lists.proofs.Test.{same→eq, eq→same, below, at-number}
-use Rattle.orders.specs.Chains.{named}
-use Rattle.orders.specs.Numbers.{arrangements, orders, orderOf, rank, numberOf}
-use Rattle.orders.proofs.Arranged.{named-listed}
+use Rattle.lists.proofs.Test.{same→eq, eq→same}
+use Rattle.orders.specs.Chains.{exchange, named}
+use Rattle.orders.specs.Numbers.{orders, orderOf, rank, numberOf}
+use Rattle.orders.proofs.Listed.{named-listed, listed-named}
+use Rattle.orders.proofs.Chains.{named-end}
 
 -- a search finds an order that is there
 Ranked : List ℕ → List (List ℕ) → Type 0
@@ -44,25 +47,20 @@ pub order-number : (r : ℕ) (c : List ℕ) → orderOf r (numberOf r (named r c
 unfolding numberOf orderOf Ranked
 order-number r c = named-ranked r c .1
 
--- there are 24 orders of four axes
-pub orders-4 : length (orders 4) ≡ 24
-unfolding orders arrangements
-orders-4 = refl
+at-place : (ps : List (List ℕ)) (k : ℕ) → k < length ps → List·Memᴰ (getD ps k []) ps
+at-place [] k h = absurd (not-suc-le-zero h)
+at-place (p ∷ ps) zero h = List·Memᴰ·head refl
+at-place (p ∷ ps) (suc k) h = List·Memᴰ·tail (at-place ps k (le-of-suc-le-suc h))
 
-found-again : T (below 24 (λ k. eqb (numberOf 4 (orderOf 4 k)) k))
-unfolding numberOf orderOf orders arrangements rank
-found-again = tt
+-- a chain names the order with number k
+pub order-named : (r k : ℕ) → k < length (orders r) → (c : List ℕ) × (named r c ≡ orderOf r k)
+unfolding orderOf
+order-named r k h = listed-named r (at-place (orders r) k h)
 
--- the number of the order with number k
-pub number-order-4 : (k : ℕ) → k < 24 → numberOf 4 (orderOf 4 k) ≡ k
-number-order-4 k h = eqb→eq (numberOf 4 (orderOf 4 k)) k (at-number 24 (λ j. eqb (numberOf 4 (orderOf 4 j)) j) found-again k h)
-
--- different numbers are different orders
-pub one-number-4 : (j k : ℕ) → j < 24 → k < 24 → orderOf 4 j ≡ orderOf 4 k → j ≡ k
-one-number-4 j k h i e = sym (number-order-4 j h) ∙ ap (numberOf 4) e ∙ number-order-4 k i
-
--- the numbers of document 01
-pub numbered-4 : map (orderOf 4) (0 ∷ 1 ∷ 2 ∷ 6 ∷ 9 ∷ 16 ∷ 18 ∷ 23 ∷ [])
-    ≡ (0 ∷ 1 ∷ 2 ∷ 3 ∷ []) ∷ (0 ∷ 1 ∷ 3 ∷ 2 ∷ []) ∷ (0 ∷ 2 ∷ 1 ∷ 3 ∷ []) ∷ (1 ∷ 0 ∷ 2 ∷ 3 ∷ []) ∷ (1 ∷ 2 ∷ 3 ∷ 0 ∷ []) ∷ (2 ∷ 3 ∷ 0 ∷ 1 ∷ []) ∷ (3 ∷ 0 ∷ 1 ∷ 2 ∷ []) ∷ (3 ∷ 2 ∷ 1 ∷ 0 ∷ []) ∷ []
-unfolding orderOf orders arrangements
-numbered-4 = refl
+-- one swap of the order with number k has a number too
+pub next-order : (r k s : ℕ) → k < length (orders r)
+    → (numberOf r (exchange s (orderOf r k)) < length (orders r)) × (orderOf r (numberOf r (exchange s (orderOf r k))) ≡ exchange s (orderOf r k))
+next-order r k s h =
+    let (c, e) = order-named r k h in
+    let f : named r (c ++ (s ∷ [])) ≡ exchange s (orderOf r k) = named-end r c s ∙ ap (exchange s) e in
+    rw (← f) (number-below r (c ++ (s ∷ [])), order-number r (c ++ (s ∷ [])))

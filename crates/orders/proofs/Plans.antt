@@ -14,9 +14,11 @@ use Rattle.layout.specs.Layout.{placeOf}
 use Rattle.layout.proofs.Picks.{Below}
 use Rattle.layout.proofs.Picks.Below.{empty, next}
 use Rattle.orders.specs.Chains.{follow, named}
+use Rattle.orders.specs.Numbers.{orders, orderOf}
 use Rattle.orders.specs.Plans.{falling, Sooner, Plan, relabelled, firstBack, planned, planOf}
 use Rattle.orders.specs.Plans.Sooner.{ends, less, then}
 use Rattle.orders.proofs.Chains.{length-named}
+use Rattle.orders.proofs.Numbers.{order-named}
 use Rattle.orders.proofs.Relabels.{named-front, named-past, map-relabel-twice}
 use Rattle.orders.proofs.Falling.{one-less, one-more, falling-upto, falling-least}
 use Rattle.orders.proofs.Rising.{rising}
@@ -205,3 +207,10 @@ planned-below m (suc n) c h =
 pub plan-below : (m : ℕ) (c : List ℕ) → Below m (planOf (named (suc m) c))
 unfolding planOf
 plan-below m c = planned-below m (falling (named (suc m) c)) c refl
+
+-- the computed plan of the order with number k is its plan
+pub plan-of-number : (r k : ℕ) → k < length (orders r) → Plan r (orderOf r k) (planOf (orderOf r k))
+plan-of-number r k h = let (c, e) = order-named r k h in subst (λ (o : List ℕ). Plan r o (planOf o)) e (plan-is r c)
+
+pub plan-of-number-below : (m k : ℕ) → k < length (orders (suc m)) → Below m (planOf (orderOf (suc m) k))
+plan-of-number-below m k h = let (c, e) = order-named (suc m) k h in subst (λ (o : List ℕ). Below m (planOf o)) e (plan-below m c)
