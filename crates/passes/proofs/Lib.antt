@@ -5,3 +5,4 @@ pub mod Ran
 pub mod Strided
 pub mod Fits
 pub mod Going
+pub mod Accepted

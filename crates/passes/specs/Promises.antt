@@ -1,13 +1,14 @@
 -- What the calls by passes promise. Assumes nothing: these are definitions.
+use mathlib.Core.Path.{_≡_}
 use mathlib.Core.List.{List, [], _∷_}
 use Prim.Native.Nat.{ℕ}
 use lib.Dec.{eqb}
 use Rattle.lists.specs.Choose.{either}
 use Rattle.layout.specs.Layout.{Laid}
-use Rattle.refusals.specs.FirstOf.{Check, check}
+use Rattle.refusals.specs.FirstOf.{Check, check, firstOf}
 use Rattle.refusals.specs.Conditions.{badLength, tooManyWords, shortBuffer, shortScratch}
 use Rattle.refusals.specs.Calls.{passesChecks}
-use Rattle.refusals.specs.Scratch.{need}
+use Rattle.refusals.specs.Scratch.{need, cleared}
 use Rattle.refusals.specs.Promise.{Rearranged}
 use Rattle.flat.specs.Turn.{sides, Turn, TurnBack}
 
@@ -40,3 +41,9 @@ swapChecks outer m n chunk buffer scratch =
 abbrev pub SwapPromise : ℕ → ℕ → ℕ → ℕ → List ℕ → List ℕ → ℕ → List ℕ → List ℕ → Type 0
 SwapPromise outer m n chunk buffer scratch =
     Rearranged (swapChecks outer m n chunk buffer scratch) (need (sides m n)) (Laid (swapBlock outer m n chunk) middle buffer) buffer scratch
+
+-- clearing scratch: 4 where it has fewer words than are to be zero, and then it is as it was
+pub record ClearPromise (n : ℕ) (scratch : List ℕ) (number : ℕ) (after : List ℕ) : Type 0 where
+  pub number-is : number ≡ firstOf (check 4 (shortScratch n scratch) ∷ [])
+  pub zeroed : number ≡ 0 → after ≡ cleared n scratch
+  pub kept : (number ≡ 0 → ⊥) → after ≡ scratch
