@@ -6,3 +6,4 @@ pub mod Strided
 pub mod Fits
 pub mod Going
 pub mod Accepted
+pub mod Adjacent
