@@ -1,10 +1,10 @@
 -- `no_block` meets its contract: each return answers the test that led there.
 use borrow.Author.Tests.{eq-eqb, ne-eqb, lt-ltb, le-ltb}
 use borrow.Author.Needs.{needs}
-use Rattle.passes.proofs.checks.no_block.Statement.{statement}
-use Rattle.passes.proofs.checks.no_block.Tie as tie
-use Rattle.passes.proofs.checks.no_block.Reads as reads
-use Rattle.passes.proofs.checks.no_block.Lts as lts
+use Rattle.passes.proofs.adjacent.no_block.Statement.{statement}
+use Rattle.passes.proofs.adjacent.no_block.Tie as tie
+use Rattle.passes.proofs.adjacent.no_block.Reads as reads
+use Rattle.passes.proofs.adjacent.no_block.Lts as lts
 
 -- src/checks.rt:47:9
 returns : tie.Need-returns

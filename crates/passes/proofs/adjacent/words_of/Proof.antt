@@ -5,12 +5,12 @@ use Prim.Native.Nat.{ℕ, _*_, _<_, _≤_}
 use native.Mathlib.Nat.{mul-le-mul, mul-pos, le-mul-of-pos-right, lt-of-lt-of-le, le-trans, mul-comm}
 use native.Mathlib.Omega.{arith}
 use borrow.Author.Tests.{lt-ltb, le-ltb}
-use Rattle.passes.proofs.Adjacent.{There, there, swap-volume, capped-over, capped-under}
+use Rattle.passes.proofs.Swaps.{There, there, swap-volume, capped-over, capped-under}
 use borrow.Author.Needs.{needs}
-use Rattle.passes.proofs.checks.words_of.Statement.{statement}
-use Rattle.passes.proofs.checks.words_of.Tie as tie
-use Rattle.passes.proofs.checks.words_of.Reads as reads
-use Rattle.passes.proofs.checks.words_of.Lts as lts
+use Rattle.passes.proofs.adjacent.words_of.Statement.{statement}
+use Rattle.passes.proofs.adjacent.words_of.Tie as tie
+use Rattle.passes.proofs.adjacent.words_of.Reads as reads
+use Rattle.passes.proofs.adjacent.words_of.Lts as lts
 
 -- src/checks.rt:70:9
 returns : tie.Need-returns

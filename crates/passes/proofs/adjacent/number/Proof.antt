@@ -1,21 +1,21 @@
--- `swap`'s checks meet their contract: each return answers the first of the checks that holds, by the tests that led there.
+-- `adjacent::number` meets its contract: each return answers the first of the checks that holds, by the tests that led there.
 use mathlib.Core.Path.{_≡_, refl, sym, ap, _∙_}
 use mathlib.Core.Bool.{false}
 use Prim.Native.Nat.{ℕ, _*_, _<_, _≤_}
 use native.Mathlib.Nat.{mul-le-mul, mul-pos, le-mul-of-pos-right, lt-of-lt-of-le, le-trans, mul-comm}
 use native.Mathlib.Omega.{arith}
 use borrow.Author.Tests.{lt-ltb, le-ltb}
-use Rattle.passes.proofs.Adjacent.{capped-over, capped-under}
+use Rattle.passes.proofs.Swaps.{capped-over, capped-under}
 use Rattle.layout.specs.Layout.{volume}
 use Rattle.passes.specs.Promises.{swapBlock, noBlock}
 use Rattle.passes.proofs.Fits.{side-need, need-le}
 use borrow.Author.Needs.{needs}
-use Rattle.passes.proofs.checks.swap.Statement.{statement}
-use Rattle.passes.proofs.checks.swap.Tie as tie
-use Rattle.passes.proofs.checks.swap.Reads as reads
-use Rattle.passes.proofs.checks.swap.Lts as lts
-use Rattle.passes.proofs.checks.no_block.Reads as no-block-reads
-use Rattle.passes.proofs.checks.words_of.Reads as words-of-reads
+use Rattle.passes.proofs.adjacent.number.Statement.{statement}
+use Rattle.passes.proofs.adjacent.number.Tie as tie
+use Rattle.passes.proofs.adjacent.number.Reads as reads
+use Rattle.passes.proofs.adjacent.number.Lts as lts
+use Rattle.passes.proofs.adjacent.no_block.Reads as no-block-reads
+use Rattle.passes.proofs.adjacent.words_of.Reads as words-of-reads
 
 -- src/checks.rt:97:8
 no-block-requires : tie.Need-no-block-requires
@@ -69,8 +69,8 @@ returns-6 c =
     let nb : noBlock (x .args .outer) (x .args .m) (x .args .n) (x .args .chunk) ≡ false = sym (c .before .before .before .before .before .before .no-block .ensures) ∙ c .before .before .before .before .before .if1 .left in
     let u = capped-under v (rw (c .before .before .before .before .words-of .ensures) at (c .before .before .before .if2 .left)) in simp (nb, le-ltb 1048576 v (u .0), le-ltb _ v (rw (c .before .before .before .before .words-of .ensures ∙ u .1) at (c .before .before .if3 .left)), le-ltb _ _ (need-le (c .before .if4 .left) (c .if5 .left)))
 
-pub swap-spec : {M : Type 1} → statement M
-swap-spec =
+pub number-spec : {M : Type 1} → statement M
+number-spec =
     tie.close
     (tie.spec
     no-block-requires

@@ -1,4 +1,4 @@
--- `flat` meets its contract: each return answers the first of the checks that holds, by the tests that led there.
+-- `checks::number` meets its contract: each return answers the first of the checks that holds, by the tests that led there.
 use mathlib.Core.Path.{_≡_, refl, sym, ap, _∙_}
 use Prim.Native.Nat.{ℕ, _≤_, _<_}
 use native.Mathlib.Nat.{mul-le-mul, lt-of-lt-of-le}
@@ -7,10 +7,10 @@ use borrow.Author.Tests.{eq-eqb, ne-eqb, lt-ltb, le-ltb}
 use Rattle.flat.proofs.Turn.{volume-two}
 use Rattle.passes.proofs.Fits.{side-need, need-le}
 use borrow.Author.Needs.{needs}
-use Rattle.passes.proofs.checks.flat.Statement.{statement}
-use Rattle.passes.proofs.checks.flat.Tie as tie
-use Rattle.passes.proofs.checks.flat.Reads as reads
-use Rattle.passes.proofs.checks.flat.Lts as lts
+use Rattle.passes.proofs.checks.number.Statement.{statement}
+use Rattle.passes.proofs.checks.number.Tie as tie
+use Rattle.passes.proofs.checks.number.Reads as reads
+use Rattle.passes.proofs.checks.number.Lts as lts
 
 -- src/checks.rt:12:9
 returns : tie.Need-returns
@@ -52,8 +52,8 @@ returns-8 c = let x = c .before .before .before .before .before .before .before 
 returns-9 : tie.Need-returns-9
 returns-9 c = let x = c .before .before .before .before .before .before .before .before in simp (volume-two, ne-eqb _ _ (c .before .before .before .before .before .before .before .if1 .left), le-ltb _ _ (c .before .before .before .before .before .before .if2 .left), ne-eqb _ _ (c .before .before .before .before .before .if3 .left), le-ltb _ _ (c .before .before .before .before .if4 .left), le-ltb _ _ (c .before .before .before .if5 .left), le-ltb _ _ (c .before .before .if6 .left), le-ltb _ _ (need-le (c .before .if7 .left) (c .if8 .left)))
 
-pub flat-spec : {M : Type 1} → statement M
-flat-spec =
+pub number-spec : {M : Type 1} → statement M
+number-spec =
     tie.close
     (tie.spec
     returns
