@@ -56,11 +56,11 @@ length-cleared : (k : ℕ) (s : List ℕ) → k ≤ length s → length (cleared
 length-cleared k s h = length-append (replicate k 0) (drop k s) ∙ omega (arith, length-replicate {A = ℕ} k 0, length-drop k s)
 
 -- an accepted turn of k by l, then one of l by k, under the checks of m by n: accepted, every word home
-restored : {m n k l r : ℕ} {b₀ s₀ b₁ s₁ b₂ s₂ : List ℕ}
+restored : (m n k l : ℕ) {r : ℕ} {b₀ s₀ b₁ s₁ b₂ s₂ : List ℕ}
     → Rearranged (passesChecks (sides m n) b₀ s₀) (need (sides m n)) (Turn k l b₀) b₀ s₀ 0 b₁ s₁
     → Rearranged (passesChecks (sides m n) b₁ s₁) (need (sides m n)) (Turn l k b₁) b₁ s₁ r b₂ s₂ → (r ≡ 0) × (b₂ ≡ b₀)
-restored {m} {n} {b₀ = b₀} {s₀} {b₁} {s₁} p q =
-    let a = accepted-by b₀ s₀ (p .number-is) refl in
+restored m n k l {b₀ = b₀} {s₀} {b₁} {s₁} p q =
+    let a = accepted-by {m = m} {n = n} b₀ s₀ (p .number-is) refl in
     let t = p .words refl in
     let long = ap length (p .zeroed refl) ∙ length-cleared (need (sides m n)) s₀ (a .room) in
     let z = q .number-is ∙ same-checks (sides m n) b₀ s₀ b₁ s₁ (t .same) long ∙ sym (p .number-is) in
@@ -68,8 +68,8 @@ restored {m} {n} {b₀ = b₀} {s₀} {b₁} {s₁} p q =
 
 -- a turn that was accepted, then the reverse turn with the same sides
 pub there-and-back : {m n r : ℕ} {b₀ s₀ b₁ s₁ b₂ s₂ : List ℕ} → TurnPromise m n b₀ s₀ 0 b₁ s₁ → TurnBackPromise m n b₁ s₁ r b₂ s₂ → (r ≡ 0) × (b₂ ≡ b₀)
-there-and-back p q = restored p q
+there-and-back {m} {n} p q = restored m n m n p q
 
 -- and the other way round
 pub back-and-there : {m n r : ℕ} {b₀ s₀ b₁ s₁ b₂ s₂ : List ℕ} → TurnBackPromise m n b₀ s₀ 0 b₁ s₁ → TurnPromise m n b₁ s₁ r b₂ s₂ → (r ≡ 0) × (b₂ ≡ b₀)
-back-and-there p q = restored p q
+back-and-there {m} {n} p q = restored m n n m p q
