@@ -1,1 +1,3 @@
 mod Stretches
+mod Parts
+mod Rotations

@@ -57,8 +57,8 @@ module _ (k i : ℕ) (xs : List ℕ) (low : i < k) (high : k + i < length xs) wh
       let mid : length (drop (suc i) (take k xs)) ≡ k - suc i = length-drop (suc i) (take k xs) ∙ ap (λ (n : ℕ). n - suc i) (length-take-le k xs (omega arith)) in
       let q : length (take i xs) ≡ i = length-take-le i xs (omega arith) in
       let back : length (take i (drop k xs) ++ (getD xs i 0 ∷ (drop (suc i) (take k xs) ++ take i xs))) ≡ k + i
-            = length-append (take i (drop k xs)) (getD xs i 0 ∷ (drop (suc i) (take k xs) ++ take i xs))
-              ∙ omega (arith, front, mid, q, length-append (drop (suc i) (take k xs)) (take i xs)) in
+      = length-append (take i (drop k xs)) (getD xs i 0 ∷ (drop (suc i) (take k xs) ++ take i xs))
+      ∙ omega (arith, front, mid, q, length-append (drop (suc i) (take k xs)) (take i xs)) in
       rw (apart, add-one)
       (two-words (take i (drop k xs)) (drop (suc i) (take k xs)) (take i xs) (drop (suc (k + i)) xs) (getD xs i 0) (getD xs (k + i) 0) i (k + i) front back ∙ together)
 
