@@ -1,3 +1,6 @@
 mod Stretches
 mod Parts
 mod Rotations
+mod Merges
+mod Four
+mod Halving

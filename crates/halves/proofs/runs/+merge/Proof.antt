@@ -1,0 +1,312 @@
+-- `runs::merge` meets its contract, by recursion on the run count. One level is the law of Halving: the stretch rotated, then both halves merged.
+use mathlib.Core.Path.{_≡_, refl, sym, ap, _∙_}
+use mathlib.Core.List.{List, _++_}
+use Prim.Native.Nat.{ℕ, _+_, _-_, _*_, _/_, _≤_, _<_}
+use native.Mathlib.Omega.{arith}
+use borrow.Author.Needs.{needs}
+use lib.ListN.{length, take, drop}
+use lib.Seq.{length-take-le}
+use Rattle.halves.proofs.Parts.{whole, second-length}
+use Rattle.halves.proofs.Four.{Halved, halved}
+use Rattle.halves.proofs.Merges.{merged-one}
+use Rattle.halves.proofs.Halving.{stretch-long, next-length, cut-within, low-runs, cut-after, high-runs, merged-whole}
+use borrow.Fn.Kinds.{In}
+use borrow.Fn.PlainCycle.{Measures, is, falls, and}
+use Rattle.halves.proofs.runs.merge.Reads as merge
+use Rattle.halves.proofs.runs.merge.Kinds as merge-kinds
+use Rattle.halves.proofs.runs.+merge.Lts-merge as merge-lts
+use Rattle.halves.proofs.rotation.rotate.Reads as rotate-reads
+use Rattle.halves.proofs.runs.+merge.{statement}
+use Rattle.halves.proofs.runs.+merge.Tie.{close}
+
+abbrev μ-merge : Measures 1 merge-kinds.ps ℕ
+μ-merge κs a = a .1 .0
+
+abbrev merge-at : ℕ → In 1 merge-kinds.ps
+merge-at t = and 1 merge-kinds.ps (is 1 merge-kinds.ps μ-merge t) merge.Pre
+
+abbrev merge-below : ℕ → In 1 merge-kinds.ps
+merge-below t = and 1 merge-kinds.ps (falls 1 merge-kinds.ps _<_ μ-merge t) merge.Pre
+
+-- the run counts of this call and of the two below it
+merge-cuts : (t : ℕ) (x : merge-lts.Start (rotate-reads.Asked, rotate-reads.Learnt, merge-below t, merge.Post) (merge-at t) merge.Post)
+    → Halved (x .args .n) (x .args .p) (x .args .q)
+merge-cuts t x = halved (x .args .n) (x .args .p) (x .args .q) (omega arith)
+
+-- src/runs.rt:11:9
+merge-returns : (t : ℕ) → merge-lts.Need-returns (
+  rotate-reads.Asked,
+  rotate-reads.Learnt,
+  merge-below t,
+  merge.Post,
+) (merge-at t) merge.Post
+merge-returns t c = let x = c .before .before .args in merged-one (x .n) (x .p) (x .q) (x .s .now) (omega arith)
+
+-- src/runs.rt:14:13
+merge-sub-g : (t : ℕ) → merge-lts.Need-sub-g (
+  rotate-reads.Asked,
+  rotate-reads.Learnt,
+  merge-below t,
+  merge.Post,
+) (merge-at t) merge.Post
+merge-sub-g t c = search needs
+
+-- src/runs.rt:15:20
+merge-add-cut : (t : ℕ) → merge-lts.Need-add-cut (
+  rotate-reads.Asked,
+  rotate-reads.Learnt,
+  merge-below t,
+  merge.Post,
+) (merge-at t) merge.Post
+merge-add-cut t c = omega (arith, merge-cuts t (c .before .before))
+
+-- src/runs.rt:15:15
+merge-mul-cut : (t : ℕ) → merge-lts.Need-mul-cut (
+  rotate-reads.Asked,
+  rotate-reads.Learnt,
+  merge-below t,
+  merge.Post,
+) (merge-at t) merge.Post
+merge-mul-cut t c = omega (arith, merge-cuts t (c .before .before))
+
+-- src/runs.rt:16:16
+merge-mul-from : (t : ℕ) → merge-lts.Need-mul-from (
+  rotate-reads.Asked,
+  rotate-reads.Learnt,
+  merge-below t,
+  merge.Post,
+) (merge-at t) merge.Post
+merge-mul-from t c = omega (arith, merge-cuts t (c .before .before))
+
+-- src/runs.rt:17:14
+merge-mul-to : (t : ℕ) → merge-lts.Need-mul-to (
+  rotate-reads.Asked,
+  rotate-reads.Learnt,
+  merge-below t,
+  merge.Post,
+) (merge-at t) merge.Post
+merge-mul-to t c = omega (arith, merge-cuts t (c .before .before))
+
+-- src/runs.rt:17:22
+merge-mul-to-2 : (t : ℕ) → merge-lts.Need-mul-to-2 (
+  rotate-reads.Asked,
+  rotate-reads.Learnt,
+  merge-below t,
+  merge.Post,
+) (merge-at t) merge.Post
+merge-mul-to-2 t c = omega (arith, merge-cuts t (c .before .before))
+
+-- src/runs.rt:17:14
+merge-add-to : (t : ℕ) → merge-lts.Need-add-to (
+  rotate-reads.Asked,
+  rotate-reads.Learnt,
+  merge-below t,
+  merge.Post,
+) (merge-at t) merge.Post
+merge-add-to t c = omega (arith, merge-cuts t (c .before .before))
+
+-- src/runs.rt:18:12
+merge-mul-rotate : (t : ℕ) → merge-lts.Need-mul-rotate (
+  rotate-reads.Asked,
+  rotate-reads.Learnt,
+  merge-below t,
+  merge.Post,
+) (merge-at t) merge.Post
+merge-mul-rotate t c = omega (arith, merge-cuts t (c .before .before))
+
+-- src/runs.rt:18:12
+merge-sub-rotate : (t : ℕ) → merge-lts.Need-sub-rotate (
+  rotate-reads.Asked,
+  rotate-reads.Learnt,
+  merge-below t,
+  merge.Post,
+) (merge-at t) merge.Post
+merge-sub-rotate t c = omega (arith, merge-cuts t (c .before .before))
+
+-- src/runs.rt:18:12
+merge-part-rotate-start : (t : ℕ) → merge-lts.Need-part-rotate-start (
+  rotate-reads.Asked,
+  rotate-reads.Learnt,
+  merge-below t,
+  merge.Post,
+) (merge-at t) merge.Post
+merge-part-rotate-start t c = omega (arith, merge-cuts t (c .before .before))
+
+-- src/runs.rt:18:12
+merge-part-rotate-end : (t : ℕ) → merge-lts.Need-part-rotate-end (
+  rotate-reads.Asked,
+  rotate-reads.Learnt,
+  merge-below t,
+  merge.Post,
+) (merge-at t) merge.Post
+merge-part-rotate-end t c = omega (arith, merge-cuts t (c .before .before))
+
+-- src/runs.rt:18:30
+merge-mul-rotate-2 : (t : ℕ) → merge-lts.Need-mul-rotate-2 (
+  rotate-reads.Asked,
+  rotate-reads.Learnt,
+  merge-below t,
+  merge.Post,
+) (merge-at t) merge.Post
+merge-mul-rotate-2 t c = omega (arith, merge-cuts t (c .before .before .before))
+
+-- src/runs.rt:18:5
+merge-rotate-requires : (t : ℕ) → merge-lts.Need-rotate-requires (
+  rotate-reads.Asked,
+  rotate-reads.Learnt,
+  merge-below t,
+  merge.Post,
+) (merge-at t) merge.Post
+merge-rotate-requires t c κs =
+    let x = c .before .before .before in
+    omega (arith, merge-cuts t x, stretch-long (x .args .n) (x .args .p) (x .args .q) (x .args .s .now) (x .pre .1))
+
+-- src/runs.rt:19:11
+merge-slice-relend-prefix-merge : (t : ℕ) → merge-lts.Need-slice-relend-prefix-merge (
+  rotate-reads.Asked,
+  rotate-reads.Learnt,
+  merge-below t,
+  merge.Post,
+) (merge-at t) merge.Post
+merge-slice-relend-prefix-merge t c =
+    let x = c .before .before .before .before .before .before in
+    let r = c .before .before .rotate in
+    cut-within (x .args .n) (x .args .p) (x .args .q) (x .args .s .now) (r .last .0) (x .pre .1) (r .ensures)
+
+-- src/runs.rt:19:11
+merge-slice-aggregate-merge : (t : ℕ) → merge-lts.Need-slice-aggregate-merge (
+  rotate-reads.Asked,
+  rotate-reads.Learnt,
+  merge-below t,
+  merge.Post,
+) (merge-at t) merge.Post
+merge-slice-aggregate-merge t c =
+    let x = c .before .before .before .before .before .before .before in
+    let r = c .before .before .before .rotate in
+    sym (low-runs (x .args .n) (x .args .p) (x .args .q) (x .args .s .now) (r .last .0) (x .pre .1) (r .ensures) (omega arith) .fill)
+
+-- src/runs.rt:19:5
+merge-merge-requires : (t : ℕ) → merge-lts.Need-merge-requires (
+  rotate-reads.Asked,
+  rotate-reads.Learnt,
+  merge-below t,
+  merge.Post,
+) (merge-at t) merge.Post
+merge-merge-requires t c κs =
+    let x = c .before .before .before .before .before .before .before in
+    let r = c .before .before .before .rotate in
+    (omega arith, low-runs (x .args .n) (x .args .p) (x .args .q) (x .args .s .now) (r .last .0) (x .pre .1) (r .ensures) (omega arith))
+
+-- src/runs.rt:20:11
+merge-mul-merge : (t : ℕ) → merge-lts.Need-mul-merge (
+  rotate-reads.Asked,
+  rotate-reads.Learnt,
+  merge-below t,
+  merge.Post,
+) (merge-at t) merge.Post
+merge-mul-merge t c = omega (arith, merge-cuts t (c .before .before .before .before .before .before .before .before .before .before))
+
+-- src/runs.rt:20:11
+merge-sub-merge : (t : ℕ) → merge-lts.Need-sub-merge (
+  rotate-reads.Asked,
+  rotate-reads.Learnt,
+  merge-below t,
+  merge.Post,
+) (merge-at t) merge.Post
+merge-sub-merge t c =
+    let x = c .before .before .before .before .before .before .before .before .before .before in
+    let r = c .before .before .before .before .before .before .rotate in
+    let low = c .before .before .merge in
+    cut-after (x .args .n) (x .args .p) (x .args .q) (x .args .s .now) (r .last .0) (x .pre .1) (r .ensures) (low .last .0) (low .kept .0)
+
+-- src/runs.rt:20:11
+merge-part-merge-start : (t : ℕ) → merge-lts.Need-part-merge-start (
+  rotate-reads.Asked,
+  rotate-reads.Learnt,
+  merge-below t,
+  merge.Post,
+) (merge-at t) merge.Post
+merge-part-merge-start t c =
+    let x = c .before .before .before .before .before .before .before .before .before .before in
+    let r = c .before .before .before .before .before .before .rotate in
+    let low = c .before .before .merge in
+    cut-after (x .args .n) (x .args .p) (x .args .q) (x .args .s .now) (r .last .0) (x .pre .1) (r .ensures) (low .last .0) (low .kept .0)
+
+-- src/runs.rt:20:11
+merge-part-merge-end : (t : ℕ) → merge-lts.Need-part-merge-end (
+  rotate-reads.Asked,
+  rotate-reads.Learnt,
+  merge-below t,
+  merge.Post,
+) (merge-at t) merge.Post
+merge-part-merge-end t c = search needs
+
+-- src/runs.rt:20:5
+merge-merge-requires-2 : (t : ℕ) → merge-lts.Need-merge-requires-2 (
+  rotate-reads.Asked,
+  rotate-reads.Learnt,
+  merge-below t,
+  merge.Post,
+) (merge-at t) merge.Post
+merge-merge-requires-2 t c κs =
+    let x = c .before .before .before .before .before .before .before .before .before .before .before in
+    let r = c .before .before .before .before .before .before .before .rotate in
+    let low = c .before .before .before .merge in
+    (omega arith, high-runs (x .args .n) (x .args .p) (x .args .q) (x .args .s .now) (r .last .0) (x .pre .1) (r .ensures) (omega arith) (low .last .0) (low .kept .0))
+
+-- src/runs.rt:6:1
+merge-same-length : (t : ℕ) → merge-lts.Need-same-length (
+  rotate-reads.Asked,
+  rotate-reads.Learnt,
+  merge-below t,
+  merge.Post,
+) (merge-at t) merge.Post
+merge-same-length t c = search needs
+
+-- src/runs.rt:6:1
+merge-returns-2 : (t : ℕ) → merge-lts.Need-returns-2 (
+  rotate-reads.Asked,
+  rotate-reads.Learnt,
+  merge-below t,
+  merge.Post,
+) (merge-at t) merge.Post
+merge-returns-2 t c =
+    let x = c .before .before .before .before .before .before .before .before .before .before .before .before .before .before in
+    let r = c .before .before .before .before .before .before .before .before .before .before .rotate in
+    let low = c .before .before .before .before .before .before .merge in
+    let high = c .before .before .merge2 in
+    merged-whole (x .args .n) (x .args .p) (x .args .q) (x .args .s .now) (r .last .0) (x .pre .1) (r .ensures) (low .last .0) (high .last .0) (low .ensures) (high .ensures)
+
+pub +merge-spec : {M : Type 1} → statement M
++merge-spec = close μ-merge λ t. merge-lts.spec (
+  rotate-reads.Asked,
+  rotate-reads.Learnt,
+  merge-below t,
+  merge.Post,
+)
+    (merge-at t)
+    merge.Post
+    (merge-returns t)
+    (merge-sub-g t)
+    (merge-add-cut t)
+    (merge-mul-cut t)
+    (merge-mul-from t)
+    (merge-mul-to t)
+    (merge-mul-to-2 t)
+    (merge-add-to t)
+    (merge-mul-rotate t)
+    (merge-sub-rotate t)
+    (merge-part-rotate-start t)
+    (merge-part-rotate-end t)
+    (merge-mul-rotate-2 t)
+    (merge-rotate-requires t)
+    (merge-slice-relend-prefix-merge t)
+    (merge-slice-aggregate-merge t)
+    (merge-merge-requires t)
+    (merge-mul-merge t)
+    (merge-sub-merge t)
+    (merge-part-merge-start t)
+    (merge-part-merge-end t)
+    (merge-merge-requires-2 t)
+    (merge-same-length t)
+    (merge-returns-2 t)
