@@ -9,7 +9,7 @@ use lib.Seq.{length-take-le}
 use Rattle.halves.proofs.Parts.{whole, second-length}
 use Rattle.halves.proofs.Four.{Halved, halved}
 use Rattle.halves.proofs.Merges.{merged-one}
-use Rattle.halves.proofs.Halving.{stretch-long, next-length, cut-within, low-runs, cut-after, high-runs, merged-whole}
+use Rattle.halves.proofs.Halving.{stretch-long, next-runs, cut-within, low-runs, cut-after, high-runs, merged-whole}
 use borrow.Fn.Kinds.{In}
 use borrow.Fn.PlainCycle.{Measures, is, falls, and}
 use Rattle.halves.proofs.runs.merge.Reads as merge
@@ -159,7 +159,7 @@ merge-rotate-requires : (t : ℕ) → merge-lts.Need-rotate-requires (
 ) (merge-at t) merge.Post
 merge-rotate-requires t c κs =
     let x = c .before .before .before in
-    omega (arith, merge-cuts t x, stretch-long (x .args .n) (x .args .p) (x .args .q) (x .args .s .now) (x .pre .1))
+    omega (arith, merge-cuts t x, stretch-long (x .pre .1))
 
 -- src/runs.rt:19:11
 merge-slice-relend-prefix-merge : (t : ℕ) → merge-lts.Need-slice-relend-prefix-merge (
@@ -168,10 +168,7 @@ merge-slice-relend-prefix-merge : (t : ℕ) → merge-lts.Need-slice-relend-pref
   merge-below t,
   merge.Post,
 ) (merge-at t) merge.Post
-merge-slice-relend-prefix-merge t c =
-    let x = c .before .before .before .before .before .before in
-    let r = c .before .before .rotate in
-    cut-within (x .args .n) (x .args .p) (x .args .q) (x .args .s .now) (r .last .0) (x .pre .1) (r .ensures)
+merge-slice-relend-prefix-merge t c = cut-within (next-runs (c .before .before .before .before .before .before .pre .1) (c .before .before .rotate .ensures))
 
 -- src/runs.rt:19:11
 merge-slice-aggregate-merge : (t : ℕ) → merge-lts.Need-slice-aggregate-merge (
@@ -180,10 +177,7 @@ merge-slice-aggregate-merge : (t : ℕ) → merge-lts.Need-slice-aggregate-merge
   merge-below t,
   merge.Post,
 ) (merge-at t) merge.Post
-merge-slice-aggregate-merge t c =
-    let x = c .before .before .before .before .before .before .before in
-    let r = c .before .before .before .rotate in
-    sym (low-runs (x .args .n) (x .args .p) (x .args .q) (x .args .s .now) (r .last .0) (x .pre .1) (r .ensures) (omega arith) .fill)
+merge-slice-aggregate-merge t c = sym (low-runs (next-runs (c .before .before .before .before .before .before .before .pre .1) (c .before .before .before .rotate .ensures)) (omega arith) .fill)
 
 -- src/runs.rt:19:5
 merge-merge-requires : (t : ℕ) → merge-lts.Need-merge-requires (
@@ -192,10 +186,7 @@ merge-merge-requires : (t : ℕ) → merge-lts.Need-merge-requires (
   merge-below t,
   merge.Post,
 ) (merge-at t) merge.Post
-merge-merge-requires t c κs =
-    let x = c .before .before .before .before .before .before .before in
-    let r = c .before .before .before .rotate in
-    (omega arith, low-runs (x .args .n) (x .args .p) (x .args .q) (x .args .s .now) (r .last .0) (x .pre .1) (r .ensures) (omega arith))
+merge-merge-requires t c κs = (omega arith, low-runs (next-runs (c .before .before .before .before .before .before .before .pre .1) (c .before .before .before .rotate .ensures)) (omega arith))
 
 -- src/runs.rt:20:11
 merge-mul-merge : (t : ℕ) → merge-lts.Need-mul-merge (
@@ -214,10 +205,8 @@ merge-sub-merge : (t : ℕ) → merge-lts.Need-sub-merge (
   merge.Post,
 ) (merge-at t) merge.Post
 merge-sub-merge t c =
-    let x = c .before .before .before .before .before .before .before .before .before .before in
-    let r = c .before .before .before .before .before .before .rotate in
     let low = c .before .before .merge in
-    cut-after (x .args .n) (x .args .p) (x .args .q) (x .args .s .now) (r .last .0) (x .pre .1) (r .ensures) (low .last .0) (low .kept .0)
+    cut-after (next-runs (c .before .before .before .before .before .before .before .before .before .before .pre .1) (c .before .before .before .before .before .before .rotate .ensures)) (low .last .0) (low .kept .0)
 
 -- src/runs.rt:20:11
 merge-part-merge-start : (t : ℕ) → merge-lts.Need-part-merge-start (
@@ -227,10 +216,8 @@ merge-part-merge-start : (t : ℕ) → merge-lts.Need-part-merge-start (
   merge.Post,
 ) (merge-at t) merge.Post
 merge-part-merge-start t c =
-    let x = c .before .before .before .before .before .before .before .before .before .before in
-    let r = c .before .before .before .before .before .before .rotate in
     let low = c .before .before .merge in
-    cut-after (x .args .n) (x .args .p) (x .args .q) (x .args .s .now) (r .last .0) (x .pre .1) (r .ensures) (low .last .0) (low .kept .0)
+    cut-after (next-runs (c .before .before .before .before .before .before .before .before .before .before .pre .1) (c .before .before .before .before .before .before .rotate .ensures)) (low .last .0) (low .kept .0)
 
 -- src/runs.rt:20:11
 merge-part-merge-end : (t : ℕ) → merge-lts.Need-part-merge-end (
@@ -249,10 +236,8 @@ merge-merge-requires-2 : (t : ℕ) → merge-lts.Need-merge-requires-2 (
   merge.Post,
 ) (merge-at t) merge.Post
 merge-merge-requires-2 t c κs =
-    let x = c .before .before .before .before .before .before .before .before .before .before .before in
-    let r = c .before .before .before .before .before .before .before .rotate in
     let low = c .before .before .before .merge in
-    (omega arith, high-runs (x .args .n) (x .args .p) (x .args .q) (x .args .s .now) (r .last .0) (x .pre .1) (r .ensures) (omega arith) (low .last .0) (low .kept .0))
+    (omega arith, high-runs (next-runs (c .before .before .before .before .before .before .before .before .before .before .before .pre .1) (c .before .before .before .before .before .before .before .rotate .ensures)) (low .last .0) (low .kept .0) (omega arith))
 
 -- src/runs.rt:6:1
 merge-same-length : (t : ℕ) → merge-lts.Need-same-length (
@@ -270,12 +255,7 @@ merge-returns-2 : (t : ℕ) → merge-lts.Need-returns-2 (
   merge-below t,
   merge.Post,
 ) (merge-at t) merge.Post
-merge-returns-2 t c =
-    let x = c .before .before .before .before .before .before .before .before .before .before .before .before .before .before in
-    let r = c .before .before .before .before .before .before .before .before .before .before .rotate in
-    let low = c .before .before .before .before .before .before .merge in
-    let high = c .before .before .merge2 in
-    merged-whole (x .args .n) (x .args .p) (x .args .q) (x .args .s .now) (r .last .0) (x .pre .1) (r .ensures) (low .last .0) (high .last .0) (low .ensures) (high .ensures)
+merge-returns-2 t c = merged-whole (c .before .before .before .before .before .before .before .before .before .before .before .before .before .before .pre .1) (c .before .before .before .before .before .before .before .before .before .before .rotate .ensures) (c .before .before .before .before .before .before .merge .ensures) (c .before .before .merge2 .ensures)
 
 pub +merge-spec : {M : Type 1} → statement M
 +merge-spec = close μ-merge λ t. merge-lts.spec (
