@@ -81,23 +81,22 @@ found-at : (a b : ℕ) (l : List ℕ) (t : Bool) → eqb a b ≡ t → placeOf a
 unfolding placeOf
 found-at a b l t q = ap (λ (s : Bool). choose s 0 (suc (placeOf a l))) q
 
-Found : ℕ → List ℕ → Type 0
+abbrev pub Found : ℕ → List ℕ → Type 0
 Found a l = (placeOf a l < length l) × (getD l (placeOf a l) 0 ≡ a)
 
 finds-step : (a b : ℕ) (l : List ℕ) → ((i : ℕ) → i < length l → getD l i 0 ≡ a → Found a l) → (t : Bool) → eqb a b ≡ t
     → (i : ℕ) → i < length (b ∷ l) → getD (b ∷ l) i 0 ≡ a → Found a (b ∷ l)
-unfolding Found
 finds-step a b l ih true q i h e = rw (found-at a b l true q) (suc-le-suc zero-le, sym (eqb-true a b q))
 finds-step a b l ih false q zero h e = absurd (eqb-false a b q (sym e))
 finds-step a b l ih false q (suc i) h e = rw (found-at a b l false q) (let f = ih i (le-of-suc-le-suc h) e in (suc-le-suc (f .0), f .1))
 
-finds : (a : ℕ) (l : List ℕ) (i : ℕ) → i < length l → getD l i 0 ≡ a → Found a l
+pub finds : (a : ℕ) (l : List ℕ) (i : ℕ) → i < length l → getD l i 0 ≡ a → Found a l
 finds a [] i h e = absurd (not-suc-le-zero h)
 finds a (b ∷ l) i h e = finds-step a b l (finds a l) (eqb a b) refl i h e
 
 -- the places of the axes are the order that undoes it
 pub places-undo : {r : ℕ} {o p : List ℕ} → Undone r o p → places o ≡ p
-unfolding places Found
+unfolding places
 places-undo {r} {o} {p} u =
     ext-getD 0 (tab (length o) (λ a. placeOf a o)) p (length-tab (length o) (λ a. placeOf a o) ∙ u .long ∙ sym (u .long′))
     (λ a h.

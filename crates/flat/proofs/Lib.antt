@@ -1,0 +1,4 @@
+pub mod Benches
+pub mod Turn
+pub mod Sides
+pub mod Passes

@@ -1,0 +1,82 @@
+-- The three passes, one after the other, are the turn; and the computed passes are the passes. The word of row i′ and
+-- column j′ is followed to the cell at offset l = j′·m + i′ by the numbers of Sides.
+use mathlib.Core.Path.{_≡_, refl, sym, ap, ap₂, _∙_, subst}
+use mathlib.Core.List.{List, _++_}
+use Prim.Native.Nat.{ℕ, _+_, _*_, _-_, _/_, _%_, _<_, _≤_}
+use native.Mathlib.Omega.{arith}
+use native.Mathlib.Nat.{mod-lt, div-add-mod', div-lt-iff-lt-mul, mul-comm}
+use lib.Arith.{digits-div, digits-mod, digits-lt}
+use lib.ListN.{length, getD, drop}
+use Rattle.lists.specs.Tab.{tab}
+use Rattle.lists.proofs.Tab.{length-tab, getD-tab, overlaid-front}
+use Rattle.layout.specs.Layout.{placeOf}
+use Rattle.layout.proofs.Picks.{finds}
+use Rattle.flat.specs.Turn.{Turn}
+use Rattle.flat.specs.Passes.{word, row1, column2, row3, Pass1, Pass2, Pass3, cells, passed1, passed2, passed3}
+use Rattle.flat.proofs.Turn.{from-literal}
+use Rattle.flat.proofs.Sides.{Sides, sides-are, row3-lt, column2-lt, row-back, column-there, columns-apart}
+
+-- the buffer's length and the words past the block are as they were
+pub record Kept (m n : ℕ) (xs ys : List ℕ) : Type 0 where
+  pub same : length ys ≡ length xs
+  pub tail : (k : ℕ) → m * n ≤ k → getD ys k 0 ≡ getD xs k 0
+
+-- where the word of row i and column j stands after the passes: at offset j·m + i of the block
+pub followed : (m n : ℕ) (x₀ x₁ x₂ x₃ : ℕ → ℕ → ℕ) → Pass1 m n x₀ x₁ → Pass2 m n x₁ x₂ → Pass3 m n x₂ x₃
+    → (i j : ℕ) → i < m → j < n → x₃ ((j * m + i) / n) ((j * m + i) % n) ≡ x₀ i j
+followed m n x₀ x₁ x₂ x₃ p q r i j hi hj =
+    let hn : 0 < n = omega arith in
+    let hm : 0 < m = omega arith in
+    let s : Sides m n = sides-are m n hm hn in
+    let l = j * m + i in
+    let row : l / n < m = div-lt-iff-lt-mul hn .1 (rw (mul-comm m n) (digits-lt hj hi)) in
+    let col : l % n < n = mod-lt l hn in
+    let split : l / n * n + l % n ≡ l = div-add-mod' l n in
+    let j-is : (l / n * n + l % n) / m ≡ j = ap (λ (z : ℕ). z / m) split ∙ digits-div j hi in
+    let i-is : (l / n * n + l % n) % m ≡ i = ap (λ (z : ℕ). z % m) split ∙ digits-mod j hi in
+    let k = row3 m n (l / n) (l % n) in
+    let hk : k < m = row3-lt m n (l / n) (l % n) hm in
+    let there : column2 m n k j ≡ l % n = ap (λ (z : ℕ). column2 m n k z) (sym j-is) ∙ column-there s (l / n) (l % n) row col in
+    let back : row1 m n k j ≡ i = ap (λ (z : ℕ). row1 m n k z) (sym j-is) ∙ row-back s (l / n) (l % n) row col ∙ i-is in
+    r (l / n) (l % n) row col
+    ∙ ap (λ (z : ℕ). x₂ k z) (sym there)
+    ∙ q k j hk hj
+    ∙ p k j hk hj
+    ∙ ap (λ (z : ℕ). x₀ z j) back
+
+-- the passes are the turn
+pub passes-turn : (m n : ℕ) (xs ys zs ws : List ℕ) → Kept m n xs ws
+    → Pass1 m n (word n xs) (word n ys) → Pass2 m n (word n ys) (word n zs) → Pass3 m n (word n zs) (word n ws) → Turn m n xs ws
+passes-turn m n xs ys zs ws k p q r =
+    from-literal m n xs ws (k .same)
+    (λ i j hi hj. ap (λ (z : ℕ). getD ws z 0) (sym (div-add-mod' (j * m + i) n)) ∙ followed m n (word n xs) (word n ys) (word n zs) (word n ws) p q r i j hi hj)
+    (k .tail)
+
+-- a cell of the computed block
+cell : (m n : ℕ) (f : ℕ → ℕ → ℕ) (xs : List ℕ) (i j : ℕ) → i < m → j < n → word n (cells m n f xs) i j ≡ f i j
+unfolding cells
+cell m n f xs i j hi hj =
+    overlaid-front (m * n) (λ p. f (p / n) (p % n)) xs (i * n + j) (digits-lt hi hj)
+    ∙ ap₂ f (digits-div i hj) (digits-mod i hj)
+
+pub passed1-is : (m n : ℕ) (xs : List ℕ) → Pass1 m n (word n xs) (word n (passed1 m n xs))
+unfolding passed1
+passed1-is m n xs = cell m n (λ i j. word n xs (row1 m n i j) j) xs
+
+pub passed3-is : (m n : ℕ) (xs : List ℕ) → Pass3 m n (word n xs) (word n (passed3 m n xs))
+unfolding passed3
+passed3-is m n xs = cell m n (λ i j. word n xs (row3 m n i j) j) xs
+
+-- pass 2 loses no word: the column that is sent to a place is the only one
+pub passed2-is : (m n : ℕ) (xs : List ℕ) → Pass2 m n (word n xs) (word n (passed2 m n xs))
+unfolding passed2
+passed2-is m n xs i j hi hj =
+    let s : Sides m n = sides-are m n (omega arith) (omega arith) in
+    let f : ℕ → ℕ = λ k. column2 m n i k in
+    let long = length-tab n f in
+    let at-j : getD (tab n f) j 0 ≡ f j = getD-tab n f j 0 hj in
+    let found = finds (f j) (tab n f) j (rw long hj) at-j in
+    let lt : placeOf (f j) (tab n f) < n = rw long at (found .0) in
+    cell m n (λ i j. word n xs i (placeOf j (tab n (λ k. column2 m n i k)))) xs i (f j) hi (column2-lt m n i j (omega arith))
+    ∙ ap (λ (z : ℕ). word n xs i z)
+    (columns-apart s i (placeOf (f j) (tab n f)) j lt hj (sym (getD-tab n f (placeOf (f j) (tab n f)) 0 lt) ∙ found .1))

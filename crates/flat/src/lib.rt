@@ -1,0 +1,1 @@
+// The flat turn and its passes: definitions and laws, no function.

@@ -1,0 +1,1 @@
+// Divisors and remainders: definitions and laws, no function.

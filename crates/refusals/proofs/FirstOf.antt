@@ -1,0 +1,58 @@
+-- The laws of `firstOf`: it is 0 exactly when no condition holds, and k exactly when k's condition holds and none before
+-- it does. By induction on the list of checks; numbers of checks are not 0.
+use mathlib.Core.Path.{_≡_, refl, sym, ap, _∙_, subst}
+use mathlib.Core.Bool.{Bool, true, false}
+use mathlib.Core.List.{List, [], _∷_, _++_}
+use mathlib.Core.Logic.{_↔_}
+use Prim.Native.Nat.{ℕ, _<_}
+use native.Mathlib.Omega.{arith}
+use Rattle.lists.specs.Choose.{choose}
+use Rattle.refusals.specs.FirstOf.{Check, check, firstOf}
+
+-- every number of the list is one that refuses
+pub data Refusing : List Check → Type 0 where
+  none : Refusing []
+  more : {c : Check} {cs : List Check} → 0 < c .number → Refusing cs → Refusing (c ∷ cs)
+
+-- no condition of the list holds
+pub data Silent : List Check → Type 0 where
+  none : Silent []
+  more : {c : Check} {cs : List Check} → c .holds ≡ false → Silent cs → Silent (c ∷ cs)
+
+-- k's condition holds, and none before it does
+pub data First (k : ℕ) : List Check → Type 0 where
+  here : {c : Check} {cs : List Check} → c .holds ≡ true → c .number ≡ k → First k (c ∷ cs)
+  later : {c : Check} {cs : List Check} → c .holds ≡ false → First k cs → First k (c ∷ cs)
+
+pub silent-zero : {cs : List Check} → Silent cs → firstOf cs ≡ 0
+silent-zero none = refl
+silent-zero (more {c} {cs} h s) = rw h (silent-zero s)
+
+pub first-is : {k : ℕ} {cs : List Check} → First k cs → firstOf cs ≡ k
+first-is (here h e) = rw h e
+first-is (later h f) = rw h (first-is f)
+
+-- the condition of the first check is decided one way or the other
+first-check : {A : Type 0} (c : Check) → (c .holds ≡ true → A) → (c .holds ≡ false → A) → A
+first-check {A} c held quiet = go (c .holds) refl
+  where
+    go : (t : Bool) → c .holds ≡ t → A
+    go true q = held q
+    go false q = quiet q
+
+pub zero-silent : {cs : List Check} → Refusing cs → firstOf cs ≡ 0 → Silent cs
+zero-silent none e = Silent.none
+zero-silent (more {c} {cs} p r) e =
+    first-check c (λ q. let z : c .number ≡ 0 = rw q at e in absurd (omega arith)) (λ q. Silent.more q (zero-silent r (rw q at e)))
+
+pub is-first : {k : ℕ} (cs : List Check) → 0 < k → firstOf cs ≡ k → First k cs
+is-first [] p e = absurd (omega arith)
+is-first (c ∷ cs) p e = first-check c (λ q. First.here q (rw q at e)) (λ q. First.later q (is-first cs p (rw q at e)))
+
+-- the answer is 0 exactly when no condition holds
+pub accepted-exactly : {cs : List Check} → Refusing cs → (firstOf cs ≡ 0) ↔ Silent cs
+accepted-exactly r = (zero-silent r, silent-zero)
+
+-- it is k exactly when k's condition holds and none before it does
+pub refused-exactly : {k : ℕ} (cs : List Check) → 0 < k → (firstOf cs ≡ k) ↔ First k cs
+refused-exactly cs p = (is-first cs p, first-is)

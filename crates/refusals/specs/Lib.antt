@@ -1,0 +1,4 @@
+pub mod FirstOf
+pub mod Conditions
+pub mod Calls
+pub mod Scratch

@@ -1,0 +1,1 @@
+// The numbers that come back: definitions and laws, no function.
