@@ -4,3 +4,4 @@ mod Rotations
 mod Merges
 mod Four
 mod Halving
+mod Diagonal
