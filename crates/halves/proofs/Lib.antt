@@ -5,3 +5,5 @@ mod Merges
 mod Four
 mod Halving
 mod Diagonal
+mod Cuts
+mod Turns

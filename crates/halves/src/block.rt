@@ -34,3 +34,53 @@ fn square(s: &mut [u32], n: usize)
         i += 1;
     }
 }
+
+// Turns a block of no fewer rows than columns. The rows are cut in two, each part is turned, then the parts are merged.
+pub(crate) fn tall(s: &mut [u32], m: usize, n: usize)
+    requires { ⌜ Block m n (now s) × (n ≤ m) ⌝ }
+    ensures { λ _. ⌜ Turn m n (now (s .entry)) (now (s .exit)) ⌝ }
+{
+    if m == n {
+        square(s, n);
+        return;
+    }
+    let h = m / 2;
+    let g = m - h;
+    let cut = h * n;
+    if n <= h {
+        tall(&mut s[..cut], h, n);
+    } else {
+        wide(&mut s[..cut], h, n);
+    }
+    if n <= g {
+        tall(&mut s[cut..], g, n);
+    } else {
+        wide(&mut s[cut..], g, n);
+    }
+    merge(s, n, h, g);
+}
+
+// Turns a block of no fewer columns than rows. The columns are cut in two: the block is split, then each part is turned.
+pub(crate) fn wide(s: &mut [u32], m: usize, n: usize)
+    requires { ⌜ Block m n (now s) × (m ≤ n) ⌝ }
+    ensures { λ _. ⌜ Turn m n (now (s .entry)) (now (s .exit)) ⌝ }
+{
+    if m == n {
+        square(s, n);
+        return;
+    }
+    let h = n / 2;
+    let g = n - h;
+    let cut = m * h;
+    split(s, m, h, g);
+    if m <= h {
+        wide(&mut s[..cut], m, h);
+    } else {
+        tall(&mut s[..cut], m, h);
+    }
+    if m <= g {
+        wide(&mut s[cut..], m, g);
+    } else {
+        tall(&mut s[cut..], m, g);
+    }
+}
