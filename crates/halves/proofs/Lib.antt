@@ -7,3 +7,4 @@ mod Halving
 mod Diagonal
 mod Cuts
 mod Turns
+mod Accepted
