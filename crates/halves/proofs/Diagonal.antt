@@ -5,6 +5,7 @@ use mathlib.Core.List.{List}
 use mathlib.Core.Logic.{⊎-elim}
 use Prim.Native.Nat.{ℕ, _+_, _*_, _/_, _%_, _≤_, _<_}
 use native.Mathlib.Omega.{arith}
+use native.Mathlib.Nat.{le-mul-of-pos-right, eq-zero-or-pos}
 use lib.ListN.{length, getD, set, length-set, List·getD-eq-default}
 use lib.Seq.{getD-set-same, getD-set-other}
 use lib.Arith.{digits-lt, digits-div, digits-mod}
@@ -34,6 +35,10 @@ module _ {n b d : ℕ} (a c : ℕ) (hb : b < n) (hd : d < n) (e : a * n + b ≡ 
 
   pub same-column : b ≡ d
   same-column = sym (digits-mod a hb) ∙ ap (λ (z : ℕ). z % n) e ∙ digits-mod c hd
+
+-- a side is no more than the words of its square
+pub side-few : (n : ℕ) → n ≤ n * n
+side-few n = ⊎-elim (λ (e : n ≡ 0). omega arith) (λ (h : 0 < n). le-mul-of-pos-right n h) (eq-zero-or-pos n)
 
 pub crossed-none : (n i : ℕ) (xs : List ℕ) → Crossed n i (i + 1) xs xs
 crossed-none n i xs = record {
@@ -135,15 +140,15 @@ module _ {n i : ℕ} {xs ys zs : List ℕ} (within : i < n) (d : Done n i xs ys)
     diagonal = λ a u. stands a a u (λ j s t. ((λ e₁ e₂. omega arith), (λ e₁ e₂. omega arith))) ∙ d .diagonal a u;
   }
 
--- all rows and columns: the block is turned
-pub done-all : {n : ℕ} {xs ys : List ℕ} → length xs ≡ n * n → Done n n xs ys → Turn n n xs ys
-done-all {n} {xs} {ys} long d =
+-- all rows and columns but the last, which has no word beyond the diagonal: the block is turned
+pub done-all : {n i : ℕ} {xs ys : List ℕ} → length xs ≡ n * n → n ≤ i + 1 → Done n i xs ys → Turn n n xs ys
+done-all {n} {i} {xs} {ys} long last d =
     from-literal n n xs ys (d .same)
-    (λ i j u v. ⊎-elim
-    (λ (l : i < j). d .below i j l u v)
-    (λ (l : j ≤ i). ⊎-elim
-    (λ (k : j < i). d .above j i k v u)
-    (λ (k : i ≤ j). let z : j ≡ i = omega arith in rw z (d .diagonal i u))
-    (lt-or-ge j i))
-    (lt-or-ge i j))
+    (λ a b u v. ⊎-elim
+    (λ (l : a < b). d .below a b l (omega arith) v)
+    (λ (l : b ≤ a). ⊎-elim
+    (λ (k : b < a). d .above b a k (omega arith) u)
+    (λ (k : a ≤ b). let z : b ≡ a = omega arith in rw z (d .diagonal a u))
+    (lt-or-ge b a))
+    (lt-or-ge a b))
     (λ k h. List·getD-eq-default ys 0 {n = k} (omega (arith, d .same)) ∙ sym (List·getD-eq-default xs 0 {n = k} (omega arith)))

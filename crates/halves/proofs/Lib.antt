@@ -8,3 +8,5 @@ mod Diagonal
 mod Cuts
 mod Turns
 mod Accepted
+pub mod Undo
+pub mod Once

@@ -23,13 +23,13 @@ fn cross(s: &mut [u32], n: usize, i: usize)
     }
 }
 
-// Exchanges an n by n block across its diagonal.
+// Exchanges an n by n block across its diagonal. The last row has no word beyond the diagonal.
 fn square(s: &mut [u32], n: usize)
     requires { ⌜ length (now s) ≡ n * n ⌝ }
     ensures { λ _. ⌜ Turn n n (now (s .entry)) (now (s .exit)) ⌝ }
 {
     let mut i = 0;
-    while i < n {
+    while i + 1 < n {
         cross(s, n, i);
         i += 1;
     }

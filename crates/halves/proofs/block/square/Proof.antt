@@ -1,8 +1,7 @@
 -- `block::square` meets its contract: after i turns of the loop the first i rows and columns stand exchanged.
-use mathlib.Core.Path.{_≡_, _∙_, subst}
-use Prim.Native.Nat.{ℕ, _-_, _≤_, _<_}
+use Prim.Native.Nat.{_-_, _≤_}
 use native.Mathlib.Omega.{arith}
-use Rattle.halves.proofs.Diagonal.{Done, done-none, done-more, done-all}
+use Rattle.halves.proofs.Diagonal.{side-few, Done, done-none, done-more, done-all}
 use borrow.Author.Needs.{needs}
 use Rattle.halves.proofs.block.square.Statement.{statement}
 use Rattle.halves.proofs.block.square.Tie as tie
@@ -19,6 +18,10 @@ abbrev μ-loop : tie.MeasureT-loop
 -- src/block.rt:32:5
 loop-holds : tie.Need-loop-holds Inv-loop μ-loop
 loop-holds c = (omega arith, done-none (c .before .args .n) (c .before .args .s .now))
+
+-- src/block.rt:32:11
+add-loop : tie.Need-add-loop Inv-loop μ-loop
+add-loop c = omega (arith, c .before .before .pre, side-few (c .before .before .args .n))
 
 -- src/block.rt:33:9
 cross-requires : tie.Need-cross-requires Inv-loop μ-loop
@@ -42,11 +45,7 @@ same-length c = search needs
 
 -- src/block.rt:27:1
 returns : tie.Need-returns Inv-loop μ-loop
-returns c =
-    let x = c .before .before .before .args in
-    let l = c .before .loop in
-    let end : l .i ≡ x .n = omega arith in
-    done-all (c .before .before .before .pre) (subst (λ (i : ℕ). Done (x .n) i (x .s .now) (l .s)) end (l .inv .1))
+returns c = done-all (c .before .before .before .pre) (omega arith) (c .before .loop .inv .1)
 
 pub square-spec : {M : Type 1} → statement M
 square-spec =
@@ -55,6 +54,7 @@ square-spec =
     Inv-loop
     μ-loop
     loop-holds
+    add-loop
     cross-requires
     add-i
     loop-less
