@@ -2,13 +2,13 @@
 -- And a block at the start of a buffer, turned by itself: the words past it stand.
 use mathlib.Core.Path.{_≡_, refl, sym, ap, _∙_}
 use mathlib.Core.Bool.{Bool, true, false}
-use mathlib.Core.List.{List, [], _∷_, _++_}
+use mathlib.Core.List.{List, _++_}
 use Prim.Native.Nat.{ℕ, _+_, _-_, _*_, _≤_, _<_}
 use native.Mathlib.Omega.{arith}
 use native.Mathlib.Nat.{mul-comm}
 use lib.Dec.{eqb, ltb, lit<}
 use lib.Arith.{digits-lt}
-use lib.ListN.{length, getD, take, drop, length-append, length-drop}
+use lib.ListN.{length, getD, take, drop}
 use lib.Seq.{length-take-le, length-front, getD-take, getD-drop}
 use borrow.Author.Tests.{eqb-false, ltb-false}
 use Rattle.lists.specs.Choose.{either}

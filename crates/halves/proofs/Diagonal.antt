@@ -40,20 +40,15 @@ module _ {n b d : ℕ} (a c : ℕ) (hb : b < n) (hd : d < n) (e : a * n + b ≡ 
 pub side-few : (n : ℕ) → n ≤ n * n
 side-few n = ⊎-elim (λ (e : n ≡ 0). omega arith) (λ (h : 0 < n). le-mul-of-pos-right n h) (eq-zero-or-pos n)
 
-pub crossed-none : (n i : ℕ) (xs : List ℕ) → Crossed n i (i + 1) xs xs
-crossed-none n i xs = record {
-  same = refl;
-  row = λ j u v. absurd (omega arith);
-  column = λ j u v. absurd (omega arith);
-  others = λ k f. refl;
-}
-
 module _ {n i j : ℕ} {xs ys : List ℕ} (long : length xs ≡ n * n) (beyond : i < j) (within : j < n) (c : Crossed n i j xs ys) where
-  pub above-within : i * n + j < length ys
+  above-within : i * n + j < length ys
   above-within = rw (c .same, long) (digits-lt {q = i} {r = j} (omega arith) within)
 
-  pub below-within : j * n + i < length ys
+  below-within : j * n + i < length ys
   below-within = rw (c .same, long) (digits-lt {q = j} {r = i} within (omega arith))
+
+  pub places-within : (i * n + j < length ys) × (j * n + i < length ys)
+  places-within = (above-within, below-within)
 
   apart : i * n + j ≡ j * n + i → ⊥
   apart e = absurd (let z : i ≡ j = same-row i j within (omega arith) e in omega arith)

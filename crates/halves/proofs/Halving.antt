@@ -1,6 +1,6 @@
 -- One level of merge and of split: what the stretch, the two halves and the whole are at each step, and that the whole is
 -- merged, or split, once both halves are. The slice is read as four parts, the runs of p words and of q words, halved.
-use mathlib.Core.Path.{_≡_, refl, sym, ap, _∙_, subst}
+use mathlib.Core.Path.{_≡_, sym, ap, _∙_, subst}
 use mathlib.Core.List.{List, _++_, append-assoc}
 use Prim.Native.Nat.{ℕ, _+_, _-_, _*_, _/_, _≤_, _<_}
 use native.Mathlib.Omega.{arith}

@@ -1,11 +1,10 @@
 -- Rotation by exchanges: once the shorter side is exchanged with as many words of the longer one, the first words stand
 -- as rotation wants them and the rest is to be rotated. The list is taken apart into its stretches.
-use mathlib.Core.Path.{_≡_, refl, sym, ap, ap₂, _∙_}
-use mathlib.Core.List.{List, [], _∷_, _++_, append-assoc, append-nil}
-use Prim.Native.Nat.{ℕ, _+_, _-_, _≤_, _<_}
+use mathlib.Core.Path.{_≡_, sym, ap, ap₂, _∙_}
+use mathlib.Core.List.{List, [], _++_, append-assoc, append-nil}
+use Prim.Native.Nat.{ℕ, _+_, _-_, _≤_}
 use native.Mathlib.Omega.{arith}
-use native.Mathlib.Nat.{add-comm}
-use lib.ListN.{length, take, drop, length-append, length-take, length-drop, take-append-drop, drop-of-length-le}
+use lib.ListN.{length, take, drop, length-drop, take-append-drop, drop-of-length-le}
 use lib.Seq.{length-take-le, take-at, drop-at, take-take, drop-drop, take-all}
 use Rattle.halves.specs.Rotation.{exchanged, rotated}
 use borrow.Rule.Slice.PartMut.{midOf, putMid}
@@ -81,10 +80,6 @@ rotated-all k xs h = rw (drop-of-length-le xs h, take-all k xs h)
 pub rotated-none : (xs : List ℕ) → rotated 0 xs ≡ xs
 unfolding rotated
 rotated-none xs = append-nil xs
-
-pub length-rotated : (k : ℕ) (xs : List ℕ) → length (rotated k xs) ≡ length xs
-unfolding rotated
-length-rotated k xs = length-append (drop k xs) (take k xs) ∙ add-comm (length (drop k xs)) (length (take k xs)) ∙ sym (length-append (take k xs) (drop k xs)) ∙ ap length (take-append-drop k xs)
 
 -- one step of the loop: the words before place n stand; the rest is lent, comes back with two stretches exchanged, and w words more stand
 pub step : (n w left next : ℕ) (goal xs e : List ℕ) → n ≤ length xs → goal ≡ take n xs ++ rotated left (drop n xs)

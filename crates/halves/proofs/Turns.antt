@@ -1,6 +1,6 @@
 -- A tall block whose parts are turned and then merged is turned, and so is a wide one that is split and whose parts are turned.
 -- Each offset lies in one of the two parts and is read there, in document 01's own words.
-use mathlib.Core.Path.{_≡_, refl, sym, ap, _∙_, subst}
+use mathlib.Core.Path.{_≡_, sym, ap, _∙_, subst}
 use mathlib.Core.List.{List, _++_}
 use mathlib.Core.Logic.{⊎-elim}
 use Prim.Native.Nat.{ℕ, _+_, _-_, _*_, _/_, _≤_, _<_}

@@ -1,6 +1,6 @@
 -- Split undoes merge, and merge undoes split: every offset of the merged words, and every offset of the split ones, is one of those
 -- that the relation names, so what it relates to one list is one list.
-use mathlib.Core.Path.{_≡_, refl, sym, ap, _∙_, subst}
+use mathlib.Core.Path.{_≡_, sym, _∙_, subst}
 use mathlib.Core.List.{List}
 use mathlib.Core.Logic.{⊎-elim}
 use Prim.Native.Nat.{ℕ, _+_, _-_, _*_, _/_, _%_, _≤_, _<_}

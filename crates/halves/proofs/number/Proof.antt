@@ -3,41 +3,30 @@ use native.Mathlib.Nat.{mul-le-mul}
 use native.Mathlib.Omega.{arith}
 use borrow.Author.Tests.{eq-eqb, ne-eqb, lt-ltb, le-ltb}
 use Rattle.flat.proofs.Turn.{volume-two}
-use borrow.Author.Needs.{needs}
 use Rattle.halves.proofs.number.Statement.{statement}
 use Rattle.halves.proofs.number.Tie as tie
-use Rattle.halves.proofs.number.Reads as reads
-use Rattle.halves.proofs.number.Lts as lts
 
--- src/lib.rt:18:9
 returns : tie.Need-returns
 returns c = simp (eq-eqb _ _ (c .if1 .taken))
 
--- src/lib.rt:21:9
 returns-2 : tie.Need-returns-2
 returns-2 c = simp (ne-eqb _ _ (c .before .if1 .left), lt-ltb _ _ (c .if2 .taken))
 
--- src/lib.rt:24:9
 returns-3 : tie.Need-returns-3
 returns-3 c = simp (ne-eqb _ _ (c .before .before .if1 .left), le-ltb _ _ (c .before .if2 .left), eq-eqb _ _ (c .if3 .taken))
 
--- src/lib.rt:27:9
 returns-4 : tie.Need-returns-4
 returns-4 c = simp (ne-eqb _ _ (c .before .before .before .if1 .left), le-ltb _ _ (c .before .before .if2 .left), ne-eqb _ _ (c .before .if3 .left), lt-ltb _ _ (c .if4 .taken))
 
--- src/lib.rt:29:17
 mul-words : tie.Need-mul-words
 mul-words c = omega (arith, mul-le-mul (c .before .before .if2 .left) (c .if4 .left))
 
--- src/lib.rt:31:9
 returns-5 : tie.Need-returns-5
 returns-5 c = simp (volume-two, ne-eqb _ _ (c .before .before .before .before .if1 .left), le-ltb _ _ (c .before .before .before .if2 .left), ne-eqb _ _ (c .before .before .if3 .left), le-ltb _ _ (c .before .if4 .left), lt-ltb _ _ (c .if5 .taken))
 
--- src/lib.rt:34:9
 returns-6 : tie.Need-returns-6
 returns-6 c = simp (volume-two, ne-eqb _ _ (c .before .before .before .before .before .if1 .left), le-ltb _ _ (c .before .before .before .before .if2 .left), ne-eqb _ _ (c .before .before .before .if3 .left), le-ltb _ _ (c .before .before .if4 .left), le-ltb _ _ (c .before .if5 .left), lt-ltb _ _ (c .if6 .taken))
 
--- src/lib.rt:14:1
 returns-7 : tie.Need-returns-7
 returns-7 c = simp (volume-two, ne-eqb _ _ (c .before .before .before .before .before .if1 .left), le-ltb _ _ (c .before .before .before .before .if2 .left), ne-eqb _ _ (c .before .before .before .if3 .left), le-ltb _ _ (c .before .before .if4 .left), le-ltb _ _ (c .before .if5 .left), le-ltb _ _ (c .if6 .left))
 

@@ -1,6 +1,5 @@
 -- `turn` meets its promise: where a check holds nothing is touched, and where none does the block is lent, turned, and comes back.
 use mathlib.Core.Path.{_≡_, refl, sym, _∙_}
-use Prim.Native.Nat.{ℕ}
 use native.Mathlib.Omega.{arith}
 use Rattle.refusals.specs.FirstOf.{firstOf}
 use Rattle.refusals.specs.Calls.{recursionChecks}
@@ -24,59 +23,45 @@ fits : (x : lts.Else1 (number-reads.Asked, number-reads.Learnt, tall-reads.Asked
     → Accepted (x .before .before .before .before .args .m) (x .before .before .before .before .args .n) (x .before .before .before .before .args .buf .now)
 fits x = let y = x .before .before .before .before .args in accepted (y .m) (y .n) (y .buf .now) (sym (silent x))
 
--- src/lib.rt:43:9
 number-requires : tie.Need-number-requires
 number-requires c κs = search needs
 
--- src/lib.rt:45:9
 same-length : tie.Need-same-length
 same-length c = search needs
 
--- src/lib.rt:45:9
 returns : tie.Need-returns
 returns c = record { number = c .before .number .ensures; words = λ e. absurd (omega arith); kept = λ e. refl }
 
--- src/lib.rt:47:17
 mul-words : tie.Need-mul-words
 mul-words c = omega (arith, fits c)
 
--- src/lib.rt:49:14
 slice-relend-prefix-tall : tie.Need-slice-relend-prefix-tall
 slice-relend-prefix-tall c = fits (c .before) .room
 
--- src/lib.rt:49:14
 slice-aggregate-tall : tie.Need-slice-aggregate-tall
 slice-aggregate-tall c = front-long (fits (c .before .before))
 
--- src/lib.rt:49:9
 tall-requires : tie.Need-tall-requires
 tall-requires c κs = (front-block (fits (c .before .before)), omega arith)
 
--- src/lib.rt:51:14
 slice-relend-prefix-wide : tie.Need-slice-relend-prefix-wide
 slice-relend-prefix-wide c = fits (c .before) .room
 
--- src/lib.rt:51:14
 slice-aggregate-wide : tie.Need-slice-aggregate-wide
 slice-aggregate-wide c = front-long (fits (c .before .before))
 
--- src/lib.rt:51:9
 wide-requires : tie.Need-wide-requires
 wide-requires c κs = (front-block (fits (c .before .before)), omega arith)
 
--- src/lib.rt:40:1
 same-length-2 : tie.Need-same-length-2
 same-length-2 c = search needs
 
--- src/lib.rt:40:1
 returns-2 : tie.Need-returns-2
 returns-2 c = record { number = silent (c .before .before .before .before .before); words = λ e. front-turned (fits (c .before .before .before .before .before)) (c .before .before .tall .ensures); kept = λ e. absurd (e refl) }
 
--- src/lib.rt:40:1
 same-length-3 : tie.Need-same-length-3
 same-length-3 c = search needs
 
--- src/lib.rt:40:1
 returns-3 : tie.Need-returns-3
 returns-3 c = record { number = silent (c .before .before .before .before .before); words = λ e. front-turned (fits (c .before .before .before .before .before)) (c .before .before .wide .ensures); kept = λ e. absurd (e refl) }
 

@@ -5,9 +5,9 @@ use mathlib.Core.Logic.{⊎-elim}
 use native.Mathlib.Omega.{arith}
 use borrow.Author.Needs.{needs}
 use Rattle.flat.specs.Turn.{Turn}
-use Rattle.halves.proofs.Cuts.{Parted, Front, Back, Both, rows-cut, columns-cut, cut-within, low-block, low-long, low-falls, cut-after, high-block, high-falls, both-back}
+use Rattle.halves.proofs.Cuts.{Parted, Front, Both, rows-cut, columns-cut, cut-within, low-block, low-long, low-falls, cut-after, high-block, high-falls, both-back}
 use Rattle.halves.proofs.Turns.{merge-runs, tall-turned, split-runs, split-block, wide-turned}
-use Prim.Native.Nat.{ℕ, _+_, _-_, _*_, _/_, _≤_, _<_}
+use Prim.Native.Nat.{ℕ, _+_, _-_, _*_, _/_, _<_}
 use lib.ListN.{length}
 use borrow.Fn.Kinds.{In}
 use borrow.Fn.PlainCycle.{Measures, is, falls, and}
@@ -67,7 +67,6 @@ tall-both t x = both-back (tall-parts t (x .before .before)) (tall-front t (x .b
     (λ w. record { part = w .2 .last .0; turn = w .2 .ensures; back = w .5 })
     (x .if3 .came))
 
--- src/block.rt:44:9
 tall-square-requires : (t : ℕ) → tall-lts.Need-square-requires (
   square-reads.Asked,
   square-reads.Learnt,
@@ -80,7 +79,6 @@ tall-square-requires : (t : ℕ) → tall-lts.Need-square-requires (
 ) (tall-at t) tall.Post
 tall-square-requires t c κs = let x = c .before .before .before in let e : x .args .m ≡ x .args .n = omega arith in x .pre .1 .0 .fill ∙ ap (λ (m : ℕ). m * x .args .n) e
 
--- src/block.rt:45:9
 tall-same-length : (t : ℕ) → tall-lts.Need-same-length (
   square-reads.Asked,
   square-reads.Learnt,
@@ -93,7 +91,6 @@ tall-same-length : (t : ℕ) → tall-lts.Need-same-length (
 ) (tall-at t) tall.Post
 tall-same-length t c = search needs
 
--- src/block.rt:45:9
 tall-returns : (t : ℕ) → tall-lts.Need-returns (
   square-reads.Asked,
   square-reads.Learnt,
@@ -109,7 +106,6 @@ tall-returns t c =
     let e : x .args .n ≡ x .args .m = omega arith in
     subst (λ (m : ℕ). Turn m (x .args .n) (x .args .s .now) (c .before .before .square .last .0)) e (c .before .before .square .ensures)
 
--- src/block.rt:48:13
 tall-sub-g : (t : ℕ) → tall-lts.Need-sub-g (
   square-reads.Asked,
   square-reads.Learnt,
@@ -122,7 +118,6 @@ tall-sub-g : (t : ℕ) → tall-lts.Need-sub-g (
 ) (tall-at t) tall.Post
 tall-sub-g t c = search needs
 
--- src/block.rt:49:15
 tall-mul-cut : (t : ℕ) → tall-lts.Need-mul-cut (
   square-reads.Asked,
   square-reads.Learnt,
@@ -135,7 +130,6 @@ tall-mul-cut : (t : ℕ) → tall-lts.Need-mul-cut (
 ) (tall-at t) tall.Post
 tall-mul-cut t c = omega (arith, cut-within (tall-parts t c))
 
--- src/block.rt:51:14
 tall-slice-relend-prefix-tall : (t : ℕ) → tall-lts.Need-slice-relend-prefix-tall (
   square-reads.Asked,
   square-reads.Learnt,
@@ -148,7 +142,6 @@ tall-slice-relend-prefix-tall : (t : ℕ) → tall-lts.Need-slice-relend-prefix-
 ) (tall-at t) tall.Post
 tall-slice-relend-prefix-tall t c = cut-within (tall-parts t (c .before))
 
--- src/block.rt:51:14
 tall-slice-aggregate-tall : (t : ℕ) → tall-lts.Need-slice-aggregate-tall (
   square-reads.Asked,
   square-reads.Learnt,
@@ -161,7 +154,6 @@ tall-slice-aggregate-tall : (t : ℕ) → tall-lts.Need-slice-aggregate-tall (
 ) (tall-at t) tall.Post
 tall-slice-aggregate-tall t c = low-long (tall-parts t (c .before .before))
 
--- src/block.rt:51:9
 tall-tall-requires : (t : ℕ) → tall-lts.Need-tall-requires (
   square-reads.Asked,
   square-reads.Learnt,
@@ -174,7 +166,6 @@ tall-tall-requires : (t : ℕ) → tall-lts.Need-tall-requires (
 ) (tall-at t) tall.Post
 tall-tall-requires t c κs = let p = tall-parts t (c .before .before) in (omega (arith, low-falls p, c .before .before .before .before .pre .0), (low-block p, omega arith))
 
--- src/block.rt:53:14
 tall-slice-relend-prefix-wide : (t : ℕ) → tall-lts.Need-slice-relend-prefix-wide (
   square-reads.Asked,
   square-reads.Learnt,
@@ -187,7 +178,6 @@ tall-slice-relend-prefix-wide : (t : ℕ) → tall-lts.Need-slice-relend-prefix-
 ) (tall-at t) tall.Post
 tall-slice-relend-prefix-wide t c = cut-within (tall-parts t (c .before))
 
--- src/block.rt:53:14
 tall-slice-aggregate-wide : (t : ℕ) → tall-lts.Need-slice-aggregate-wide (
   square-reads.Asked,
   square-reads.Learnt,
@@ -200,7 +190,6 @@ tall-slice-aggregate-wide : (t : ℕ) → tall-lts.Need-slice-aggregate-wide (
 ) (tall-at t) tall.Post
 tall-slice-aggregate-wide t c = low-long (tall-parts t (c .before .before))
 
--- src/block.rt:53:9
 tall-wide-requires : (t : ℕ) → tall-lts.Need-wide-requires (
   square-reads.Asked,
   square-reads.Learnt,
@@ -213,7 +202,6 @@ tall-wide-requires : (t : ℕ) → tall-lts.Need-wide-requires (
 ) (tall-at t) tall.Post
 tall-wide-requires t c κs = let p = tall-parts t (c .before .before) in (omega (arith, low-falls p, c .before .before .before .before .pre .0), (low-block p, omega arith))
 
--- src/block.rt:56:14
 tall-mul-tall : (t : ℕ) → tall-lts.Need-mul-tall (
   square-reads.Asked,
   square-reads.Learnt,
@@ -226,7 +214,6 @@ tall-mul-tall : (t : ℕ) → tall-lts.Need-mul-tall (
 ) (tall-at t) tall.Post
 tall-mul-tall t c = omega (arith, cut-within (tall-parts t (c .before .before)))
 
--- src/block.rt:56:14
 tall-sub-tall : (t : ℕ) → tall-lts.Need-sub-tall (
   square-reads.Asked,
   square-reads.Learnt,
@@ -239,7 +226,6 @@ tall-sub-tall : (t : ℕ) → tall-lts.Need-sub-tall (
 ) (tall-at t) tall.Post
 tall-sub-tall t c = cut-after (tall-parts t (c .before .before)) (tall-front t (c .before))
 
--- src/block.rt:56:14
 tall-part-tall-start : (t : ℕ) → tall-lts.Need-part-tall-start (
   square-reads.Asked,
   square-reads.Learnt,
@@ -252,7 +238,6 @@ tall-part-tall-start : (t : ℕ) → tall-lts.Need-part-tall-start (
 ) (tall-at t) tall.Post
 tall-part-tall-start t c = cut-after (tall-parts t (c .before .before)) (tall-front t (c .before))
 
--- src/block.rt:56:14
 tall-part-tall-end : (t : ℕ) → tall-lts.Need-part-tall-end (
   square-reads.Asked,
   square-reads.Learnt,
@@ -265,7 +250,6 @@ tall-part-tall-end : (t : ℕ) → tall-lts.Need-part-tall-end (
 ) (tall-at t) tall.Post
 tall-part-tall-end t c = search needs
 
--- src/block.rt:56:9
 tall-tall-requires-2 : (t : ℕ) → tall-lts.Need-tall-requires-2 (
   square-reads.Asked,
   square-reads.Learnt,
@@ -281,7 +265,6 @@ tall-tall-requires-2 t c κs =
     let f = tall-front t (c .before .before) in
     (omega (arith, high-falls p f, c .before .before .before .before .before .pre .0), (high-block p f, omega arith))
 
--- src/block.rt:58:14
 tall-mul-wide : (t : ℕ) → tall-lts.Need-mul-wide (
   square-reads.Asked,
   square-reads.Learnt,
@@ -294,7 +277,6 @@ tall-mul-wide : (t : ℕ) → tall-lts.Need-mul-wide (
 ) (tall-at t) tall.Post
 tall-mul-wide t c = omega (arith, cut-within (tall-parts t (c .before .before)))
 
--- src/block.rt:58:14
 tall-sub-wide : (t : ℕ) → tall-lts.Need-sub-wide (
   square-reads.Asked,
   square-reads.Learnt,
@@ -307,7 +289,6 @@ tall-sub-wide : (t : ℕ) → tall-lts.Need-sub-wide (
 ) (tall-at t) tall.Post
 tall-sub-wide t c = cut-after (tall-parts t (c .before .before)) (tall-front t (c .before))
 
--- src/block.rt:58:14
 tall-part-wide-start : (t : ℕ) → tall-lts.Need-part-wide-start (
   square-reads.Asked,
   square-reads.Learnt,
@@ -320,7 +301,6 @@ tall-part-wide-start : (t : ℕ) → tall-lts.Need-part-wide-start (
 ) (tall-at t) tall.Post
 tall-part-wide-start t c = cut-after (tall-parts t (c .before .before)) (tall-front t (c .before))
 
--- src/block.rt:58:14
 tall-part-wide-end : (t : ℕ) → tall-lts.Need-part-wide-end (
   square-reads.Asked,
   square-reads.Learnt,
@@ -333,7 +313,6 @@ tall-part-wide-end : (t : ℕ) → tall-lts.Need-part-wide-end (
 ) (tall-at t) tall.Post
 tall-part-wide-end t c = search needs
 
--- src/block.rt:58:9
 tall-wide-requires-2 : (t : ℕ) → tall-lts.Need-wide-requires-2 (
   square-reads.Asked,
   square-reads.Learnt,
@@ -349,7 +328,6 @@ tall-wide-requires-2 t c κs =
     let f = tall-front t (c .before .before) in
     (omega (arith, high-falls p f, c .before .before .before .before .before .pre .0), (high-block p f, omega arith))
 
--- src/block.rt:60:5
 tall-merge-requires : (t : ℕ) → tall-lts.Need-merge-requires (
   square-reads.Asked,
   square-reads.Learnt,
@@ -362,7 +340,6 @@ tall-merge-requires : (t : ℕ) → tall-lts.Need-merge-requires (
 ) (tall-at t) tall.Post
 tall-merge-requires t c κs = merge-runs (c .before .before .before .before .before .pre .1 .0) (omega arith) (tall-both t (c .before))
 
--- src/block.rt:39:1
 tall-same-length-2 : (t : ℕ) → tall-lts.Need-same-length-2 (
   square-reads.Asked,
   square-reads.Learnt,
@@ -375,7 +352,6 @@ tall-same-length-2 : (t : ℕ) → tall-lts.Need-same-length-2 (
 ) (tall-at t) tall.Post
 tall-same-length-2 t c = c .before .before .merge .kept .0 ∙ tall-both t (c .before .before .before .before) .same
 
--- src/block.rt:39:1
 tall-returns-2 : (t : ℕ) → tall-lts.Need-returns-2 (
   square-reads.Asked,
   square-reads.Learnt,
@@ -402,7 +378,6 @@ wide-front t x = ⊎-elim
     (λ w. record { part = w .2 .last .0; turn = w .2 .ensures; back = w .5 })
     (x .if2 .came)
 
--- src/block.rt:69:9
 wide-square-requires : (t : ℕ) → wide-lts.Need-square-requires (
   square-reads.Asked,
   square-reads.Learnt,
@@ -415,7 +390,6 @@ wide-square-requires : (t : ℕ) → wide-lts.Need-square-requires (
 ) (wide-at t) wide.Post
 wide-square-requires t c κs = let x = c .before .before .before in let e : x .args .m ≡ x .args .n = omega arith in x .pre .1 .0 .fill ∙ ap (λ (m : ℕ). m * x .args .n) e
 
--- src/block.rt:70:9
 wide-same-length : (t : ℕ) → wide-lts.Need-same-length (
   square-reads.Asked,
   square-reads.Learnt,
@@ -428,7 +402,6 @@ wide-same-length : (t : ℕ) → wide-lts.Need-same-length (
 ) (wide-at t) wide.Post
 wide-same-length t c = search needs
 
--- src/block.rt:70:9
 wide-returns : (t : ℕ) → wide-lts.Need-returns (
   square-reads.Asked,
   square-reads.Learnt,
@@ -444,7 +417,6 @@ wide-returns t c =
     let e : x .args .n ≡ x .args .m = omega arith in
     subst (λ (m : ℕ). Turn m (x .args .n) (x .args .s .now) (c .before .before .square .last .0)) e (c .before .before .square .ensures)
 
--- src/block.rt:73:13
 wide-sub-g : (t : ℕ) → wide-lts.Need-sub-g (
   square-reads.Asked,
   square-reads.Learnt,
@@ -457,7 +429,6 @@ wide-sub-g : (t : ℕ) → wide-lts.Need-sub-g (
 ) (wide-at t) wide.Post
 wide-sub-g t c = search needs
 
--- src/block.rt:74:15
 wide-mul-cut : (t : ℕ) → wide-lts.Need-mul-cut (
   square-reads.Asked,
   square-reads.Learnt,
@@ -470,7 +441,6 @@ wide-mul-cut : (t : ℕ) → wide-lts.Need-mul-cut (
 ) (wide-at t) wide.Post
 wide-mul-cut t c = omega (arith, cut-within (columns-cut (c .before .before .pre .1 .0) (omega arith)))
 
--- src/block.rt:75:5
 wide-split-requires : (t : ℕ) → wide-lts.Need-split-requires (
   square-reads.Asked,
   square-reads.Learnt,
@@ -483,7 +453,6 @@ wide-split-requires : (t : ℕ) → wide-lts.Need-split-requires (
 ) (wide-at t) wide.Post
 wide-split-requires t c κs = split-runs (c .before .before .before .pre .1 .0) (omega arith)
 
--- src/block.rt:77:14
 wide-slice-relend-prefix-wide : (t : ℕ) → wide-lts.Need-slice-relend-prefix-wide (
   square-reads.Asked,
   square-reads.Learnt,
@@ -496,7 +465,6 @@ wide-slice-relend-prefix-wide : (t : ℕ) → wide-lts.Need-slice-relend-prefix-
 ) (wide-at t) wide.Post
 wide-slice-relend-prefix-wide t c = cut-within (wide-parts t (c .before))
 
--- src/block.rt:77:14
 wide-slice-aggregate-wide : (t : ℕ) → wide-lts.Need-slice-aggregate-wide (
   square-reads.Asked,
   square-reads.Learnt,
@@ -509,7 +477,6 @@ wide-slice-aggregate-wide : (t : ℕ) → wide-lts.Need-slice-aggregate-wide (
 ) (wide-at t) wide.Post
 wide-slice-aggregate-wide t c = low-long (wide-parts t (c .before .before))
 
--- src/block.rt:77:9
 wide-wide-requires : (t : ℕ) → wide-lts.Need-wide-requires (
   square-reads.Asked,
   square-reads.Learnt,
@@ -524,7 +491,6 @@ wide-wide-requires t c κs =
     let p = wide-parts t (c .before .before) in
     (omega (arith, low-falls p, c .before .before .before .before .split .ensures .same, c .before .before .before .before .before .before .before .before .pre .0), (low-block p, omega arith))
 
--- src/block.rt:79:14
 wide-slice-relend-prefix-tall : (t : ℕ) → wide-lts.Need-slice-relend-prefix-tall (
   square-reads.Asked,
   square-reads.Learnt,
@@ -537,7 +503,6 @@ wide-slice-relend-prefix-tall : (t : ℕ) → wide-lts.Need-slice-relend-prefix-
 ) (wide-at t) wide.Post
 wide-slice-relend-prefix-tall t c = cut-within (wide-parts t (c .before))
 
--- src/block.rt:79:14
 wide-slice-aggregate-tall : (t : ℕ) → wide-lts.Need-slice-aggregate-tall (
   square-reads.Asked,
   square-reads.Learnt,
@@ -550,7 +515,6 @@ wide-slice-aggregate-tall : (t : ℕ) → wide-lts.Need-slice-aggregate-tall (
 ) (wide-at t) wide.Post
 wide-slice-aggregate-tall t c = low-long (wide-parts t (c .before .before))
 
--- src/block.rt:79:9
 wide-tall-requires : (t : ℕ) → wide-lts.Need-tall-requires (
   square-reads.Asked,
   square-reads.Learnt,
@@ -565,7 +529,6 @@ wide-tall-requires t c κs =
     let p = wide-parts t (c .before .before) in
     (omega (arith, low-falls p, c .before .before .before .before .split .ensures .same, c .before .before .before .before .before .before .before .before .pre .0), (low-block p, omega arith))
 
--- src/block.rt:82:14
 wide-mul-wide : (t : ℕ) → wide-lts.Need-mul-wide (
   square-reads.Asked,
   square-reads.Learnt,
@@ -578,7 +541,6 @@ wide-mul-wide : (t : ℕ) → wide-lts.Need-mul-wide (
 ) (wide-at t) wide.Post
 wide-mul-wide t c = omega (arith, cut-within (wide-parts t (c .before .before)))
 
--- src/block.rt:82:14
 wide-sub-wide : (t : ℕ) → wide-lts.Need-sub-wide (
   square-reads.Asked,
   square-reads.Learnt,
@@ -591,7 +553,6 @@ wide-sub-wide : (t : ℕ) → wide-lts.Need-sub-wide (
 ) (wide-at t) wide.Post
 wide-sub-wide t c = cut-after (wide-parts t (c .before .before)) (wide-front t (c .before))
 
--- src/block.rt:82:14
 wide-part-wide-start : (t : ℕ) → wide-lts.Need-part-wide-start (
   square-reads.Asked,
   square-reads.Learnt,
@@ -604,7 +565,6 @@ wide-part-wide-start : (t : ℕ) → wide-lts.Need-part-wide-start (
 ) (wide-at t) wide.Post
 wide-part-wide-start t c = cut-after (wide-parts t (c .before .before)) (wide-front t (c .before))
 
--- src/block.rt:82:14
 wide-part-wide-end : (t : ℕ) → wide-lts.Need-part-wide-end (
   square-reads.Asked,
   square-reads.Learnt,
@@ -617,7 +577,6 @@ wide-part-wide-end : (t : ℕ) → wide-lts.Need-part-wide-end (
 ) (wide-at t) wide.Post
 wide-part-wide-end t c = search needs
 
--- src/block.rt:82:9
 wide-wide-requires-2 : (t : ℕ) → wide-lts.Need-wide-requires-2 (
   square-reads.Asked,
   square-reads.Learnt,
@@ -633,7 +592,6 @@ wide-wide-requires-2 t c κs =
     let f = wide-front t (c .before .before) in
     (omega (arith, high-falls p f, c .before .before .before .before .before .split .ensures .same, c .before .before .before .before .before .before .before .before .before .pre .0), (high-block p f, omega arith))
 
--- src/block.rt:84:14
 wide-mul-tall : (t : ℕ) → wide-lts.Need-mul-tall (
   square-reads.Asked,
   square-reads.Learnt,
@@ -646,7 +604,6 @@ wide-mul-tall : (t : ℕ) → wide-lts.Need-mul-tall (
 ) (wide-at t) wide.Post
 wide-mul-tall t c = omega (arith, cut-within (wide-parts t (c .before .before)))
 
--- src/block.rt:84:14
 wide-sub-tall : (t : ℕ) → wide-lts.Need-sub-tall (
   square-reads.Asked,
   square-reads.Learnt,
@@ -659,7 +616,6 @@ wide-sub-tall : (t : ℕ) → wide-lts.Need-sub-tall (
 ) (wide-at t) wide.Post
 wide-sub-tall t c = cut-after (wide-parts t (c .before .before)) (wide-front t (c .before))
 
--- src/block.rt:84:14
 wide-part-tall-start : (t : ℕ) → wide-lts.Need-part-tall-start (
   square-reads.Asked,
   square-reads.Learnt,
@@ -672,7 +628,6 @@ wide-part-tall-start : (t : ℕ) → wide-lts.Need-part-tall-start (
 ) (wide-at t) wide.Post
 wide-part-tall-start t c = cut-after (wide-parts t (c .before .before)) (wide-front t (c .before))
 
--- src/block.rt:84:14
 wide-part-tall-end : (t : ℕ) → wide-lts.Need-part-tall-end (
   square-reads.Asked,
   square-reads.Learnt,
@@ -685,7 +640,6 @@ wide-part-tall-end : (t : ℕ) → wide-lts.Need-part-tall-end (
 ) (wide-at t) wide.Post
 wide-part-tall-end t c = search needs
 
--- src/block.rt:84:9
 wide-tall-requires-2 : (t : ℕ) → wide-lts.Need-tall-requires-2 (
   square-reads.Asked,
   square-reads.Learnt,
@@ -701,7 +655,6 @@ wide-tall-requires-2 t c κs =
     let f = wide-front t (c .before .before) in
     (omega (arith, high-falls p f, c .before .before .before .before .before .split .ensures .same, c .before .before .before .before .before .before .before .before .before .pre .0), (high-block p f, omega arith))
 
--- src/block.rt:64:1
 wide-same-length-2 : (t : ℕ) → wide-lts.Need-same-length-2 (
   square-reads.Asked,
   square-reads.Learnt,
@@ -716,7 +669,6 @@ wide-same-length-2 t c =
     let both = both-back (wide-parts t (c .before .before .before .before .before .before)) (wide-front t (c .before .before .before .before .before)) (record { part = c .before .before .wide2 .last .0; turn = c .before .before .wide2 .ensures; back = refl }) in
     both .same ∙ sym (c .before .before .before .before .before .before .before .before .split .ensures .same)
 
--- src/block.rt:64:1
 wide-returns-2 : (t : ℕ) → wide-lts.Need-returns-2 (
   square-reads.Asked,
   square-reads.Learnt,
@@ -731,7 +683,6 @@ wide-returns-2 t c =
     let both = both-back (wide-parts t (c .before .before .before .before .before .before)) (wide-front t (c .before .before .before .before .before)) (record { part = c .before .before .wide2 .last .0; turn = c .before .before .wide2 .ensures; back = refl }) in
     wide-turned (c .before .before .before .before .before .before .before .before .before .before .before .before .pre .1 .0) (omega arith) (c .before .before .before .before .before .before .before .before .split .ensures) both
 
--- src/block.rt:64:1
 wide-same-length-3 : (t : ℕ) → wide-lts.Need-same-length-3 (
   square-reads.Asked,
   square-reads.Learnt,
@@ -746,7 +697,6 @@ wide-same-length-3 t c =
     let both = both-back (wide-parts t (c .before .before .before .before .before .before)) (wide-front t (c .before .before .before .before .before)) (record { part = c .before .before .tall2 .last .0; turn = c .before .before .tall2 .ensures; back = refl }) in
     both .same ∙ sym (c .before .before .before .before .before .before .before .before .split .ensures .same)
 
--- src/block.rt:64:1
 wide-returns-3 : (t : ℕ) → wide-lts.Need-returns-3 (
   square-reads.Asked,
   square-reads.Learnt,

@@ -1,6 +1,6 @@
 -- `rotation::exchange` meets its contract: after i turns of the loop the first i words and those from k on stand exchanged.
-use mathlib.Core.Path.{_≡_, refl, sym, ap, _∙_}
-use Prim.Native.Nat.{ℕ, _+_, _-_, _≤_}
+use mathlib.Core.Path.{_≡_, refl, ap, _∙_}
+use Prim.Native.Nat.{ℕ, _-_, _≤_}
 use native.Mathlib.Omega.{arith}
 use lib.ListN.{length, length-set}
 use Rattle.halves.specs.Rotation.{exchanged}
@@ -8,8 +8,6 @@ use Rattle.halves.proofs.Stretches.{exchange-none, exchange-more}
 use borrow.Author.Needs.{needs}
 use Rattle.halves.proofs.rotation.exchange.Statement.{statement}
 use Rattle.halves.proofs.rotation.exchange.Tie as tie
-use Rattle.halves.proofs.rotation.exchange.Reads as reads
-use Rattle.halves.proofs.rotation.exchange.Lts as lts
 
 abbrev Inv-loop : tie.InvT-loop
 Inv-loop s₀ k w i₀ s i = (i ≤ w) × (length s ≡ length s₀) × (s ≡ exchanged k i s₀)
@@ -17,70 +15,54 @@ Inv-loop s₀ k w i₀ s i = (i ≤ w) × (length s ≡ length s₀) × (s ≡ e
 abbrev μ-loop : tie.MeasureT-loop
 μ-loop s₀ k w i₀ s i = w - i
 
--- src/rotation.rt:13:5
 loop-holds : tie.Need-loop-holds Inv-loop μ-loop
 loop-holds c = (omega arith, refl, exchange-none (c .args .k) (c .args .s .now))
 
--- src/rotation.rt:14:21
 mul-first : tie.Need-mul-first Inv-loop μ-loop
 mul-first c = search needs
 
--- src/rotation.rt:14:21
 slice-read-first : tie.Need-slice-read-first Inv-loop μ-loop
 slice-read-first c = search needs
 
--- src/rotation.rt:15:18
 add-s : tie.Need-add-s Inv-loop μ-loop
 add-s c = search needs
 
--- src/rotation.rt:15:16
 mul-s : tie.Need-mul-s Inv-loop μ-loop
 mul-s c = search needs
 
--- src/rotation.rt:15:16
 slice-read-s : tie.Need-slice-read-s Inv-loop μ-loop
 slice-read-s c = search needs
 
--- src/rotation.rt:15:9
 mul-s-2 : tie.Need-mul-s-2 Inv-loop μ-loop
 mul-s-2 c = search needs
 
--- src/rotation.rt:15:9
 slice-write-s : tie.Need-slice-write-s Inv-loop μ-loop
 slice-write-s c = search needs
 
--- src/rotation.rt:16:11
 add-s-2 : tie.Need-add-s-2 Inv-loop μ-loop
 add-s-2 c = search needs
 
--- src/rotation.rt:16:9
 mul-s-3 : tie.Need-mul-s-3 Inv-loop μ-loop
 mul-s-3 c = search needs
 
--- src/rotation.rt:16:9
 slice-write-s-2 : tie.Need-slice-write-s-2 Inv-loop μ-loop
 slice-write-s-2 c = rw length-set (omega arith)
 
--- src/rotation.rt:17:9
 add-i : tie.Need-add-i Inv-loop μ-loop
 add-i c = search needs
 
--- src/rotation.rt:13:5
 loop-less : tie.Need-loop-less Inv-loop μ-loop
 loop-less c = search needs
 
--- src/rotation.rt:13:5
 loop-again : tie.Need-loop-again Inv-loop μ-loop
 loop-again c =
     let x = c .before .before .before .before .args in
     let l = c .before .before .before .loop in
     (omega arith, simp length-set (omega arith), rw (l .inv .2) (exchange-more (x .k) (l .i) (x .s .now) (omega arith) (omega arith)))
 
--- src/rotation.rt:8:1
 same-length : tie.Need-same-length Inv-loop μ-loop
 same-length c = search needs
 
--- src/rotation.rt:8:1
 returns : tie.Need-returns Inv-loop μ-loop
 returns c =
     let x = c .before .before .args in

@@ -6,14 +6,10 @@ use Prim.Native.Nat.{ℕ, _+_, _-_, _≤_, _<_}
 use native.Mathlib.Omega.{arith}
 use lib.ListN.{length, take, drop, length-drop, take-append-drop}
 use Rattle.halves.specs.Rotation.{rotated}
-use Rattle.halves.proofs.Parts.{rest-lent, rest-back}
 use Rattle.halves.proofs.Rotations.{rotated-none, rotated-all, short-left, short-right, step}
 use borrow.Author.Needs.{needs}
 use Rattle.halves.proofs.rotation.rotate.Statement.{statement}
 use Rattle.halves.proofs.rotation.rotate.Tie as tie
-use Rattle.halves.proofs.rotation.rotate.Reads as reads
-use Rattle.halves.proofs.rotation.rotate.Lts as lts
-use Rattle.halves.proofs.rotation.exchange.Reads as exchange-reads
 
 abbrev Inv-loop : tie.InvT-loop
 Inv-loop s₀ k n at₀ left₀ s at left = (n ≡ length s₀) × (length s ≡ length s₀) × (0 < left) × (at + left ≤ n) × (rotated k s₀ ≡ take at s ++ rotated left (drop at s))
@@ -21,57 +17,44 @@ Inv-loop s₀ k n at₀ left₀ s at left = (n ≡ length s₀) × (length s ≡
 abbrev μ-loop : tie.MeasureT-loop
 μ-loop s₀ k n at₀ left₀ s at left = n - at
 
--- src/rotation.rt:27:9
 returns : tie.Need-returns Inv-loop μ-loop
 returns c =
     let x = c .before .before .args in
     sym (ap (λ (k : ℕ). rotated k (x .s .now)) (omega arith) ∙ rotated-none (x .s .now))
 
--- src/rotation.rt:32:5
 loop-holds : tie.Need-loop-holds Inv-loop μ-loop
 loop-holds c = search needs
 
--- src/rotation.rt:32:11
 add-loop : tie.Need-add-loop Inv-loop μ-loop
 add-loop c = search needs
 
--- src/rotation.rt:33:21
 sub-right : tie.Need-sub-right Inv-loop μ-loop
 sub-right c = search needs
 
--- src/rotation.rt:33:21
 sub-right-2 : tie.Need-sub-right-2 Inv-loop μ-loop
 sub-right-2 c = search needs
 
--- src/rotation.rt:35:22
 mul-exchange : tie.Need-mul-exchange Inv-loop μ-loop
 mul-exchange c = search needs
 
--- src/rotation.rt:35:22
 sub-exchange : tie.Need-sub-exchange Inv-loop μ-loop
 sub-exchange c = search needs
 
--- src/rotation.rt:35:22
 part-exchange-start : tie.Need-part-exchange-start Inv-loop μ-loop
 part-exchange-start c = search needs
 
--- src/rotation.rt:35:22
 part-exchange-end : tie.Need-part-exchange-end Inv-loop μ-loop
 part-exchange-end c = search needs
 
--- src/rotation.rt:35:13
 exchange-requires : tie.Need-exchange-requires Inv-loop μ-loop
 exchange-requires c κs = search needs
 
--- src/rotation.rt:36:13
 add-at : tie.Need-add-at Inv-loop μ-loop
 add-at c = search needs
 
--- src/rotation.rt:32:5
 loop-less : tie.Need-loop-less Inv-loop μ-loop
 loop-less c = search needs
 
--- src/rotation.rt:32:5
 loop-again : tie.Need-loop-again Inv-loop μ-loop
 loop-again c =
     let x = c .before .before .before .before .before .before .before .before .before .args in
@@ -85,39 +68,30 @@ loop-again c =
           (short-left (l .left) (drop (l .at) (l .s)) (rw length-drop (omega arith))),
     )
 
--- src/rotation.rt:38:22
 mul-exchange-2 : tie.Need-mul-exchange-2 Inv-loop μ-loop
 mul-exchange-2 c = search needs
 
--- src/rotation.rt:38:22
 sub-exchange-2 : tie.Need-sub-exchange-2 Inv-loop μ-loop
 sub-exchange-2 c = search needs
 
--- src/rotation.rt:38:22
 part-exchange-start-2 : tie.Need-part-exchange-start-2 Inv-loop μ-loop
 part-exchange-start-2 c = search needs
 
--- src/rotation.rt:38:22
 part-exchange-end-2 : tie.Need-part-exchange-end-2 Inv-loop μ-loop
 part-exchange-end-2 c = search needs
 
--- src/rotation.rt:38:13
 exchange-requires-2 : tie.Need-exchange-requires-2 Inv-loop μ-loop
 exchange-requires-2 c κs = search needs
 
--- src/rotation.rt:39:13
 add-at-2 : tie.Need-add-at-2 Inv-loop μ-loop
 add-at-2 c = search needs
 
--- src/rotation.rt:40:13
 sub-left : tie.Need-sub-left Inv-loop μ-loop
 sub-left c = search needs
 
--- src/rotation.rt:32:5
 loop-less-2 : tie.Need-loop-less-2 Inv-loop μ-loop
 loop-less-2 c = search needs
 
--- src/rotation.rt:32:5
 loop-again-2 : tie.Need-loop-again-2 Inv-loop μ-loop
 loop-again-2 c =
     let x = c .before .before .before .before .before .before .before .before .before .args in
@@ -132,11 +106,9 @@ loop-again-2 c =
           (short-right (l .left) w (drop (l .at) (l .s)) (omega arith) (rw length-drop (omega arith))),
     )
 
--- src/rotation.rt:22:1
 same-length : tie.Need-same-length Inv-loop μ-loop
 same-length c = search needs
 
--- src/rotation.rt:22:1
 returns-2 : tie.Need-returns-2 Inv-loop μ-loop
 returns-2 c =
     let x = c .before .before .before .before .args in

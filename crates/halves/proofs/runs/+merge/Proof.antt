@@ -1,12 +1,8 @@
 -- `runs::merge` meets its contract, by recursion on the run count. One level is the law of Halving: the stretch rotated, then both halves merged.
-use mathlib.Core.Path.{_≡_, refl, sym, ap, _∙_}
-use mathlib.Core.List.{List, _++_}
-use Prim.Native.Nat.{ℕ, _+_, _-_, _*_, _/_, _≤_, _<_}
+use mathlib.Core.Path.{sym}
+use Prim.Native.Nat.{ℕ, _+_, _-_, _<_}
 use native.Mathlib.Omega.{arith}
 use borrow.Author.Needs.{needs}
-use lib.ListN.{length, take, drop}
-use lib.Seq.{length-take-le}
-use Rattle.halves.proofs.Parts.{whole, second-length}
 use Rattle.halves.proofs.Four.{Halved, halved}
 use Rattle.halves.proofs.Merges.{merged-one}
 use Rattle.halves.proofs.Halving.{stretch-long, next-runs, cut-within, low-runs, cut-after, high-runs, merged-whole}
@@ -33,7 +29,6 @@ merge-cuts : (t : ℕ) (x : merge-lts.Start (rotate-reads.Asked, rotate-reads.Le
     → Halved (x .args .n) (x .args .p) (x .args .q)
 merge-cuts t x = halved (x .args .n) (x .args .p) (x .args .q) (omega arith)
 
--- src/runs.rt:11:9
 merge-returns : (t : ℕ) → merge-lts.Need-returns (
   rotate-reads.Asked,
   rotate-reads.Learnt,
@@ -42,7 +37,6 @@ merge-returns : (t : ℕ) → merge-lts.Need-returns (
 ) (merge-at t) merge.Post
 merge-returns t c = let x = c .before .before .args in merged-one (x .n) (x .p) (x .q) (x .s .now) (omega arith)
 
--- src/runs.rt:14:13
 merge-sub-g : (t : ℕ) → merge-lts.Need-sub-g (
   rotate-reads.Asked,
   rotate-reads.Learnt,
@@ -51,7 +45,6 @@ merge-sub-g : (t : ℕ) → merge-lts.Need-sub-g (
 ) (merge-at t) merge.Post
 merge-sub-g t c = search needs
 
--- src/runs.rt:15:20
 merge-add-cut : (t : ℕ) → merge-lts.Need-add-cut (
   rotate-reads.Asked,
   rotate-reads.Learnt,
@@ -60,7 +53,6 @@ merge-add-cut : (t : ℕ) → merge-lts.Need-add-cut (
 ) (merge-at t) merge.Post
 merge-add-cut t c = omega (arith, merge-cuts t (c .before .before))
 
--- src/runs.rt:15:15
 merge-mul-cut : (t : ℕ) → merge-lts.Need-mul-cut (
   rotate-reads.Asked,
   rotate-reads.Learnt,
@@ -69,7 +61,6 @@ merge-mul-cut : (t : ℕ) → merge-lts.Need-mul-cut (
 ) (merge-at t) merge.Post
 merge-mul-cut t c = omega (arith, merge-cuts t (c .before .before))
 
--- src/runs.rt:16:16
 merge-mul-from : (t : ℕ) → merge-lts.Need-mul-from (
   rotate-reads.Asked,
   rotate-reads.Learnt,
@@ -78,7 +69,6 @@ merge-mul-from : (t : ℕ) → merge-lts.Need-mul-from (
 ) (merge-at t) merge.Post
 merge-mul-from t c = omega (arith, merge-cuts t (c .before .before))
 
--- src/runs.rt:17:14
 merge-mul-to : (t : ℕ) → merge-lts.Need-mul-to (
   rotate-reads.Asked,
   rotate-reads.Learnt,
@@ -87,7 +77,6 @@ merge-mul-to : (t : ℕ) → merge-lts.Need-mul-to (
 ) (merge-at t) merge.Post
 merge-mul-to t c = omega (arith, merge-cuts t (c .before .before))
 
--- src/runs.rt:17:22
 merge-mul-to-2 : (t : ℕ) → merge-lts.Need-mul-to-2 (
   rotate-reads.Asked,
   rotate-reads.Learnt,
@@ -96,7 +85,6 @@ merge-mul-to-2 : (t : ℕ) → merge-lts.Need-mul-to-2 (
 ) (merge-at t) merge.Post
 merge-mul-to-2 t c = omega (arith, merge-cuts t (c .before .before))
 
--- src/runs.rt:17:14
 merge-add-to : (t : ℕ) → merge-lts.Need-add-to (
   rotate-reads.Asked,
   rotate-reads.Learnt,
@@ -105,7 +93,6 @@ merge-add-to : (t : ℕ) → merge-lts.Need-add-to (
 ) (merge-at t) merge.Post
 merge-add-to t c = omega (arith, merge-cuts t (c .before .before))
 
--- src/runs.rt:18:12
 merge-mul-rotate : (t : ℕ) → merge-lts.Need-mul-rotate (
   rotate-reads.Asked,
   rotate-reads.Learnt,
@@ -114,7 +101,6 @@ merge-mul-rotate : (t : ℕ) → merge-lts.Need-mul-rotate (
 ) (merge-at t) merge.Post
 merge-mul-rotate t c = omega (arith, merge-cuts t (c .before .before))
 
--- src/runs.rt:18:12
 merge-sub-rotate : (t : ℕ) → merge-lts.Need-sub-rotate (
   rotate-reads.Asked,
   rotate-reads.Learnt,
@@ -123,7 +109,6 @@ merge-sub-rotate : (t : ℕ) → merge-lts.Need-sub-rotate (
 ) (merge-at t) merge.Post
 merge-sub-rotate t c = omega (arith, merge-cuts t (c .before .before))
 
--- src/runs.rt:18:12
 merge-part-rotate-start : (t : ℕ) → merge-lts.Need-part-rotate-start (
   rotate-reads.Asked,
   rotate-reads.Learnt,
@@ -132,7 +117,6 @@ merge-part-rotate-start : (t : ℕ) → merge-lts.Need-part-rotate-start (
 ) (merge-at t) merge.Post
 merge-part-rotate-start t c = omega (arith, merge-cuts t (c .before .before))
 
--- src/runs.rt:18:12
 merge-part-rotate-end : (t : ℕ) → merge-lts.Need-part-rotate-end (
   rotate-reads.Asked,
   rotate-reads.Learnt,
@@ -141,7 +125,6 @@ merge-part-rotate-end : (t : ℕ) → merge-lts.Need-part-rotate-end (
 ) (merge-at t) merge.Post
 merge-part-rotate-end t c = omega (arith, merge-cuts t (c .before .before))
 
--- src/runs.rt:18:30
 merge-mul-rotate-2 : (t : ℕ) → merge-lts.Need-mul-rotate-2 (
   rotate-reads.Asked,
   rotate-reads.Learnt,
@@ -150,7 +133,6 @@ merge-mul-rotate-2 : (t : ℕ) → merge-lts.Need-mul-rotate-2 (
 ) (merge-at t) merge.Post
 merge-mul-rotate-2 t c = omega (arith, merge-cuts t (c .before .before .before))
 
--- src/runs.rt:18:5
 merge-rotate-requires : (t : ℕ) → merge-lts.Need-rotate-requires (
   rotate-reads.Asked,
   rotate-reads.Learnt,
@@ -161,7 +143,6 @@ merge-rotate-requires t c κs =
     let x = c .before .before .before in
     omega (arith, merge-cuts t x, stretch-long (x .pre .1))
 
--- src/runs.rt:19:11
 merge-slice-relend-prefix-merge : (t : ℕ) → merge-lts.Need-slice-relend-prefix-merge (
   rotate-reads.Asked,
   rotate-reads.Learnt,
@@ -170,7 +151,6 @@ merge-slice-relend-prefix-merge : (t : ℕ) → merge-lts.Need-slice-relend-pref
 ) (merge-at t) merge.Post
 merge-slice-relend-prefix-merge t c = cut-within (next-runs (c .before .before .before .before .before .before .pre .1) (c .before .before .rotate .ensures))
 
--- src/runs.rt:19:11
 merge-slice-aggregate-merge : (t : ℕ) → merge-lts.Need-slice-aggregate-merge (
   rotate-reads.Asked,
   rotate-reads.Learnt,
@@ -179,7 +159,6 @@ merge-slice-aggregate-merge : (t : ℕ) → merge-lts.Need-slice-aggregate-merge
 ) (merge-at t) merge.Post
 merge-slice-aggregate-merge t c = sym (low-runs (next-runs (c .before .before .before .before .before .before .before .pre .1) (c .before .before .before .rotate .ensures)) (omega arith) .fill)
 
--- src/runs.rt:19:5
 merge-merge-requires : (t : ℕ) → merge-lts.Need-merge-requires (
   rotate-reads.Asked,
   rotate-reads.Learnt,
@@ -188,7 +167,6 @@ merge-merge-requires : (t : ℕ) → merge-lts.Need-merge-requires (
 ) (merge-at t) merge.Post
 merge-merge-requires t c κs = (omega arith, low-runs (next-runs (c .before .before .before .before .before .before .before .pre .1) (c .before .before .before .rotate .ensures)) (omega arith))
 
--- src/runs.rt:20:11
 merge-mul-merge : (t : ℕ) → merge-lts.Need-mul-merge (
   rotate-reads.Asked,
   rotate-reads.Learnt,
@@ -197,7 +175,6 @@ merge-mul-merge : (t : ℕ) → merge-lts.Need-mul-merge (
 ) (merge-at t) merge.Post
 merge-mul-merge t c = omega (arith, merge-cuts t (c .before .before .before .before .before .before .before .before .before .before))
 
--- src/runs.rt:20:11
 merge-sub-merge : (t : ℕ) → merge-lts.Need-sub-merge (
   rotate-reads.Asked,
   rotate-reads.Learnt,
@@ -208,7 +185,6 @@ merge-sub-merge t c =
     let low = c .before .before .merge in
     cut-after (next-runs (c .before .before .before .before .before .before .before .before .before .before .pre .1) (c .before .before .before .before .before .before .rotate .ensures)) (low .last .0) (low .kept .0)
 
--- src/runs.rt:20:11
 merge-part-merge-start : (t : ℕ) → merge-lts.Need-part-merge-start (
   rotate-reads.Asked,
   rotate-reads.Learnt,
@@ -219,7 +195,6 @@ merge-part-merge-start t c =
     let low = c .before .before .merge in
     cut-after (next-runs (c .before .before .before .before .before .before .before .before .before .before .pre .1) (c .before .before .before .before .before .before .rotate .ensures)) (low .last .0) (low .kept .0)
 
--- src/runs.rt:20:11
 merge-part-merge-end : (t : ℕ) → merge-lts.Need-part-merge-end (
   rotate-reads.Asked,
   rotate-reads.Learnt,
@@ -228,7 +203,6 @@ merge-part-merge-end : (t : ℕ) → merge-lts.Need-part-merge-end (
 ) (merge-at t) merge.Post
 merge-part-merge-end t c = search needs
 
--- src/runs.rt:20:5
 merge-merge-requires-2 : (t : ℕ) → merge-lts.Need-merge-requires-2 (
   rotate-reads.Asked,
   rotate-reads.Learnt,
@@ -239,7 +213,6 @@ merge-merge-requires-2 t c κs =
     let low = c .before .before .before .merge in
     (omega arith, high-runs (next-runs (c .before .before .before .before .before .before .before .before .before .before .before .pre .1) (c .before .before .before .before .before .before .before .rotate .ensures)) (low .last .0) (low .kept .0) (omega arith))
 
--- src/runs.rt:6:1
 merge-same-length : (t : ℕ) → merge-lts.Need-same-length (
   rotate-reads.Asked,
   rotate-reads.Learnt,
@@ -248,7 +221,6 @@ merge-same-length : (t : ℕ) → merge-lts.Need-same-length (
 ) (merge-at t) merge.Post
 merge-same-length t c = search needs
 
--- src/runs.rt:6:1
 merge-returns-2 : (t : ℕ) → merge-lts.Need-returns-2 (
   rotate-reads.Asked,
   rotate-reads.Learnt,

@@ -1,6 +1,6 @@
 -- `runs::split` meets its contract, by recursion on the run count. One level is the law of Halving: both halves split, then the stretch rotated.
 use mathlib.Core.Path.{sym}
-use Prim.Native.Nat.{ℕ, _+_, _-_, _*_, _/_, _≤_, _<_}
+use Prim.Native.Nat.{ℕ, _+_, _-_, _<_}
 use native.Mathlib.Omega.{arith}
 use borrow.Author.Needs.{needs}
 use Rattle.halves.proofs.Four.{Halved, halved}
@@ -29,7 +29,6 @@ split-cuts : (t : ℕ) (x : split-lts.Start (split-below t, split.Post, rotate-r
     → Halved (x .args .n) (x .args .p) (x .args .q)
 split-cuts t x = halved (x .args .n) (x .args .p) (x .args .q) (omega arith)
 
--- src/runs.rt:29:9
 split-returns : (t : ℕ) → split-lts.Need-returns (
   split-below t,
   split.Post,
@@ -38,7 +37,6 @@ split-returns : (t : ℕ) → split-lts.Need-returns (
 ) (split-at t) split.Post
 split-returns t c = let x = c .before .before .args in merged-one (x .n) (x .p) (x .q) (x .s .now) (omega arith)
 
--- src/runs.rt:32:13
 split-sub-g : (t : ℕ) → split-lts.Need-sub-g (
   split-below t,
   split.Post,
@@ -47,7 +45,6 @@ split-sub-g : (t : ℕ) → split-lts.Need-sub-g (
 ) (split-at t) split.Post
 split-sub-g t c = search needs
 
--- src/runs.rt:33:20
 split-add-cut : (t : ℕ) → split-lts.Need-add-cut (
   split-below t,
   split.Post,
@@ -56,7 +53,6 @@ split-add-cut : (t : ℕ) → split-lts.Need-add-cut (
 ) (split-at t) split.Post
 split-add-cut t c = omega (arith, split-cuts t (c .before .before))
 
--- src/runs.rt:33:15
 split-mul-cut : (t : ℕ) → split-lts.Need-mul-cut (
   split-below t,
   split.Post,
@@ -65,7 +61,6 @@ split-mul-cut : (t : ℕ) → split-lts.Need-mul-cut (
 ) (split-at t) split.Post
 split-mul-cut t c = omega (arith, split-cuts t (c .before .before))
 
--- src/runs.rt:34:11
 split-slice-relend-prefix-split : (t : ℕ) → split-lts.Need-slice-relend-prefix-split (
   split-below t,
   split.Post,
@@ -74,7 +69,6 @@ split-slice-relend-prefix-split : (t : ℕ) → split-lts.Need-slice-relend-pref
 ) (split-at t) split.Post
 split-slice-relend-prefix-split t c = cut-within (c .before .before .pre .1)
 
--- src/runs.rt:34:11
 split-slice-aggregate-split : (t : ℕ) → split-lts.Need-slice-aggregate-split (
   split-below t,
   split.Post,
@@ -83,7 +77,6 @@ split-slice-aggregate-split : (t : ℕ) → split-lts.Need-slice-aggregate-split
 ) (split-at t) split.Post
 split-slice-aggregate-split t c = sym (low-runs (c .before .before .before .pre .1) (omega arith) .fill)
 
--- src/runs.rt:34:5
 split-split-requires : (t : ℕ) → split-lts.Need-split-requires (
   split-below t,
   split.Post,
@@ -92,7 +85,6 @@ split-split-requires : (t : ℕ) → split-lts.Need-split-requires (
 ) (split-at t) split.Post
 split-split-requires t c κs = (omega arith, low-runs (c .before .before .before .pre .1) (omega arith))
 
--- src/runs.rt:35:11
 split-mul-split : (t : ℕ) → split-lts.Need-mul-split (
   split-below t,
   split.Post,
@@ -101,7 +93,6 @@ split-mul-split : (t : ℕ) → split-lts.Need-mul-split (
 ) (split-at t) split.Post
 split-mul-split t c = omega (arith, split-cuts t (c .before .before .before .before .before .before))
 
--- src/runs.rt:35:11
 split-sub-split : (t : ℕ) → split-lts.Need-sub-split (
   split-below t,
   split.Post,
@@ -112,7 +103,6 @@ split-sub-split t c =
     let low = c .before .before .split in
     cut-after (c .before .before .before .before .before .before .pre .1) (low .last .0) (low .kept .0)
 
--- src/runs.rt:35:11
 split-part-split-start : (t : ℕ) → split-lts.Need-part-split-start (
   split-below t,
   split.Post,
@@ -123,7 +113,6 @@ split-part-split-start t c =
     let low = c .before .before .split in
     cut-after (c .before .before .before .before .before .before .pre .1) (low .last .0) (low .kept .0)
 
--- src/runs.rt:35:11
 split-part-split-end : (t : ℕ) → split-lts.Need-part-split-end (
   split-below t,
   split.Post,
@@ -132,7 +121,6 @@ split-part-split-end : (t : ℕ) → split-lts.Need-part-split-end (
 ) (split-at t) split.Post
 split-part-split-end t c = search needs
 
--- src/runs.rt:35:5
 split-split-requires-2 : (t : ℕ) → split-lts.Need-split-requires-2 (
   split-below t,
   split.Post,
@@ -143,7 +131,6 @@ split-split-requires-2 t c κs =
     let low = c .before .before .before .split in
     (omega arith, high-runs (c .before .before .before .before .before .before .before .pre .1) (low .last .0) (low .kept .0) (omega arith))
 
--- src/runs.rt:36:16
 split-mul-from : (t : ℕ) → split-lts.Need-mul-from (
   split-below t,
   split.Post,
@@ -152,7 +139,6 @@ split-mul-from : (t : ℕ) → split-lts.Need-mul-from (
 ) (split-at t) split.Post
 split-mul-from t c = omega (arith, split-cuts t (c .before .before .before .before .before .before .before .before .before .before))
 
--- src/runs.rt:37:14
 split-mul-to : (t : ℕ) → split-lts.Need-mul-to (
   split-below t,
   split.Post,
@@ -161,7 +147,6 @@ split-mul-to : (t : ℕ) → split-lts.Need-mul-to (
 ) (split-at t) split.Post
 split-mul-to t c = omega (arith, split-cuts t (c .before .before .before .before .before .before .before .before .before .before))
 
--- src/runs.rt:37:22
 split-mul-to-2 : (t : ℕ) → split-lts.Need-mul-to-2 (
   split-below t,
   split.Post,
@@ -170,7 +155,6 @@ split-mul-to-2 : (t : ℕ) → split-lts.Need-mul-to-2 (
 ) (split-at t) split.Post
 split-mul-to-2 t c = omega (arith, split-cuts t (c .before .before .before .before .before .before .before .before .before .before))
 
--- src/runs.rt:37:14
 split-add-to : (t : ℕ) → split-lts.Need-add-to (
   split-below t,
   split.Post,
@@ -179,7 +163,6 @@ split-add-to : (t : ℕ) → split-lts.Need-add-to (
 ) (split-at t) split.Post
 split-add-to t c = omega (arith, split-cuts t (c .before .before .before .before .before .before .before .before .before .before))
 
--- src/runs.rt:38:12
 split-mul-rotate : (t : ℕ) → split-lts.Need-mul-rotate (
   split-below t,
   split.Post,
@@ -188,7 +171,6 @@ split-mul-rotate : (t : ℕ) → split-lts.Need-mul-rotate (
 ) (split-at t) split.Post
 split-mul-rotate t c = omega (arith, split-cuts t (c .before .before .before .before .before .before .before .before .before .before))
 
--- src/runs.rt:38:12
 split-sub-rotate : (t : ℕ) → split-lts.Need-sub-rotate (
   split-below t,
   split.Post,
@@ -197,7 +179,6 @@ split-sub-rotate : (t : ℕ) → split-lts.Need-sub-rotate (
 ) (split-at t) split.Post
 split-sub-rotate t c = omega (arith, split-cuts t (c .before .before .before .before .before .before .before .before .before .before))
 
--- src/runs.rt:38:12
 split-part-rotate-start : (t : ℕ) → split-lts.Need-part-rotate-start (
   split-below t,
   split.Post,
@@ -206,7 +187,6 @@ split-part-rotate-start : (t : ℕ) → split-lts.Need-part-rotate-start (
 ) (split-at t) split.Post
 split-part-rotate-start t c = omega (arith, split-cuts t (c .before .before .before .before .before .before .before .before .before .before))
 
--- src/runs.rt:38:12
 split-part-rotate-end : (t : ℕ) → split-lts.Need-part-rotate-end (
   split-below t,
   split.Post,
@@ -215,7 +195,6 @@ split-part-rotate-end : (t : ℕ) → split-lts.Need-part-rotate-end (
 ) (split-at t) split.Post
 split-part-rotate-end t c = omega (arith, split-cuts t (c .before .before .before .before .before .before .before .before .before .before), both-runs (c .before .before .before .before .before .before .before .before .before .before .pre .1) (c .before .before .before .before .before .before .split .ensures) (c .before .before .split2 .ensures) .fill)
 
--- src/runs.rt:38:30
 split-mul-rotate-2 : (t : ℕ) → split-lts.Need-mul-rotate-2 (
   split-below t,
   split.Post,
@@ -224,7 +203,6 @@ split-mul-rotate-2 : (t : ℕ) → split-lts.Need-mul-rotate-2 (
 ) (split-at t) split.Post
 split-mul-rotate-2 t c = omega (arith, split-cuts t (c .before .before .before .before .before .before .before .before .before .before .before))
 
--- src/runs.rt:38:5
 split-rotate-requires : (t : ℕ) → split-lts.Need-rotate-requires (
   split-below t,
   split.Post,
@@ -233,7 +211,6 @@ split-rotate-requires : (t : ℕ) → split-lts.Need-rotate-requires (
 ) (split-at t) split.Post
 split-rotate-requires t c κs = omega (arith, split-cuts t (c .before .before .before .before .before .before .before .before .before .before .before), stretch-long (both-runs (c .before .before .before .before .before .before .before .before .before .before .before .pre .1) (c .before .before .before .before .before .before .before .split .ensures) (c .before .before .before .split2 .ensures)))
 
--- src/runs.rt:24:1
 split-same-length : (t : ℕ) → split-lts.Need-same-length (
   split-below t,
   split.Post,
@@ -242,7 +219,6 @@ split-same-length : (t : ℕ) → split-lts.Need-same-length (
 ) (split-at t) split.Post
 split-same-length t c = search needs
 
--- src/runs.rt:24:1
 split-returns-2 : (t : ℕ) → split-lts.Need-returns-2 (
   split-below t,
   split.Post,
