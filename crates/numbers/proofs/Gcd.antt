@@ -61,3 +61,17 @@ quotients-apart a b c h g =
     let k = gcd-is a b in
     let d = gcdOf a b in
     eq-one-of-dvd-one (dvd-of-mul-dvd-mul-right {k = c} d h (rw one-mul (g .greatest (d * c) (mul-dvd-mul-right d (k .left) c) (mul-dvd-mul-right d (k .right) c))))
+
+-- a step of Euclid's algorithm keeps it, and it ends at 0
+pub gcd-step : (m n : ℕ) → gcdOf n (m % n) ≡ gcdOf m n
+gcd-step m n =
+    let g = gcd-is n (m % n) in
+    gcd-one {m = m} {n = n} (record {
+      left = dvd-mod-iff (gcdOf n (m % n)) (g .left) .0 (g .right);
+      right = g .left;
+      greatest = λ d p q. g .greatest d q (dvd-mod-iff d q .1 p);
+    }) (gcd-is m n)
+
+pub gcd-end : (m : ℕ) → gcdOf m 0 ≡ m
+unfolding gcdOf euclid
+gcd-end m = refl

@@ -1,0 +1,12 @@
+pub mod Bench
+pub mod Swaps
+pub mod Chains
+pub mod Layouts
+pub mod Listed
+pub mod Numbers
+pub mod Relabels
+pub mod Counts
+pub mod Falling
+pub mod Rising
+pub mod Plans
+pub mod FourAxes

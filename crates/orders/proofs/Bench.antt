@@ -1,0 +1,31 @@
+-- What document 01 says of single orders of four axes: the swaps, orders that chains name, numbers, plans. Computed, each table as one statement.
+use mathlib.Core.Path.{_≡_, refl}
+use mathlib.Core.List.{[], _∷_, map}
+use Rattle.layout.specs.Layout.{placeOf}
+use Rattle.orders.specs.Chains.{exchange, follow, named}
+use Rattle.orders.specs.Numbers.{arrangements, orders, orderOf, rank, numberOf}
+use Rattle.orders.specs.Plans.{under, falling, relabelled, firstBack, planned, planOf}
+
+-- the swaps 0, 1 and 2 of 0123
+pub swaps-4 : map (λ k. exchange k (0 ∷ 1 ∷ 2 ∷ 3 ∷ [])) (0 ∷ 1 ∷ 2 ∷ [])
+    ≡ (1 ∷ 0 ∷ 2 ∷ 3 ∷ []) ∷ (0 ∷ 2 ∷ 1 ∷ 3 ∷ []) ∷ (0 ∷ 1 ∷ 3 ∷ 2 ∷ []) ∷ []
+unfolding exchange
+swaps-4 = refl
+
+-- orders 0, 1, 2, 6, 9, 16, 18 and 23
+pub numbers-4 : map (orderOf 4) (0 ∷ 1 ∷ 2 ∷ 6 ∷ 9 ∷ 16 ∷ 18 ∷ 23 ∷ [])
+    ≡ (0 ∷ 1 ∷ 2 ∷ 3 ∷ []) ∷ (0 ∷ 1 ∷ 3 ∷ 2 ∷ []) ∷ (0 ∷ 2 ∷ 1 ∷ 3 ∷ []) ∷ (1 ∷ 0 ∷ 2 ∷ 3 ∷ []) ∷ (1 ∷ 2 ∷ 3 ∷ 0 ∷ []) ∷ (2 ∷ 3 ∷ 0 ∷ 1 ∷ []) ∷ (3 ∷ 0 ∷ 1 ∷ 2 ∷ []) ∷ (3 ∷ 2 ∷ 1 ∷ 0 ∷ []) ∷ []
+unfolding orderOf orders arrangements
+numbers-4 = refl
+
+-- the plans of the orders 0, 9, 18, 16 and 23
+pub plans-4 : map (λ k. planOf (orderOf 4 k)) (0 ∷ 9 ∷ 18 ∷ 16 ∷ 23 ∷ [])
+    ≡ [] ∷ (0 ∷ 1 ∷ 2 ∷ []) ∷ (2 ∷ 1 ∷ 0 ∷ []) ∷ (1 ∷ 0 ∷ 2 ∷ 1 ∷ []) ∷ (0 ∷ 1 ∷ 0 ∷ 2 ∷ 1 ∷ 0 ∷ []) ∷ []
+unfolding arrangements orders orderOf under falling relabelled firstBack planned planOf placeOf
+plans-4 = refl
+
+-- the numbers of the orders that these chains name
+pub chains-4 : map (λ c. numberOf 4 (named 4 c)) ([] ∷ (0 ∷ 1 ∷ 2 ∷ []) ∷ (2 ∷ 1 ∷ 0 ∷ []) ∷ (1 ∷ 0 ∷ 2 ∷ 1 ∷ []) ∷ (0 ∷ 1 ∷ 0 ∷ 2 ∷ 1 ∷ 0 ∷ []) ∷ [])
+    ≡ 0 ∷ 9 ∷ 18 ∷ 16 ∷ 23 ∷ []
+unfolding exchange follow named arrangements orders rank numberOf
+chains-4 = refl

@@ -1,0 +1,36 @@
+-- `gcd` meets its contract: each turn of the loop keeps the greatest common divisor, and the remainder falls.
+use mathlib.Core.Path.{_≡_, refl, sym, ap, _∙_}
+use Prim.Native.Nat.{ℕ}
+use native.Mathlib.Nat.{mod-lt}
+use native.Mathlib.Omega.{arith}
+use borrow.Author.Needs.{needs}
+use Rattle.numbers.specs.Gcd.{gcdOf}
+use Rattle.numbers.proofs.Gcd.{gcd-step, gcd-end}
+use Rattle.passes.proofs.gcd.gcd.Statement.{statement}
+use Rattle.passes.proofs.gcd.gcd.Tie as tie
+
+abbrev Inv-loop : tie.InvT-loop
+Inv-loop m n x₀ y₀ x y = gcdOf x y ≡ gcdOf m n
+
+abbrev μ-loop : tie.MeasureT-loop
+μ-loop m n x₀ y₀ x y = y
+
+loop-holds : tie.Need-loop-holds Inv-loop μ-loop
+loop-holds c = refl
+
+rem-rest : tie.Need-rem-rest Inv-loop μ-loop
+rem-rest c = search needs
+
+loop-less : tie.Need-loop-less Inv-loop μ-loop
+loop-less c = mod-lt (c .before .loop .x) (omega arith)
+
+loop-again : tie.Need-loop-again Inv-loop μ-loop
+loop-again c = gcd-step (c .before .loop .x) (c .before .loop .y) ∙ c .before .loop .inv
+
+returns : tie.Need-returns Inv-loop μ-loop
+returns c =
+    let e : c .before .loop .y ≡ 0 = omega arith in
+    sym (gcd-end (c .before .loop .x)) ∙ ap (gcdOf (c .before .loop .x)) (sym e) ∙ c .before .loop .inv
+
+pub gcd-spec : {M : Type 1} → statement M
+gcd-spec = tie.close (tie.spec Inv-loop μ-loop loop-holds rem-rest loop-less loop-again returns)

@@ -1,0 +1,42 @@
+-- What the calls by passes promise. Assumes nothing: these are definitions.
+use mathlib.Core.List.{List, [], _∷_}
+use Prim.Native.Nat.{ℕ}
+use lib.Dec.{eqb}
+use Rattle.lists.specs.Choose.{either}
+use Rattle.layout.specs.Layout.{Laid}
+use Rattle.refusals.specs.FirstOf.{Check, check}
+use Rattle.refusals.specs.Conditions.{badLength, tooManyWords, shortBuffer, shortScratch}
+use Rattle.refusals.specs.Calls.{passesChecks}
+use Rattle.refusals.specs.Scratch.{need}
+use Rattle.refusals.specs.Promise.{Rearranged}
+use Rattle.flat.specs.Turn.{sides, Turn, TurnBack}
+
+-- the flat turn by passes
+abbrev pub TurnPromise : ℕ → ℕ → List ℕ → List ℕ → ℕ → List ℕ → List ℕ → Type 0
+TurnPromise m n buffer scratch = Rearranged (passesChecks (sides m n) buffer scratch) (need (sides m n)) (Turn m n buffer) buffer scratch
+
+-- the reverse turn by passes
+abbrev pub TurnBackPromise : ℕ → ℕ → List ℕ → List ℕ → ℕ → List ℕ → List ℕ → Type 0
+TurnBackPromise m n buffer scratch = Rearranged (passesChecks (sides m n) buffer scratch) (need (sides m n)) (TurnBack m n buffer) buffer scratch
+
+-- the block of an adjacent swap: the axes before, the two that are exchanged, the axes after
+abbrev pub swapBlock : ℕ → ℕ → ℕ → ℕ → List ℕ
+swapBlock outer m n chunk = outer ∷ m ∷ n ∷ chunk ∷ []
+
+-- the order that exchanges the two axes in the middle
+abbrev pub middle : List ℕ
+middle = 0 ∷ 2 ∷ 1 ∷ 3 ∷ []
+
+-- adjacent swap: 1 (also for no block before or no word after the two axes), 2, 3, 4
+abbrev pub swapChecks : ℕ → ℕ → ℕ → ℕ → List ℕ → List ℕ → List Check
+swapChecks outer m n chunk buffer scratch =
+    check 1 (either (badLength (sides m n)) (either (eqb outer 0) (eqb chunk 0)))
+    ∷ check 2 (tooManyWords (swapBlock outer m n chunk))
+    ∷ check 3 (shortBuffer (swapBlock outer m n chunk) buffer)
+    ∷ check 4 (shortScratch (need (sides m n)) scratch)
+    ∷ []
+
+-- the adjacent swap: outer × m × n × chunk words become outer × n × m × chunk
+abbrev pub SwapPromise : ℕ → ℕ → ℕ → ℕ → List ℕ → List ℕ → ℕ → List ℕ → List ℕ → Type 0
+SwapPromise outer m n chunk buffer scratch =
+    Rearranged (swapChecks outer m n chunk buffer scratch) (need (sides m n)) (Laid (swapBlock outer m n chunk) middle buffer) buffer scratch

@@ -1,0 +1,25 @@
+-- Any two outcomes that one promise allows coincide: number, buffer and scratch, where two right buffers are equal.
+use mathlib.Core.Path.{_≡_, refl, sym, ap, _∙_}
+use mathlib.Core.List.{List}
+use mathlib.Core.Logic.{⊎-elim}
+use Prim.Native.Nat.{ℕ}
+use Rattle.lists.proofs.Decide.{eq-or-ne}
+use Rattle.refusals.specs.FirstOf.{Check}
+use Rattle.refusals.specs.Promise.{Rearranged}
+
+module _ {checks : List Check} {needed : ℕ} {Right : List ℕ → Type 0} {buffer₀ scratch₀ : List ℕ} (one : (ys zs : List ℕ) → Right ys → Right zs → ys ≡ zs)
+    {r r′ : ℕ} {buffer buffer′ scratch scratch′ : List ℕ}
+    (p : Rearranged checks needed Right buffer₀ scratch₀ r buffer scratch) (q : Rearranged checks needed Right buffer₀ scratch₀ r′ buffer′ scratch′) where
+  one-number : r ≡ r′
+  one-number = p .number-is ∙ sym (q .number-is)
+
+  pub one-outcome : (r ≡ r′) × (buffer ≡ buffer′) × (scratch ≡ scratch′)
+  one-outcome =
+      ⊎-elim
+      (λ (e : r ≡ 0).
+      let e′ : r′ ≡ 0 = sym one-number ∙ e in
+      (one-number, one buffer buffer′ (p .words e) (q .words e′), p .zeroed e ∙ sym (q .zeroed e′)))
+      (λ (n : r ≡ 0 → ⊥).
+      let n′ : r′ ≡ 0 → ⊥ = λ e. n (one-number ∙ e) in
+      (one-number, p .kept n .0 ∙ sym (q .kept n′ .0), p .kept n .1 ∙ sym (q .kept n′ .1)))
+      (eq-or-ne r 0)

@@ -1,0 +1,14 @@
+-- What a call that rearranges a lent buffer through lent scratch promises. Assumes nothing: these are definitions.
+use mathlib.Core.Path.{_≡_}
+use mathlib.Core.List.{List}
+use Prim.Native.Nat.{ℕ}
+use Rattle.refusals.specs.FirstOf.{Check, firstOf}
+use Rattle.refusals.specs.Scratch.{cleared}
+
+-- the number is the first of the call's checks; accepted, the words are right and `needed` first words of scratch are zero, the rest unchanged;
+-- refused, not one word of either has changed
+pub record Rearranged (checks : List Check) (needed : ℕ) (Right : List ℕ → Type 0) (buffer₀ scratch₀ : List ℕ) (number : ℕ) (buffer scratch : List ℕ) : Type 0 where
+  pub number-is : number ≡ firstOf checks
+  pub words : number ≡ 0 → Right buffer
+  pub zeroed : number ≡ 0 → scratch ≡ cleared needed scratch₀
+  pub kept : (number ≡ 0 → ⊥) → (buffer ≡ buffer₀) × (scratch ≡ scratch₀)
