@@ -41,14 +41,22 @@ wide-at t = and 1 wide-kinds.ps (is 1 wide-kinds.ps μ-wide t) wide.Pre
 abbrev wide-below : ℕ → In 1 wide-kinds.ps
 wide-below t = and 1 wide-kinds.ps (falls 1 wide-kinds.ps _<_ μ-wide t) wide.Pre
 
+-- what the callees of wide ask and what they promise
+abbrev wide-calls : ℕ → wide-lts.Claims
+wide-calls t = (square-reads.Asked, square-reads.Learnt, split-reads.Asked, split-reads.Learnt, wide-below t, wide.Post, tall-below t, tall.Post)
+
+-- what the callees of tall ask and what they promise
+abbrev tall-calls : ℕ → tall-lts.Claims
+tall-calls t = (square-reads.Asked, square-reads.Learnt, tall-below t, tall.Post, wide-below t, wide.Post, merge-reads.Asked, merge-reads.Learnt)
+
 -- the rows are cut
-tall-parts : (t : ℕ) (x : tall-lts.Else1 (square-reads.Asked, square-reads.Learnt, tall-below t, tall.Post, wide-below t, wide.Post, merge-reads.Asked, merge-reads.Learnt) (tall-at t) tall.Post)
+tall-parts : (t : ℕ) (x : tall-lts.Else1 (tall-calls t) (tall-at t) tall.Post)
     → Parted (x .before .before .args .m / 2 * x .before .before .args .n) (x .before .before .args .m / 2) (x .before .before .args .n)
     (x .before .before .args .m - x .before .before .args .m / 2) (x .before .before .args .n) (x .before .before .args .s .now)
 tall-parts t x = rows-cut (x .before .before .pre .1 .0) (omega arith)
 
 -- the first part is back
-tall-front : (t : ℕ) (x : tall-lts.Joined2 (square-reads.Asked, square-reads.Learnt, tall-below t, tall.Post, wide-below t, wide.Post, merge-reads.Asked, merge-reads.Learnt) (tall-at t) tall.Post)
+tall-front : (t : ℕ) (x : tall-lts.Joined2 (tall-calls t) (tall-at t) tall.Post)
     → Front (x .before .before .before .args .m / 2 * x .before .before .before .args .n) (x .before .before .before .args .m / 2) (x .before .before .before .args .n)
     (x .before .before .before .args .s .now) (x .if2 .s)
 tall-front t x = ⊎-elim
@@ -57,7 +65,7 @@ tall-front t x = ⊎-elim
     (x .if2 .came)
 
 -- both are
-tall-both : (t : ℕ) (x : tall-lts.Joined3 (square-reads.Asked, square-reads.Learnt, tall-below t, tall.Post, wide-below t, wide.Post, merge-reads.Asked, merge-reads.Learnt) (tall-at t) tall.Post)
+tall-both : (t : ℕ) (x : tall-lts.Joined3 (tall-calls t) (tall-at t) tall.Post)
     → Both (x .before .before .before .before .args .m / 2 * x .before .before .before .before .args .n)
     (x .before .before .before .before .args .m / 2) (x .before .before .before .before .args .n)
     (x .before .before .before .before .args .m - x .before .before .before .before .args .m / 2) (x .before .before .before .before .args .n)
@@ -67,661 +75,202 @@ tall-both t x = both-back (tall-parts t (x .before .before)) (tall-front t (x .b
     (λ w. record { part = w .2 .last .0; turn = w .2 .ensures; back = w .5 })
     (x .if3 .came))
 
-tall-square-requires : (t : ℕ) → tall-lts.Need-square-requires (
-  square-reads.Asked,
-  square-reads.Learnt,
-  tall-below t,
-  tall.Post,
-  wide-below t,
-  wide.Post,
-  merge-reads.Asked,
-  merge-reads.Learnt,
-) (tall-at t) tall.Post
+tall-square-requires : (t : ℕ) → tall-lts.Need-square-requires (tall-calls t) (tall-at t) tall.Post
 tall-square-requires t c κs = let x = c .before .before .before in let e : x .args .m ≡ x .args .n = omega arith in x .pre .1 .0 .fill ∙ ap (λ (m : ℕ). m * x .args .n) e
 
-tall-same-length : (t : ℕ) → tall-lts.Need-same-length (
-  square-reads.Asked,
-  square-reads.Learnt,
-  tall-below t,
-  tall.Post,
-  wide-below t,
-  wide.Post,
-  merge-reads.Asked,
-  merge-reads.Learnt,
-) (tall-at t) tall.Post
+tall-same-length : (t : ℕ) → tall-lts.Need-same-length (tall-calls t) (tall-at t) tall.Post
 tall-same-length t c = search needs
 
-tall-returns : (t : ℕ) → tall-lts.Need-returns (
-  square-reads.Asked,
-  square-reads.Learnt,
-  tall-below t,
-  tall.Post,
-  wide-below t,
-  wide.Post,
-  merge-reads.Asked,
-  merge-reads.Learnt,
-) (tall-at t) tall.Post
+tall-returns : (t : ℕ) → tall-lts.Need-returns (tall-calls t) (tall-at t) tall.Post
 tall-returns t c =
     let x = c .before .before .before .before .before .before in
     let e : x .args .n ≡ x .args .m = omega arith in
     subst (λ (m : ℕ). Turn m (x .args .n) (x .args .s .now) (c .before .before .square .last .0)) e (c .before .before .square .ensures)
 
-tall-sub-g : (t : ℕ) → tall-lts.Need-sub-g (
-  square-reads.Asked,
-  square-reads.Learnt,
-  tall-below t,
-  tall.Post,
-  wide-below t,
-  wide.Post,
-  merge-reads.Asked,
-  merge-reads.Learnt,
-) (tall-at t) tall.Post
+tall-sub-g : (t : ℕ) → tall-lts.Need-sub-g (tall-calls t) (tall-at t) tall.Post
 tall-sub-g t c = search needs
 
-tall-mul-cut : (t : ℕ) → tall-lts.Need-mul-cut (
-  square-reads.Asked,
-  square-reads.Learnt,
-  tall-below t,
-  tall.Post,
-  wide-below t,
-  wide.Post,
-  merge-reads.Asked,
-  merge-reads.Learnt,
-) (tall-at t) tall.Post
+tall-mul-cut : (t : ℕ) → tall-lts.Need-mul-cut (tall-calls t) (tall-at t) tall.Post
 tall-mul-cut t c = omega (arith, cut-within (tall-parts t c))
 
-tall-slice-relend-prefix-tall : (t : ℕ) → tall-lts.Need-slice-relend-prefix-tall (
-  square-reads.Asked,
-  square-reads.Learnt,
-  tall-below t,
-  tall.Post,
-  wide-below t,
-  wide.Post,
-  merge-reads.Asked,
-  merge-reads.Learnt,
-) (tall-at t) tall.Post
+tall-slice-relend-prefix-tall : (t : ℕ) → tall-lts.Need-slice-relend-prefix-tall (tall-calls t) (tall-at t) tall.Post
 tall-slice-relend-prefix-tall t c = cut-within (tall-parts t (c .before))
 
-tall-slice-aggregate-tall : (t : ℕ) → tall-lts.Need-slice-aggregate-tall (
-  square-reads.Asked,
-  square-reads.Learnt,
-  tall-below t,
-  tall.Post,
-  wide-below t,
-  wide.Post,
-  merge-reads.Asked,
-  merge-reads.Learnt,
-) (tall-at t) tall.Post
+tall-slice-aggregate-tall : (t : ℕ) → tall-lts.Need-slice-aggregate-tall (tall-calls t) (tall-at t) tall.Post
 tall-slice-aggregate-tall t c = low-long (tall-parts t (c .before .before))
 
-tall-tall-requires : (t : ℕ) → tall-lts.Need-tall-requires (
-  square-reads.Asked,
-  square-reads.Learnt,
-  tall-below t,
-  tall.Post,
-  wide-below t,
-  wide.Post,
-  merge-reads.Asked,
-  merge-reads.Learnt,
-) (tall-at t) tall.Post
+tall-tall-requires : (t : ℕ) → tall-lts.Need-tall-requires (tall-calls t) (tall-at t) tall.Post
 tall-tall-requires t c κs = let p = tall-parts t (c .before .before) in (omega (arith, low-falls p, c .before .before .before .before .pre .0), (low-block p, omega arith))
 
-tall-slice-relend-prefix-wide : (t : ℕ) → tall-lts.Need-slice-relend-prefix-wide (
-  square-reads.Asked,
-  square-reads.Learnt,
-  tall-below t,
-  tall.Post,
-  wide-below t,
-  wide.Post,
-  merge-reads.Asked,
-  merge-reads.Learnt,
-) (tall-at t) tall.Post
+tall-slice-relend-prefix-wide : (t : ℕ) → tall-lts.Need-slice-relend-prefix-wide (tall-calls t) (tall-at t) tall.Post
 tall-slice-relend-prefix-wide t c = cut-within (tall-parts t (c .before))
 
-tall-slice-aggregate-wide : (t : ℕ) → tall-lts.Need-slice-aggregate-wide (
-  square-reads.Asked,
-  square-reads.Learnt,
-  tall-below t,
-  tall.Post,
-  wide-below t,
-  wide.Post,
-  merge-reads.Asked,
-  merge-reads.Learnt,
-) (tall-at t) tall.Post
+tall-slice-aggregate-wide : (t : ℕ) → tall-lts.Need-slice-aggregate-wide (tall-calls t) (tall-at t) tall.Post
 tall-slice-aggregate-wide t c = low-long (tall-parts t (c .before .before))
 
-tall-wide-requires : (t : ℕ) → tall-lts.Need-wide-requires (
-  square-reads.Asked,
-  square-reads.Learnt,
-  tall-below t,
-  tall.Post,
-  wide-below t,
-  wide.Post,
-  merge-reads.Asked,
-  merge-reads.Learnt,
-) (tall-at t) tall.Post
+tall-wide-requires : (t : ℕ) → tall-lts.Need-wide-requires (tall-calls t) (tall-at t) tall.Post
 tall-wide-requires t c κs = let p = tall-parts t (c .before .before) in (omega (arith, low-falls p, c .before .before .before .before .pre .0), (low-block p, omega arith))
 
-tall-mul-tall : (t : ℕ) → tall-lts.Need-mul-tall (
-  square-reads.Asked,
-  square-reads.Learnt,
-  tall-below t,
-  tall.Post,
-  wide-below t,
-  wide.Post,
-  merge-reads.Asked,
-  merge-reads.Learnt,
-) (tall-at t) tall.Post
+tall-mul-tall : (t : ℕ) → tall-lts.Need-mul-tall (tall-calls t) (tall-at t) tall.Post
 tall-mul-tall t c = omega (arith, cut-within (tall-parts t (c .before .before)))
 
-tall-sub-tall : (t : ℕ) → tall-lts.Need-sub-tall (
-  square-reads.Asked,
-  square-reads.Learnt,
-  tall-below t,
-  tall.Post,
-  wide-below t,
-  wide.Post,
-  merge-reads.Asked,
-  merge-reads.Learnt,
-) (tall-at t) tall.Post
+tall-sub-tall : (t : ℕ) → tall-lts.Need-sub-tall (tall-calls t) (tall-at t) tall.Post
 tall-sub-tall t c = cut-after (tall-parts t (c .before .before)) (tall-front t (c .before))
 
-tall-part-tall-start : (t : ℕ) → tall-lts.Need-part-tall-start (
-  square-reads.Asked,
-  square-reads.Learnt,
-  tall-below t,
-  tall.Post,
-  wide-below t,
-  wide.Post,
-  merge-reads.Asked,
-  merge-reads.Learnt,
-) (tall-at t) tall.Post
+tall-part-tall-start : (t : ℕ) → tall-lts.Need-part-tall-start (tall-calls t) (tall-at t) tall.Post
 tall-part-tall-start t c = cut-after (tall-parts t (c .before .before)) (tall-front t (c .before))
 
-tall-part-tall-end : (t : ℕ) → tall-lts.Need-part-tall-end (
-  square-reads.Asked,
-  square-reads.Learnt,
-  tall-below t,
-  tall.Post,
-  wide-below t,
-  wide.Post,
-  merge-reads.Asked,
-  merge-reads.Learnt,
-) (tall-at t) tall.Post
+tall-part-tall-end : (t : ℕ) → tall-lts.Need-part-tall-end (tall-calls t) (tall-at t) tall.Post
 tall-part-tall-end t c = search needs
 
-tall-tall-requires-2 : (t : ℕ) → tall-lts.Need-tall-requires-2 (
-  square-reads.Asked,
-  square-reads.Learnt,
-  tall-below t,
-  tall.Post,
-  wide-below t,
-  wide.Post,
-  merge-reads.Asked,
-  merge-reads.Learnt,
-) (tall-at t) tall.Post
+tall-tall-requires-2 : (t : ℕ) → tall-lts.Need-tall-requires-2 (tall-calls t) (tall-at t) tall.Post
 tall-tall-requires-2 t c κs =
     let p = tall-parts t (c .before .before .before) in
     let f = tall-front t (c .before .before) in
     (omega (arith, high-falls p f, c .before .before .before .before .before .pre .0), (high-block p f, omega arith))
 
-tall-mul-wide : (t : ℕ) → tall-lts.Need-mul-wide (
-  square-reads.Asked,
-  square-reads.Learnt,
-  tall-below t,
-  tall.Post,
-  wide-below t,
-  wide.Post,
-  merge-reads.Asked,
-  merge-reads.Learnt,
-) (tall-at t) tall.Post
+tall-mul-wide : (t : ℕ) → tall-lts.Need-mul-wide (tall-calls t) (tall-at t) tall.Post
 tall-mul-wide t c = omega (arith, cut-within (tall-parts t (c .before .before)))
 
-tall-sub-wide : (t : ℕ) → tall-lts.Need-sub-wide (
-  square-reads.Asked,
-  square-reads.Learnt,
-  tall-below t,
-  tall.Post,
-  wide-below t,
-  wide.Post,
-  merge-reads.Asked,
-  merge-reads.Learnt,
-) (tall-at t) tall.Post
+tall-sub-wide : (t : ℕ) → tall-lts.Need-sub-wide (tall-calls t) (tall-at t) tall.Post
 tall-sub-wide t c = cut-after (tall-parts t (c .before .before)) (tall-front t (c .before))
 
-tall-part-wide-start : (t : ℕ) → tall-lts.Need-part-wide-start (
-  square-reads.Asked,
-  square-reads.Learnt,
-  tall-below t,
-  tall.Post,
-  wide-below t,
-  wide.Post,
-  merge-reads.Asked,
-  merge-reads.Learnt,
-) (tall-at t) tall.Post
+tall-part-wide-start : (t : ℕ) → tall-lts.Need-part-wide-start (tall-calls t) (tall-at t) tall.Post
 tall-part-wide-start t c = cut-after (tall-parts t (c .before .before)) (tall-front t (c .before))
 
-tall-part-wide-end : (t : ℕ) → tall-lts.Need-part-wide-end (
-  square-reads.Asked,
-  square-reads.Learnt,
-  tall-below t,
-  tall.Post,
-  wide-below t,
-  wide.Post,
-  merge-reads.Asked,
-  merge-reads.Learnt,
-) (tall-at t) tall.Post
+tall-part-wide-end : (t : ℕ) → tall-lts.Need-part-wide-end (tall-calls t) (tall-at t) tall.Post
 tall-part-wide-end t c = search needs
 
-tall-wide-requires-2 : (t : ℕ) → tall-lts.Need-wide-requires-2 (
-  square-reads.Asked,
-  square-reads.Learnt,
-  tall-below t,
-  tall.Post,
-  wide-below t,
-  wide.Post,
-  merge-reads.Asked,
-  merge-reads.Learnt,
-) (tall-at t) tall.Post
+tall-wide-requires-2 : (t : ℕ) → tall-lts.Need-wide-requires-2 (tall-calls t) (tall-at t) tall.Post
 tall-wide-requires-2 t c κs =
     let p = tall-parts t (c .before .before .before) in
     let f = tall-front t (c .before .before) in
     (omega (arith, high-falls p f, c .before .before .before .before .before .pre .0), (high-block p f, omega arith))
 
-tall-merge-requires : (t : ℕ) → tall-lts.Need-merge-requires (
-  square-reads.Asked,
-  square-reads.Learnt,
-  tall-below t,
-  tall.Post,
-  wide-below t,
-  wide.Post,
-  merge-reads.Asked,
-  merge-reads.Learnt,
-) (tall-at t) tall.Post
+tall-merge-requires : (t : ℕ) → tall-lts.Need-merge-requires (tall-calls t) (tall-at t) tall.Post
 tall-merge-requires t c κs = merge-runs (c .before .before .before .before .before .pre .1 .0) (omega arith) (tall-both t (c .before))
 
-tall-same-length-2 : (t : ℕ) → tall-lts.Need-same-length-2 (
-  square-reads.Asked,
-  square-reads.Learnt,
-  tall-below t,
-  tall.Post,
-  wide-below t,
-  wide.Post,
-  merge-reads.Asked,
-  merge-reads.Learnt,
-) (tall-at t) tall.Post
+tall-same-length-2 : (t : ℕ) → tall-lts.Need-same-length-2 (tall-calls t) (tall-at t) tall.Post
 tall-same-length-2 t c = c .before .before .merge .kept .0 ∙ tall-both t (c .before .before .before .before) .same
 
-tall-returns-2 : (t : ℕ) → tall-lts.Need-returns-2 (
-  square-reads.Asked,
-  square-reads.Learnt,
-  tall-below t,
-  tall.Post,
-  wide-below t,
-  wide.Post,
-  merge-reads.Asked,
-  merge-reads.Learnt,
-) (tall-at t) tall.Post
+tall-returns-2 : (t : ℕ) → tall-lts.Need-returns-2 (tall-calls t) (tall-at t) tall.Post
 tall-returns-2 t c = tall-turned (c .before .before .before .before .before .before .before .before .pre .1 .0) (omega arith) (tall-both t (c .before .before .before .before)) (c .before .before .merge .ensures)
 
 -- the block is split and its columns are cut
-wide-parts : (t : ℕ) (x : wide-lts.After-slice-known3 (square-reads.Asked, square-reads.Learnt, split-reads.Asked, split-reads.Learnt, wide-below t, wide.Post, tall-below t, tall.Post) (wide-at t) wide.Post)
+wide-parts : (t : ℕ) (x : wide-lts.After-slice-known3 (wide-calls t) (wide-at t) wide.Post)
     → Parted (x .before .before .before .before .before .before .args .m * (x .before .before .before .before .before .before .args .n / 2)) (x .before .before .before .before .before .before .args .m) (x .before .before .before .before .before .before .args .n / 2)
     (x .before .before .before .before .before .before .args .m) (x .before .before .before .before .before .before .args .n - x .before .before .before .before .before .before .args .n / 2) (x .before .before .split .last .0)
 wide-parts t x = columns-cut (split-block (x .before .before .before .before .before .before .pre .1 .0) (omega arith) (x .before .before .split .ensures)) (omega arith)
 
 -- the first part is back
-wide-front : (t : ℕ) (x : wide-lts.Joined2 (square-reads.Asked, square-reads.Learnt, split-reads.Asked, split-reads.Learnt, wide-below t, wide.Post, tall-below t, tall.Post) (wide-at t) wide.Post)
+wide-front : (t : ℕ) (x : wide-lts.Joined2 (wide-calls t) (wide-at t) wide.Post)
     → Front (x .before .before .before .before .before .before .before .args .m * (x .before .before .before .before .before .before .before .args .n / 2)) (x .before .before .before .before .before .before .before .args .m) (x .before .before .before .before .before .before .before .args .n / 2) (x .before .before .before .split .last .0) (x .if2 .s)
 wide-front t x = ⊎-elim
     (λ w. record { part = w .2 .last .0; turn = w .2 .ensures; back = w .5 })
     (λ w. record { part = w .2 .last .0; turn = w .2 .ensures; back = w .5 })
     (x .if2 .came)
 
-wide-square-requires : (t : ℕ) → wide-lts.Need-square-requires (
-  square-reads.Asked,
-  square-reads.Learnt,
-  split-reads.Asked,
-  split-reads.Learnt,
-  wide-below t,
-  wide.Post,
-  tall-below t,
-  tall.Post,
-) (wide-at t) wide.Post
+wide-square-requires : (t : ℕ) → wide-lts.Need-square-requires (wide-calls t) (wide-at t) wide.Post
 wide-square-requires t c κs = let x = c .before .before .before in let e : x .args .m ≡ x .args .n = omega arith in x .pre .1 .0 .fill ∙ ap (λ (m : ℕ). m * x .args .n) e
 
-wide-same-length : (t : ℕ) → wide-lts.Need-same-length (
-  square-reads.Asked,
-  square-reads.Learnt,
-  split-reads.Asked,
-  split-reads.Learnt,
-  wide-below t,
-  wide.Post,
-  tall-below t,
-  tall.Post,
-) (wide-at t) wide.Post
+wide-same-length : (t : ℕ) → wide-lts.Need-same-length (wide-calls t) (wide-at t) wide.Post
 wide-same-length t c = search needs
 
-wide-returns : (t : ℕ) → wide-lts.Need-returns (
-  square-reads.Asked,
-  square-reads.Learnt,
-  split-reads.Asked,
-  split-reads.Learnt,
-  wide-below t,
-  wide.Post,
-  tall-below t,
-  tall.Post,
-) (wide-at t) wide.Post
+wide-returns : (t : ℕ) → wide-lts.Need-returns (wide-calls t) (wide-at t) wide.Post
 wide-returns t c =
     let x = c .before .before .before .before .before .before in
     let e : x .args .n ≡ x .args .m = omega arith in
     subst (λ (m : ℕ). Turn m (x .args .n) (x .args .s .now) (c .before .before .square .last .0)) e (c .before .before .square .ensures)
 
-wide-sub-g : (t : ℕ) → wide-lts.Need-sub-g (
-  square-reads.Asked,
-  square-reads.Learnt,
-  split-reads.Asked,
-  split-reads.Learnt,
-  wide-below t,
-  wide.Post,
-  tall-below t,
-  tall.Post,
-) (wide-at t) wide.Post
+wide-sub-g : (t : ℕ) → wide-lts.Need-sub-g (wide-calls t) (wide-at t) wide.Post
 wide-sub-g t c = search needs
 
-wide-mul-cut : (t : ℕ) → wide-lts.Need-mul-cut (
-  square-reads.Asked,
-  square-reads.Learnt,
-  split-reads.Asked,
-  split-reads.Learnt,
-  wide-below t,
-  wide.Post,
-  tall-below t,
-  tall.Post,
-) (wide-at t) wide.Post
+wide-mul-cut : (t : ℕ) → wide-lts.Need-mul-cut (wide-calls t) (wide-at t) wide.Post
 wide-mul-cut t c = omega (arith, cut-within (columns-cut (c .before .before .pre .1 .0) (omega arith)))
 
-wide-split-requires : (t : ℕ) → wide-lts.Need-split-requires (
-  square-reads.Asked,
-  square-reads.Learnt,
-  split-reads.Asked,
-  split-reads.Learnt,
-  wide-below t,
-  wide.Post,
-  tall-below t,
-  tall.Post,
-) (wide-at t) wide.Post
+wide-split-requires : (t : ℕ) → wide-lts.Need-split-requires (wide-calls t) (wide-at t) wide.Post
 wide-split-requires t c κs = split-runs (c .before .before .before .pre .1 .0) (omega arith)
 
-wide-slice-relend-prefix-wide : (t : ℕ) → wide-lts.Need-slice-relend-prefix-wide (
-  square-reads.Asked,
-  square-reads.Learnt,
-  split-reads.Asked,
-  split-reads.Learnt,
-  wide-below t,
-  wide.Post,
-  tall-below t,
-  tall.Post,
-) (wide-at t) wide.Post
+wide-slice-relend-prefix-wide : (t : ℕ) → wide-lts.Need-slice-relend-prefix-wide (wide-calls t) (wide-at t) wide.Post
 wide-slice-relend-prefix-wide t c = cut-within (wide-parts t (c .before))
 
-wide-slice-aggregate-wide : (t : ℕ) → wide-lts.Need-slice-aggregate-wide (
-  square-reads.Asked,
-  square-reads.Learnt,
-  split-reads.Asked,
-  split-reads.Learnt,
-  wide-below t,
-  wide.Post,
-  tall-below t,
-  tall.Post,
-) (wide-at t) wide.Post
+wide-slice-aggregate-wide : (t : ℕ) → wide-lts.Need-slice-aggregate-wide (wide-calls t) (wide-at t) wide.Post
 wide-slice-aggregate-wide t c = low-long (wide-parts t (c .before .before))
 
-wide-wide-requires : (t : ℕ) → wide-lts.Need-wide-requires (
-  square-reads.Asked,
-  square-reads.Learnt,
-  split-reads.Asked,
-  split-reads.Learnt,
-  wide-below t,
-  wide.Post,
-  tall-below t,
-  tall.Post,
-) (wide-at t) wide.Post
+wide-wide-requires : (t : ℕ) → wide-lts.Need-wide-requires (wide-calls t) (wide-at t) wide.Post
 wide-wide-requires t c κs =
     let p = wide-parts t (c .before .before) in
     (omega (arith, low-falls p, c .before .before .before .before .split .ensures .same, c .before .before .before .before .before .before .before .before .pre .0), (low-block p, omega arith))
 
-wide-slice-relend-prefix-tall : (t : ℕ) → wide-lts.Need-slice-relend-prefix-tall (
-  square-reads.Asked,
-  square-reads.Learnt,
-  split-reads.Asked,
-  split-reads.Learnt,
-  wide-below t,
-  wide.Post,
-  tall-below t,
-  tall.Post,
-) (wide-at t) wide.Post
+wide-slice-relend-prefix-tall : (t : ℕ) → wide-lts.Need-slice-relend-prefix-tall (wide-calls t) (wide-at t) wide.Post
 wide-slice-relend-prefix-tall t c = cut-within (wide-parts t (c .before))
 
-wide-slice-aggregate-tall : (t : ℕ) → wide-lts.Need-slice-aggregate-tall (
-  square-reads.Asked,
-  square-reads.Learnt,
-  split-reads.Asked,
-  split-reads.Learnt,
-  wide-below t,
-  wide.Post,
-  tall-below t,
-  tall.Post,
-) (wide-at t) wide.Post
+wide-slice-aggregate-tall : (t : ℕ) → wide-lts.Need-slice-aggregate-tall (wide-calls t) (wide-at t) wide.Post
 wide-slice-aggregate-tall t c = low-long (wide-parts t (c .before .before))
 
-wide-tall-requires : (t : ℕ) → wide-lts.Need-tall-requires (
-  square-reads.Asked,
-  square-reads.Learnt,
-  split-reads.Asked,
-  split-reads.Learnt,
-  wide-below t,
-  wide.Post,
-  tall-below t,
-  tall.Post,
-) (wide-at t) wide.Post
+wide-tall-requires : (t : ℕ) → wide-lts.Need-tall-requires (wide-calls t) (wide-at t) wide.Post
 wide-tall-requires t c κs =
     let p = wide-parts t (c .before .before) in
     (omega (arith, low-falls p, c .before .before .before .before .split .ensures .same, c .before .before .before .before .before .before .before .before .pre .0), (low-block p, omega arith))
 
-wide-mul-wide : (t : ℕ) → wide-lts.Need-mul-wide (
-  square-reads.Asked,
-  square-reads.Learnt,
-  split-reads.Asked,
-  split-reads.Learnt,
-  wide-below t,
-  wide.Post,
-  tall-below t,
-  tall.Post,
-) (wide-at t) wide.Post
+wide-mul-wide : (t : ℕ) → wide-lts.Need-mul-wide (wide-calls t) (wide-at t) wide.Post
 wide-mul-wide t c = omega (arith, cut-within (wide-parts t (c .before .before)))
 
-wide-sub-wide : (t : ℕ) → wide-lts.Need-sub-wide (
-  square-reads.Asked,
-  square-reads.Learnt,
-  split-reads.Asked,
-  split-reads.Learnt,
-  wide-below t,
-  wide.Post,
-  tall-below t,
-  tall.Post,
-) (wide-at t) wide.Post
+wide-sub-wide : (t : ℕ) → wide-lts.Need-sub-wide (wide-calls t) (wide-at t) wide.Post
 wide-sub-wide t c = cut-after (wide-parts t (c .before .before)) (wide-front t (c .before))
 
-wide-part-wide-start : (t : ℕ) → wide-lts.Need-part-wide-start (
-  square-reads.Asked,
-  square-reads.Learnt,
-  split-reads.Asked,
-  split-reads.Learnt,
-  wide-below t,
-  wide.Post,
-  tall-below t,
-  tall.Post,
-) (wide-at t) wide.Post
+wide-part-wide-start : (t : ℕ) → wide-lts.Need-part-wide-start (wide-calls t) (wide-at t) wide.Post
 wide-part-wide-start t c = cut-after (wide-parts t (c .before .before)) (wide-front t (c .before))
 
-wide-part-wide-end : (t : ℕ) → wide-lts.Need-part-wide-end (
-  square-reads.Asked,
-  square-reads.Learnt,
-  split-reads.Asked,
-  split-reads.Learnt,
-  wide-below t,
-  wide.Post,
-  tall-below t,
-  tall.Post,
-) (wide-at t) wide.Post
+wide-part-wide-end : (t : ℕ) → wide-lts.Need-part-wide-end (wide-calls t) (wide-at t) wide.Post
 wide-part-wide-end t c = search needs
 
-wide-wide-requires-2 : (t : ℕ) → wide-lts.Need-wide-requires-2 (
-  square-reads.Asked,
-  square-reads.Learnt,
-  split-reads.Asked,
-  split-reads.Learnt,
-  wide-below t,
-  wide.Post,
-  tall-below t,
-  tall.Post,
-) (wide-at t) wide.Post
+wide-wide-requires-2 : (t : ℕ) → wide-lts.Need-wide-requires-2 (wide-calls t) (wide-at t) wide.Post
 wide-wide-requires-2 t c κs =
     let p = wide-parts t (c .before .before .before) in
     let f = wide-front t (c .before .before) in
     (omega (arith, high-falls p f, c .before .before .before .before .before .split .ensures .same, c .before .before .before .before .before .before .before .before .before .pre .0), (high-block p f, omega arith))
 
-wide-mul-tall : (t : ℕ) → wide-lts.Need-mul-tall (
-  square-reads.Asked,
-  square-reads.Learnt,
-  split-reads.Asked,
-  split-reads.Learnt,
-  wide-below t,
-  wide.Post,
-  tall-below t,
-  tall.Post,
-) (wide-at t) wide.Post
+wide-mul-tall : (t : ℕ) → wide-lts.Need-mul-tall (wide-calls t) (wide-at t) wide.Post
 wide-mul-tall t c = omega (arith, cut-within (wide-parts t (c .before .before)))
 
-wide-sub-tall : (t : ℕ) → wide-lts.Need-sub-tall (
-  square-reads.Asked,
-  square-reads.Learnt,
-  split-reads.Asked,
-  split-reads.Learnt,
-  wide-below t,
-  wide.Post,
-  tall-below t,
-  tall.Post,
-) (wide-at t) wide.Post
+wide-sub-tall : (t : ℕ) → wide-lts.Need-sub-tall (wide-calls t) (wide-at t) wide.Post
 wide-sub-tall t c = cut-after (wide-parts t (c .before .before)) (wide-front t (c .before))
 
-wide-part-tall-start : (t : ℕ) → wide-lts.Need-part-tall-start (
-  square-reads.Asked,
-  square-reads.Learnt,
-  split-reads.Asked,
-  split-reads.Learnt,
-  wide-below t,
-  wide.Post,
-  tall-below t,
-  tall.Post,
-) (wide-at t) wide.Post
+wide-part-tall-start : (t : ℕ) → wide-lts.Need-part-tall-start (wide-calls t) (wide-at t) wide.Post
 wide-part-tall-start t c = cut-after (wide-parts t (c .before .before)) (wide-front t (c .before))
 
-wide-part-tall-end : (t : ℕ) → wide-lts.Need-part-tall-end (
-  square-reads.Asked,
-  square-reads.Learnt,
-  split-reads.Asked,
-  split-reads.Learnt,
-  wide-below t,
-  wide.Post,
-  tall-below t,
-  tall.Post,
-) (wide-at t) wide.Post
+wide-part-tall-end : (t : ℕ) → wide-lts.Need-part-tall-end (wide-calls t) (wide-at t) wide.Post
 wide-part-tall-end t c = search needs
 
-wide-tall-requires-2 : (t : ℕ) → wide-lts.Need-tall-requires-2 (
-  square-reads.Asked,
-  square-reads.Learnt,
-  split-reads.Asked,
-  split-reads.Learnt,
-  wide-below t,
-  wide.Post,
-  tall-below t,
-  tall.Post,
-) (wide-at t) wide.Post
+wide-tall-requires-2 : (t : ℕ) → wide-lts.Need-tall-requires-2 (wide-calls t) (wide-at t) wide.Post
 wide-tall-requires-2 t c κs =
     let p = wide-parts t (c .before .before .before) in
     let f = wide-front t (c .before .before) in
     (omega (arith, high-falls p f, c .before .before .before .before .before .split .ensures .same, c .before .before .before .before .before .before .before .before .before .pre .0), (high-block p f, omega arith))
 
-wide-same-length-2 : (t : ℕ) → wide-lts.Need-same-length-2 (
-  square-reads.Asked,
-  square-reads.Learnt,
-  split-reads.Asked,
-  split-reads.Learnt,
-  wide-below t,
-  wide.Post,
-  tall-below t,
-  tall.Post,
-) (wide-at t) wide.Post
+wide-same-length-2 : (t : ℕ) → wide-lts.Need-same-length-2 (wide-calls t) (wide-at t) wide.Post
 wide-same-length-2 t c =
     let both = both-back (wide-parts t (c .before .before .before .before .before .before)) (wide-front t (c .before .before .before .before .before)) (record { part = c .before .before .wide2 .last .0; turn = c .before .before .wide2 .ensures; back = refl }) in
     both .same ∙ sym (c .before .before .before .before .before .before .before .before .split .ensures .same)
 
-wide-returns-2 : (t : ℕ) → wide-lts.Need-returns-2 (
-  square-reads.Asked,
-  square-reads.Learnt,
-  split-reads.Asked,
-  split-reads.Learnt,
-  wide-below t,
-  wide.Post,
-  tall-below t,
-  tall.Post,
-) (wide-at t) wide.Post
+wide-returns-2 : (t : ℕ) → wide-lts.Need-returns-2 (wide-calls t) (wide-at t) wide.Post
 wide-returns-2 t c =
     let both = both-back (wide-parts t (c .before .before .before .before .before .before)) (wide-front t (c .before .before .before .before .before)) (record { part = c .before .before .wide2 .last .0; turn = c .before .before .wide2 .ensures; back = refl }) in
     wide-turned (c .before .before .before .before .before .before .before .before .before .before .before .before .pre .1 .0) (omega arith) (c .before .before .before .before .before .before .before .before .split .ensures) both
 
-wide-same-length-3 : (t : ℕ) → wide-lts.Need-same-length-3 (
-  square-reads.Asked,
-  square-reads.Learnt,
-  split-reads.Asked,
-  split-reads.Learnt,
-  wide-below t,
-  wide.Post,
-  tall-below t,
-  tall.Post,
-) (wide-at t) wide.Post
+wide-same-length-3 : (t : ℕ) → wide-lts.Need-same-length-3 (wide-calls t) (wide-at t) wide.Post
 wide-same-length-3 t c =
     let both = both-back (wide-parts t (c .before .before .before .before .before .before)) (wide-front t (c .before .before .before .before .before)) (record { part = c .before .before .tall2 .last .0; turn = c .before .before .tall2 .ensures; back = refl }) in
     both .same ∙ sym (c .before .before .before .before .before .before .before .before .split .ensures .same)
 
-wide-returns-3 : (t : ℕ) → wide-lts.Need-returns-3 (
-  square-reads.Asked,
-  square-reads.Learnt,
-  split-reads.Asked,
-  split-reads.Learnt,
-  wide-below t,
-  wide.Post,
-  tall-below t,
-  tall.Post,
-) (wide-at t) wide.Post
+wide-returns-3 : (t : ℕ) → wide-lts.Need-returns-3 (wide-calls t) (wide-at t) wide.Post
 wide-returns-3 t c =
     let both = both-back (wide-parts t (c .before .before .before .before .before .before)) (wide-front t (c .before .before .before .before .before)) (record { part = c .before .before .tall2 .last .0; turn = c .before .before .tall2 .ensures; back = refl }) in
     wide-turned (c .before .before .before .before .before .before .before .before .before .before .before .before .pre .1 .0) (omega arith) (c .before .before .before .before .before .before .before .before .split .ensures) both
 
 pub +tall+wide-spec : {M : Type 1} → statement M
-+tall+wide-spec = close μ-tall μ-wide (λ t. tall-lts.spec (
-  square-reads.Asked,
-  square-reads.Learnt,
-  tall-below t,
-  tall.Post,
-  wide-below t,
-  wide.Post,
-  merge-reads.Asked,
-  merge-reads.Learnt,
-)
++tall+wide-spec = close μ-tall μ-wide (λ t. tall-lts.spec (tall-calls t)
     (tall-at t)
     tall.Post
     (tall-square-requires t)
@@ -748,16 +297,7 @@ pub +tall+wide-spec : {M : Type 1} → statement M
     (tall-merge-requires t)
     (tall-same-length-2 t)
     (tall-returns-2 t))
-    λ t. wide-lts.spec (
-      square-reads.Asked,
-      square-reads.Learnt,
-      split-reads.Asked,
-      split-reads.Learnt,
-      wide-below t,
-      wide.Post,
-      tall-below t,
-      tall.Post,
-    )
+    λ t. wide-lts.spec (wide-calls t)
     (wide-at t)
     wide.Post
     (wide-square-requires t)
