@@ -1,0 +1,5 @@
+pub mod Rows
+pub mod Front
+pub mod Ranges
+pub mod Orders
+pub mod Swaps
