@@ -67,9 +67,10 @@ pub gcd-step : (m n : ℕ) → gcdOf n (m % n) ≡ gcdOf m n
 gcd-step m n =
     let g = gcd-is n (m % n) in
     gcd-one {m = m} {n = n} (record {
-        left = dvd-mod-iff (gcdOf n (m % n)) (g .left) .0 (g .right);
-        right = g .left;
-        greatest = λ d p q. g .greatest d q (dvd-mod-iff d q .1 p) }) (gcd-is m n)
+      left = dvd-mod-iff (gcdOf n (m % n)) (g .left) .0 (g .right);
+      right = g .left;
+      greatest = λ d p q. g .greatest d q (dvd-mod-iff d q .1 p);
+    }) (gcd-is m n)
 
 pub gcd-end : (m : ℕ) → gcdOf m 0 ≡ m
 unfolding gcdOf euclid

@@ -84,3 +84,8 @@ pub record Returned (l : Line) (scratch xs ys : List ℕ) : Type 0 where
   pub same : length ys ≡ length xs
   pub placed : (k : ℕ) → k < l .count → getD ys (posOn l k) 0 ≡ getD scratch k 0
   pub others : (p : ℕ) → ((k : ℕ) → k < l .count → posOn l k ≡ p → ⊥) → getD ys p 0 ≡ getD xs p 0
+
+-- scratch past its first n words is as it was
+pub record Past (n : ℕ) (before after : List ℕ) : Type 0 where
+  pub same : length after ≡ length before
+  pub rest : (k : ℕ) → n ≤ k → getD after k 0 ≡ getD before k 0

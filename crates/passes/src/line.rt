@@ -1,8 +1,8 @@
 // Lines: one row or column of a block, moved through scratch.
 ghost use mathlib.Core.Path.{_≡_};
 ghost use Prim.Native.Nat.{ℕ, _+_, _*_, _<_, _≤_};
-ghost use lib.ListN.{length, getD};
-ghost use Rattle.passes.specs.Lines.{Sound, Fits, Held, Returned, paired, lineOf, LineMoved};
+ghost use lib.ListN.{length};
+ghost use Rattle.passes.specs.Lines.{Sound, Fits, Held, Returned, Past, paired, toPlace, fromPlace, LineMoved};
 
 // The sides m and n, and their quotients a and b by their greatest common divisor.
 pub(crate) struct Sides {
@@ -73,30 +73,44 @@ fn put_back(buf: &mut [u32], scratch: &[u32], l: Line)
     }
 }
 
-// The line moves as its pass says.
-pub(crate) fn forth(buf: &mut [u32], scratch: &mut [u32], s: Sides, l: Line)
+// Scratch receives the line as its pass leaves it.
+fn lift(buf: &[u32], scratch: &mut [u32], s: Sides, l: Line)
     requires { ⌜ Sound s × Fits (s .m) (s .n) l (now buf) (now scratch) ⌝ }
-    ensures { λ _. ⌜ LineMoved (s .m) (s .n) l (now (buf .entry)) (now (buf .exit)) ⌝ }
-    ensures { λ _. ⌜ (k : ℕ) → l .count ≤ k → getD (now (scratch .exit)) k 0 ≡ getD (now (scratch .entry)) k 0 ⌝ }
+    ensures { λ _. ⌜ Held l (toPlace (s .m) (s .n) l) (fromPlace (s .m) (s .n) l) (now (buf .entry)) (now (scratch .entry)) (now (scratch .exit)) ⌝ }
 {
     if l.pass == 2 {
         scatter(buf, scratch, s, l);
-    } else {
-        gather(buf, scratch, s, l);
+        return;
     }
+    gather(buf, scratch, s, l);
+}
+
+// Scratch receives the line as its pass found it.
+fn lift_home(buf: &[u32], scratch: &mut [u32], s: Sides, l: Line)
+    requires { ⌜ Sound s × Fits (s .m) (s .n) l (now buf) (now scratch) ⌝ }
+    ensures { λ _. ⌜ Held l (fromPlace (s .m) (s .n) l) (toPlace (s .m) (s .n) l) (now (buf .entry)) (now (scratch .entry)) (now (scratch .exit)) ⌝ }
+{
+    if l.pass == 2 {
+        gather(buf, scratch, s, l);
+        return;
+    }
+    scatter(buf, scratch, s, l);
+}
+
+// The line moves as its pass says.
+pub(crate) fn forth(buf: &mut [u32], scratch: &mut [u32], s: Sides, l: Line)
+    requires { ⌜ Sound s × Fits (s .m) (s .n) l (now buf) (now scratch) ⌝ }
+    ensures { λ _. ⌜ LineMoved (s .m) (s .n) l (now (buf .entry)) (now (buf .exit)) × Past (l .count) (now (scratch .entry)) (now (scratch .exit)) ⌝ }
+{
+    lift(buf, scratch, s, l);
     put_back(buf, scratch, l);
 }
 
 // The line moves back to where its pass found it.
 pub(crate) fn back(buf: &mut [u32], scratch: &mut [u32], s: Sides, l: Line)
     requires { ⌜ Sound s × Fits (s .m) (s .n) l (now buf) (now scratch) ⌝ }
-    ensures { λ _. ⌜ LineMoved (s .m) (s .n) l (now (buf .exit)) (now (buf .entry)) ⌝ }
-    ensures { λ _. ⌜ (k : ℕ) → l .count ≤ k → getD (now (scratch .exit)) k 0 ≡ getD (now (scratch .entry)) k 0 ⌝ }
+    ensures { λ _. ⌜ LineMoved (s .m) (s .n) l (now (buf .exit)) (now (buf .entry)) × Past (l .count) (now (scratch .entry)) (now (scratch .exit)) ⌝ }
 {
-    if l.pass == 2 {
-        gather(buf, scratch, s, l);
-    } else {
-        scatter(buf, scratch, s, l);
-    }
+    lift_home(buf, scratch, s, l);
     put_back(buf, scratch, l);
 }

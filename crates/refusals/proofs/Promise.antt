@@ -8,8 +8,8 @@ use Rattle.refusals.specs.FirstOf.{Check}
 use Rattle.refusals.specs.Promise.{Rearranged}
 
 module _ {checks : List Check} {needed : ℕ} {Right : List ℕ → Type 0} {buffer₀ scratch₀ : List ℕ} (one : (ys zs : List ℕ) → Right ys → Right zs → ys ≡ zs)
-  {r r′ : ℕ} {buffer buffer′ scratch scratch′ : List ℕ}
-  (p : Rearranged checks needed Right buffer₀ scratch₀ r buffer scratch) (q : Rearranged checks needed Right buffer₀ scratch₀ r′ buffer′ scratch′) where
+    {r r′ : ℕ} {buffer buffer′ scratch scratch′ : List ℕ}
+    (p : Rearranged checks needed Right buffer₀ scratch₀ r buffer scratch) (q : Rearranged checks needed Right buffer₀ scratch₀ r′ buffer′ scratch′) where
   one-number : r ≡ r′
   one-number = p .number-is ∙ sym (q .number-is)
 

@@ -6,19 +6,26 @@ use native.Mathlib.Omega.{arith}
 use borrow.Author.Needs.{needs}
 use borrow.Author.Tests.{eq-eqb, ne-eqb}
 use Rattle.flat.specs.Passes.{row1, column2, row3}
-use Rattle.flat.proofs.Sides.{Sides, sides-are}
+use Rattle.flat.proofs.Sides.{sides-are}
+use Rattle.passes.specs.Lines.{Sound}
 use Rattle.passes.proofs.line.paired_place.Statement.{statement}
 use Rattle.passes.proofs.line.paired_place.Tie as tie
-use Rattle.passes.proofs.line.paired_place.Reads as reads
-use Rattle.passes.proofs.line.paired_place.Lts as lts
+use Rattle.passes.specs.declared.line.Sides.{Sides}
+
+-- the groups of sound sides are not empty
+a-pos : {s : Sides} → Sound s → 0 < s .a
+a-pos {s} h = rw (h .a-is) (sides-are (s .m) (s .n) (h .m-pos) (h .n-pos) .a-pos)
+
+b-pos : {s : Sides} → Sound s → 0 < s .b
+b-pos {s} h = rw (h .b-is) (sides-are (s .m) (s .n) (h .m-pos) (h .n-pos) .b-pos)
 
 -- src/line.rt:30:21
 div-result : tie.Need-div-result
-div-result c = ?
+div-result c = b-pos (c .before .before .pre .0)
 
 -- src/line.rt:30:17
 add-result : tie.Need-add-result
-add-result c = ?
+add-result c = let x = c .before .before in omega (arith, div-le-self (x .args .index) (x .args .s .b))
 
 -- src/line.rt:30:16
 rem-result : tie.Need-rem-result
@@ -26,15 +33,16 @@ rem-result c = search needs
 
 -- src/line.rt:30:9
 returns : tie.Need-returns
-returns c = ?
+unfolding row1
+returns c = let x = c .before .before .before in simp (eq-eqb _ _ (c .before .before .if1 .taken)) (rw (x .pre .0 .b-is))
 
 -- src/line.rt:33:26
 div-result-2 : tie.Need-div-result-2
-div-result-2 c = ?
+div-result-2 c = b-pos (c .before .before .before .pre .0)
 
 -- src/line.rt:33:18
 add-result-2 : tie.Need-add-result-2
-add-result-2 c = ?
+add-result-2 c = let x = c .before .before .before in omega (arith, div-le-self (x .args .k) (x .args .s .b))
 
 -- src/line.rt:33:17
 rem-result-2 : tie.Need-rem-result-2
@@ -42,11 +50,11 @@ rem-result-2 c = search needs
 
 -- src/line.rt:33:43
 mul-result : tie.Need-mul-result
-mul-result c = ?
+mul-result c = let x = c .before .before .before .before .before in omega (arith, mul-le-mul (x .pre .2) (x .pre .0 .m-few))
 
 -- src/line.rt:33:17
 add-result-3 : tie.Need-add-result-3
-add-result-3 c = ?
+add-result-3 c = let x = c .before .before .before .before .before in omega (arith, mul-le-mul (x .pre .2) (x .pre .0 .m-few), mod-lt (x .args .index + x .args .k / x .args .s .b) (x .pre .0 .m-pos))
 
 -- src/line.rt:33:16
 rem-result-3 : tie.Need-rem-result-3
@@ -54,23 +62,26 @@ rem-result-3 c = search needs
 
 -- src/line.rt:33:9
 returns-2 : tie.Need-returns-2
-returns-2 c = ?
+unfolding column2
+returns-2 c =
+    let x = c .before .before .before .before .before .before in
+    simp (ne-eqb _ _ (c .before .before .before .before .before .if1 .left), eq-eqb _ _ (c .before .before .before .before .if2 .taken)) (rw (x .pre .0 .b-is))
 
 -- src/line.rt:35:14
 mul-result-2 : tie.Need-mul-result-2
-mul-result-2 c = ?
+mul-result-2 c = let x = c .before .before .before in omega (arith, mul-le-mul (x .pre .2) (x .pre .0 .n-few))
 
 -- src/line.rt:35:6
 add-result-4 : tie.Need-add-result-4
-add-result-4 c = ?
+add-result-4 c = let x = c .before .before .before in omega (arith, mul-le-mul (x .pre .2) (x .pre .0 .n-few))
 
 -- src/line.rt:35:24
 div-result-3 : tie.Need-div-result-3
-div-result-3 c = ?
+div-result-3 c = a-pos (c .before .before .before .before .pre .0)
 
 -- src/line.rt:35:6
 sub-result : tie.Need-sub-result
-sub-result c = ?
+sub-result c = let x = c .before .before .before .before in omega (arith, div-le-self (x .args .k) (x .args .s .a), le-mul-of-pos-right (x .args .k) (x .pre .0 .n-pos))
 
 -- src/line.rt:35:5
 rem-result-4 : tie.Need-rem-result-4
@@ -78,7 +89,10 @@ rem-result-4 c = search needs
 
 -- src/line.rt:25:1
 returns-3 : tie.Need-returns-3
-returns-3 c = ?
+unfolding row3
+returns-3 c =
+    let x = c .before .before .before .before .before in
+    simp (ne-eqb _ _ (c .before .before .before .before .if1 .left), ne-eqb _ _ (c .before .before .before .if2 .left)) (rw (x .pre .0 .a-is))
 
 pub paired-place-spec : {M : Type 1} → statement M
 paired-place-spec =

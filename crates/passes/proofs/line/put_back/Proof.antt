@@ -1,16 +1,32 @@
+-- `put_back` meets its contract: the line is filled place by place from scratch.
+use mathlib.Core.Path.{_≡_, refl, sym, ap, _∙_}
+use Prim.Native.Nat.{ℕ, _+_, _*_, _-_, _<_, _≤_}
+use native.Mathlib.Numerals.{add-one}
+use native.Mathlib.Nat.{eq-of-mul-eq-mul-left}
+use native.Mathlib.Omega.{arith}
 use borrow.Author.Needs.{needs}
+use lib.ListN.{length, getD}
+use Rattle.passes.specs.Lines.{posOn}
+use Rattle.passes.proofs.Filling.{Filling, filling-none, filling-more}
 use Rattle.passes.proofs.line.put_back.Statement.{statement}
 use Rattle.passes.proofs.line.put_back.Tie as tie
 use Rattle.passes.proofs.line.put_back.Reads as reads
 use Rattle.passes.proofs.line.put_back.Lts as lts
 
 abbrev Inv-loop : tie.InvT-loop
-Inv-loop buf₀ scratch start stride k₀ k-end buf k = ?
+Inv-loop buf₀ scratch start stride k₀ k-end buf k = (k ≤ k-end) × Filling (λ j. start + stride * j) (λ j. getD scratch j 0) k-end k buf₀ buf
 
 abbrev μ-loop : tie.MeasureT-loop
-μ-loop buf₀ scratch start stride k₀ k-end buf k = ?
+μ-loop buf₀ scratch start stride k₀ k-end buf k = k-end - k
 
--- src/line.rt:71:5
+-- the place that is written lies in the buffer
+inside : (c : tie.In-loop Inv-loop μ-loop) → posOn (c .before .before .args .l) (c .before .loop .k) < length (c .before .before .args .buf .now)
+inside c = c .before .before .pre .0 (c .before .loop .k) (c .loop-test .taken)
+
+-- no two places of a line are one
+apart : (start stride : ℕ) → 0 < stride → (i j : ℕ) → start + stride * i ≡ start + stride * j → i ≡ j
+apart start stride h i j e = eq-of-mul-eq-mul-left stride h i j (omega arith)
+
 loop-holds : tie.Need-loop-holds Inv-loop μ-loop
 loop-holds c = search needs
 
@@ -24,19 +40,19 @@ shared-slice-read-buf c = search needs
 
 -- src/line.rt:72:21
 mul-buf-2 : tie.Need-mul-buf-2 Inv-loop μ-loop
-mul-buf-2 c = search needs
+mul-buf-2 c = omega (arith, inside (c .before))
 
 -- src/line.rt:72:13
 add-buf : tie.Need-add-buf Inv-loop μ-loop
-add-buf c = search needs
+add-buf c = omega (arith, inside (c .before))
 
 -- src/line.rt:72:9
 mul-buf-3 : tie.Need-mul-buf-3 Inv-loop μ-loop
-mul-buf-3 c = search needs
+mul-buf-3 c = omega (arith, inside (c .before))
 
 -- src/line.rt:72:9
 slice-write-buf : tie.Need-slice-write-buf Inv-loop μ-loop
-slice-write-buf c = search needs
+slice-write-buf c = omega (arith, inside (c .before), c .before .before .loop .inv .1 .same)
 
 -- src/line.rt:71:9
 add-k : tie.Need-add-k Inv-loop μ-loop
@@ -48,7 +64,11 @@ loop-less c = search needs
 
 -- src/line.rt:71:5
 loop-again : tie.Need-loop-again Inv-loop μ-loop
-loop-again c = search needs
+loop-again c =
+    let x = c .before .before .before in
+    let l = c .before .before .loop in
+    let h = c .before .loop-test .taken in
+    (omega (arith, h), filling-more (λ i j _ _ e. apart (x .args .l .start) (x .args .l .stride) (x .pre .1) i j e) h (inside (c .before)) (l .inv .1))
 
 -- src/line.rt:65:1
 same-length : tie.Need-same-length Inv-loop μ-loop
@@ -56,7 +76,15 @@ same-length c = search needs
 
 -- src/line.rt:65:1
 returns : tie.Need-returns Inv-loop μ-loop
-returns c = search needs
+returns c =
+    let x = c .before .before in
+    let l = c .before .loop in
+    let e : l .k ≡ x .args .l .count = omega arith in
+    record {
+      same = l .inv .1 .same;
+      placed = λ k h. l .inv .1 .placed k (omega arith);
+      others = l .inv .1 .others;
+    }
 
 pub put-back-spec : {M : Type 1} → statement M
 put-back-spec =

@@ -1,0 +1,47 @@
+-- A line that scratch holds and that goes back to the buffer has moved; and which of gather and scatter a pass wants.
+use mathlib.Core.Path.{_≡_, refl, sym, ap, _∙_, subst}
+use mathlib.Core.Bool.{Bool, true, false}
+use mathlib.Core.List.{List}
+use Prim.Native.Nat.{ℕ, _<_, _≤_}
+use lib.Dec.{eqb}
+use lib.ListN.{length, getD}
+use Rattle.lists.specs.Choose.{choose}
+use Rattle.passes.specs.Lines.{Moved, Held, Returned, Fits, Past, posOn, paired, toPlace, fromPlace}
+use Rattle.passes.specs.declared.line.Line.{Line}
+
+-- the test of the pass decided, in what holds of the places that a line's words go to and come from
+pub decided : (F : (ℕ → ℕ) → (ℕ → ℕ) → Type 0) (p : ℕ → ℕ) {t b : Bool} → t ≡ b
+    → F (λ k. choose b (p k) k) (λ k. choose b k (p k)) → F (λ k. choose t (p k) k) (λ k. choose t k (p k))
+decided F p e f = subst (λ (t : Bool). F (λ k. choose t (p k) k) (λ k. choose t k (p k))) (sym e) f
+
+-- held, then returned: where the places that words go to are places of the line, the line has moved
+pub moved-through : {l : Line} {to from : ℕ → ℕ} {xs scratch held ys : List ℕ} → ((k : ℕ) → k < l .count → to k < l .count)
+    → Held l to from xs scratch held → Returned l held xs ys → Moved (l .count) (posOn l) to from xs ys
+moved-through {to = to} within h r = record {
+  same = r .same;
+  placed = λ k d. r .placed (to k) (within k d) ∙ h .placed k d;
+  others = r .others;
+}
+
+-- the same line, the other way round
+pub moved-home : {count : ℕ} {pos to from : ℕ → ℕ} {xs ys : List ℕ} → Moved count pos from to xs ys → Moved count pos to from ys xs
+moved-home m = record { same = sym (m .same); placed = λ k d. sym (m .placed k d); others = λ p h. sym (m .others p h) }
+
+pub held-past : {l : Line} {to from : ℕ → ℕ} {xs scratch held : List ℕ} → Held l to from xs scratch held → Past (l .count) scratch held
+held-past h = record { same = h .same; rest = h .rest }
+
+-- a word goes to a place of the line, and comes from one
+module _ {m n : ℕ} {l : Line} {xs scratch : List ℕ} (f : Fits m n l xs scratch) where
+  pub to-within : (k : ℕ) → k < l .count → toPlace m n l k < l .count
+  to-within k h = go (eqb (l .pass) 2)
+    where
+      go : (t : Bool) → choose t (paired m n (l .pass) (l .index) k) k < l .count
+      go true = f .within k h
+      go false = h
+
+  pub from-within : (k : ℕ) → k < l .count → fromPlace m n l k < l .count
+  from-within k h = go (eqb (l .pass) 2)
+    where
+      go : (t : Bool) → choose t k (paired m n (l .pass) (l .index) k) < l .count
+      go true = h
+      go false = f .within k h
