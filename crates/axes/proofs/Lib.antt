@@ -3,3 +3,4 @@ pub mod Front
 pub mod Ranges
 pub mod Orders
 pub mod Swaps
+pub mod Grouped
