@@ -1,6 +1,7 @@
 // Four axes: swaps, chains, orders by number and their plans.
 ghost use mathlib.Core.Path.{_≡_};
 ghost use Rattle.orders.specs.Chains.{exchange};
+ghost use Rattle.axes.specs.Promises.{PlanPromise};
 
 mod block;
 mod plans;
@@ -25,5 +26,49 @@ impl Shape {
         lens[k] = second;
         lens[k + 1] = first;
         Shape { lens: lens }
+    }
+}
+
+// What a call on a block answers: its number, its place, the four new lengths, the number of the new order, the swaps done.
+pub struct Answer {
+    pub number: u32,
+    pub place: usize,
+    pub lens: [usize; 4],
+    pub order: usize,
+    pub swaps: usize,
+}
+
+// A plan: its number, six swap places of which the first `len` are used, and their count.
+pub struct Planned {
+    pub number: u32,
+    pub swaps: [usize; 6],
+    pub len: usize,
+}
+
+// The shortest chain that names an order and, among the shortest, the first in dictionary order.
+pub fn plan(order: usize) -> Planned
+    ensures { λ r. ⌜ PlanPromise order r ⌝ }
+{
+    if order > 23 {
+        return Planned {
+            number: 7,
+            swaps: [0; 6],
+            len: 0,
+        };
+    }
+    let axes = tables::order_of(order);
+    let count = axes.falling_pairs();
+    if count > 6 {
+        return Planned {
+            number: 8,
+            swaps: [0; 6],
+            len: 0,
+        };
+    }
+    let swaps = axes.planned_swaps(count);
+    Planned {
+        number: 0,
+        swaps: swaps,
+        len: count,
     }
 }
