@@ -2,7 +2,7 @@
 -- an m by n block stands at base + chunk · (i·n + j) of the buffer. Assumes nothing: these are definitions.
 use mathlib.Core.Path.{_≡_}
 use mathlib.Core.List.{List}
-use Prim.Native.Nat.{ℕ, _+_, _*_, _-_, _<_, _≤_}
+use Prim.Native.Nat.{ℕ, _+_, _*_, _-_, _/_, _%_, _<_, _≤_}
 use lib.Dec.{ltb, eqb}
 use lib.ListN.{length, getD}
 use Rattle.lists.specs.Choose.{choose}
@@ -17,15 +17,6 @@ pub record Moved (count : ℕ) (pos to from : ℕ → ℕ) (xs ys : List ℕ) : 
   pub placed : (k : ℕ) → k < count → getD ys (pos (to k)) 0 ≡ getD xs (pos (from k)) 0
   pub others : (p : ℕ) → ((k : ℕ) → k < count → pos k ≡ p → ⊥) → getD ys p 0 ≡ getD xs p 0
 
--- sides from 1 to 4,096, with a = m / c and b = n / c for their greatest common divisor c
-pub record Sound (s : Sides) : Type 0 where
-  pub m-pos : 0 < s .m
-  pub n-pos : 0 < s .n
-  pub m-few : s .m ≤ 4096
-  pub n-few : s .n ≤ 4096
-  pub a-is : s .a ≡ rowGroup (s .m) (s .n)
-  pub b-is : s .b ≡ columnGroup (s .m) (s .n)
-
 -- the place with which pass p pairs place k of its line t: the row that row k receives from in passes 1 and 3, the column that column k goes to in pass 2
 abbrev pub paired : ℕ → ℕ → ℕ → ℕ → ℕ → ℕ
 paired m n p t k = choose (eqb p 1) (row1 m n k t) (choose (eqb p 2) (column2 m n t k) (row3 m n k t))
@@ -38,15 +29,33 @@ column m n base chunk p j = record { pass = p; index = j; start = base + chunk *
 abbrev pub row : ℕ → ℕ → ℕ → ℕ → Line
 row n base chunk i = record { pass = 2; index = i; start = base + chunk * (i * n); stride = chunk; count = n }
 
--- line t: the n columns of pass 1, then the m rows of pass 2, then the n columns of pass 3
-unfoldable pub lineOf : ℕ → ℕ → ℕ → ℕ → ℕ → Line
-lineOf m n base chunk t =
+-- line t where no pass is left out: the n columns of pass 1, then the m rows of pass 2, then the n columns of pass 3
+unfoldable pub lineAt : ℕ → ℕ → ℕ → ℕ → ℕ → Line
+lineAt m n base chunk t =
     choose (ltb t n) (column m n base chunk 1 t)
     (choose (ltb t (n + m)) (row n base chunk (t - n)) (column m n base chunk 3 (t - (n + m))))
 
--- the first line: where the sides share no factor, pass 1 is left out
-unfoldable pub firstLine : ℕ → ℕ → ℕ
-firstLine m n = choose (ltb 1 (gcdOf m n)) 0 n
+-- how many columns of pass 1 are left out: all of them where the sides share no factor
+unfoldable pub skipped : ℕ → ℕ → ℕ
+skipped m n = choose (ltb 1 (gcdOf m n)) 0 n
+
+-- sides from 1 to 4,096, with a = m / c and b = n / c for their greatest common divisor c
+pub record Sound (s : Sides) : Type 0 where
+  pub m-pos : 0 < s .m
+  pub n-pos : 0 < s .n
+  pub m-few : s .m ≤ 4096
+  pub n-few : s .n ≤ 4096
+  pub a-is : s .a ≡ rowGroup (s .m) (s .n)
+  pub b-is : s .b ≡ columnGroup (s .m) (s .n)
+  pub skipped-is : s .skipped ≡ skipped (s .m) (s .n)
+
+-- how many lines a turn has: n + m + n where the sides share a factor, m + n otherwise
+abbrev pub lineCount : ℕ → ℕ → ℕ
+lineCount m n = n + m + n - skipped m n
+
+-- line l of a turn, counted from 0
+abbrev pub lineOf : ℕ → ℕ → ℕ → ℕ → ℕ → Line
+lineOf m n base chunk l = lineAt m n base chunk (skipped m n + l)
 
 -- where the word of place k of a line stands
 abbrev pub posOn : Line → ℕ → ℕ
@@ -89,3 +98,16 @@ pub record Returned (l : Line) (scratch xs ys : List ℕ) : Type 0 where
 pub record Past (n : ℕ) (before after : List ℕ) : Type 0 where
   pub same : length after ≡ length before
   pub rest : (k : ℕ) → n ≤ k → getD after k 0 ≡ getD before k 0
+
+-- an m by n block lies in the buffer at base, its words `chunk` apart, and scratch has room for its longer side
+pub record Lies (m n base chunk : ℕ) (xs scratch : List ℕ) : Type 0 where
+  pub apart : 0 < chunk
+  pub inside : (p : ℕ) → p < m * n → base + chunk * p < length xs
+  pub rows : m ≤ length scratch
+  pub columns : n ≤ length scratch
+  pub near : base ≤ 1048576
+  pub close : chunk ≤ 1048576
+
+-- the block has been turned where it lies: the word of offset i·n + j stands at offset j·m + i, every other word of the buffer stands
+abbrev pub TurnedAt : ℕ → ℕ → ℕ → ℕ → List ℕ → List ℕ → Type 0
+TurnedAt m n base chunk xs ys = Moved (m * n) (λ p. base + chunk * p) (λ p. (p % n) * m + p / n) (λ p. p) xs ys

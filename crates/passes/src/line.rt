@@ -4,12 +4,13 @@ ghost use Prim.Native.Nat.{ℕ, _+_, _*_, _<_, _≤_};
 ghost use lib.ListN.{length};
 ghost use Rattle.passes.specs.Lines.{Sound, Fits, Held, Returned, Past, paired, toPlace, fromPlace, LineMoved};
 
-// The sides m and n, and their quotients a and b by their greatest common divisor.
+// The sides m and n, their quotients a and b by their greatest common divisor, and the columns of pass 1 that are left out.
 pub(crate) struct Sides {
     pub m: usize,
     pub n: usize,
     pub a: usize,
     pub b: usize,
+    pub skipped: usize,
 }
 
 // A line: its pass, its row or column, where its first word stands, how far apart its words stand, how many they are.

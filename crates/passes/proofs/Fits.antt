@@ -1,0 +1,98 @@
+-- Every line of a block that lies in the buffer fits: its words lie in the buffer, scratch holds it, and its pass pairs its
+-- places one to one (by the numbers of crate flat). And what a line leaves of scratch.
+use mathlib.Core.Path.{_≡_, refl, sym, ap, _∙_, subst}
+use mathlib.Core.List.{List, [], _∷_}
+use mathlib.Core.Logic.{⊎-elim}
+use Prim.Native.Nat.{ℕ, _+_, _*_, _-_, _<_, _≤_, max}
+use native.Mathlib.Omega.{arith}
+use native.Mathlib.Nat.{mul-pos, le-max-left, le-max-right, le-trans}
+use lib.ListN.{length, getD}
+use lib.Arith.{digits-lt}
+use Rattle.lists.proofs.Decide.{lt-or-ge}
+use Rattle.refusals.specs.Conditions.{longest}
+use Rattle.refusals.specs.Scratch.{need}
+use Rattle.flat.specs.Turn.{sides}
+use Rattle.flat.specs.Passes.{row1, column2, row3}
+use Rattle.flat.proofs.Sides.{sides-are, row1-lt, column2-lt, row3-lt, rows1-apart, columns-apart, rows3-apart}
+use Rattle.passes.specs.Lines.{column, row, lineAt, posOn, paired, Fits, Lies, Past}
+use Rattle.passes.specs.declared.line.Line.{Line}
+use Rattle.passes.proofs.Strided.{line1, line2, line3, column-at, row-at}
+
+module _ {m n base chunk : ℕ} {xs scratch : List ℕ} (hm : 0 < m) (hn : 0 < n) (fm : m ≤ 4096) (fn : n ≤ 4096) (y : Lies m n base chunk xs scratch) where
+  -- a column, whose pass pairs its rows by f
+  column-fits : (p j : ℕ) → j < n → ((k : ℕ) → k < m → paired m n p j k < m)
+      → ((i k : ℕ) → i < m → k < m → paired m n p j i ≡ paired m n p j k → i ≡ k) → Fits m n (column m n base chunk p j) xs scratch
+  column-fits p j h w a = record {
+    inside = λ k d. subst (λ (z : ℕ). z < length xs) (sym (column-at m n base chunk p j k)) (y .inside (k * n + j) (digits-lt d h));
+    step = mul-pos (y .apart) hn;
+    room = y .rows;
+    short = fm;
+    low = omega arith;
+    within = w;
+    apart = a;
+  }
+
+  row-fits : (i : ℕ) → i < m → Fits m n (row n base chunk i) xs scratch
+  row-fits i h = record {
+    inside = λ k d. subst (λ (z : ℕ). z < length xs) (sym (row-at m n base chunk i k)) (y .inside (i * n + k) (digits-lt h d));
+    step = y .apart;
+    room = y .columns;
+    short = fn;
+    low = omega arith;
+    within = λ k d. column2-lt m n i k hn;
+    apart = λ j k a b. columns-apart (sides-are m n hm hn) i j k a b;
+  }
+
+  pub line-fits : (t : ℕ) → t < n + m + n → Fits m n (lineAt m n base chunk t) xs scratch
+  line-fits t h =
+      let s = sides-are m n hm hn in
+      ⊎-elim
+      (λ (a : t < n).
+      subst (λ (l : Line). Fits m n l xs scratch) (sym (line1 m n base chunk t a))
+      (column-fits 1 t a (λ k d. row1-lt m n k t hm) (λ i k d e. rows1-apart s t i k d e)))
+      (λ (a : n ≤ t). ⊎-elim
+      (λ (b : t < n + m).
+      subst (λ (l : Line). Fits m n l xs scratch) (sym (line2 m n base chunk (t - n) (omega arith)) ∙ ap (lineAt m n base chunk) (omega arith)) (row-fits (t - n) (omega arith)))
+      (λ (b : n + m ≤ t).
+      let j = t - (n + m) in
+      let hj : j < n = omega arith in
+      subst (λ (l : Line). Fits m n l xs scratch) (sym (line3 m n base chunk j) ∙ ap (lineAt m n base chunk) (omega arith))
+      (column-fits 3 j hj (λ k d. row3-lt m n k j hm) (λ i k d e. rows3-apart s j i k hj d e)))
+      (lt-or-ge t (n + m)))
+      (lt-or-ge t n)
+
+-- a line is no longer than what the call needs of scratch
+pub side-need : (m n : ℕ) → (m ≤ need (sides m n)) × (n ≤ need (sides m n))
+unfolding longest
+side-need m n = (le-max-left m (max n 0), le-trans (le-max-left n 0) (le-max-right m (max n 0)))
+
+pub line-short : (m n base chunk t : ℕ) → t < n + m + n → lineAt m n base chunk t .count ≤ need (sides m n)
+line-short m n base chunk t h =
+    ⊎-elim
+    (λ (a : t < n). subst (λ (l : Line). l .count ≤ need (sides m n)) (sym (line1 m n base chunk t a)) (side-need m n .0))
+    (λ (a : n ≤ t). ⊎-elim
+    (λ (b : t < n + m).
+    subst (λ (l : Line). l .count ≤ need (sides m n)) (sym (line2 m n base chunk (t - n) (omega arith)) ∙ ap (lineAt m n base chunk) (omega arith)) (side-need m n .1))
+    (λ (b : n + m ≤ t).
+    subst (λ (l : Line). l .count ≤ need (sides m n)) (sym (line3 m n base chunk (t - (n + m))) ∙ ap (lineAt m n base chunk) (omega arith)) (side-need m n .0))
+    (lt-or-ge t (n + m)))
+    (lt-or-ge t n)
+
+-- scratch past its first words, line after line
+pub past-none : (k : ℕ) (s : List ℕ) → Past k s s
+past-none k s = record { same = refl; rest = λ i h. refl }
+
+pub past-more : {j k : ℕ} {a b c : List ℕ} → j ≤ k → Past k a b → Past j b c → Past k a c
+past-more h p q = record { same = q .same ∙ p .same; rest = λ i d. q .rest i (le-trans h d) ∙ p .rest i d }
+
+-- the block lies in a buffer, and scratch serves it, of the same lengths
+pub lies-in : {m n base chunk : ℕ} (xs scratch ys held : List ℕ) → length ys ≡ length xs → length held ≡ length scratch
+    → Lies m n base chunk xs scratch → Lies m n base chunk ys held
+lies-in xs scratch ys held e f y = record {
+  apart = y .apart;
+  inside = λ p h. rw e (y .inside p h);
+  rows = rw f (y .rows);
+  columns = rw f (y .columns);
+  near = y .near;
+  close = y .close;
+}

@@ -1,0 +1,193 @@
+-- The lines of a block turn it where it lies: the lines of each pass are a family, so the passes of the block are passes in
+-- the sense of crate flat, and those are the turn.
+use mathlib.Core.Path.{_≡_, refl, sym, ap, ap₂, _∙_, subst, subst₂}
+use mathlib.Core.Bool.{Bool, true, false}
+use mathlib.Core.List.{List}
+use mathlib.Core.Logic.{⊎-elim}
+use Prim.Native.Nat.{ℕ, suc, _+_, _*_, _-_, _/_, _%_, _<_, _≤_}
+use native.Mathlib.Omega.{arith}
+use native.Mathlib.Nat.{mul-comm, mul-assoc, mul-add, eq-of-mul-eq-mul-left, mod-lt, div-add-mod', div-lt-iff-lt-mul, div-one, div-eq-of-lt, add-zero, mod-eq-of-lt}
+use lib.Dec.{ltb, eqb}
+use lib.ListN.{length, getD}
+use lib.Arith.{digits-div, digits-mod, digits-lt}
+use borrow.Author.Tests.{lt-ltb, le-ltb, ltb-false}
+use Rattle.lists.specs.Choose.{choose}
+use Rattle.lists.proofs.Decide.{lt-or-ge}
+use Rattle.numbers.specs.Gcd.{gcdOf}
+use Rattle.flat.specs.Passes.{row1, column2, row3, Pass1, Pass2, Pass3}
+use Rattle.flat.proofs.Sides.{Sides, sides-are, row1-lt, column2-lt, row3-lt, rows1-apart, columns-apart, rows3-apart}
+use Rattle.flat.proofs.Passes.{followed}
+use Rattle.passes.specs.Lines.{Moved, paired, column, row, lineAt, skipped, posOn, toPlace, fromPlace, LineMoved, Fits, Lies, TurnedAt}
+use Rattle.passes.specs.declared.line.Line.{Line}
+use Rattle.passes.proofs.Family.{Family, Some}
+use Rattle.passes.proofs.Ran.{Ran, cut, ran-some}
+use Rattle.passes.proofs.Ran.Ran.{done, more}
+
+module _ (m n base chunk : ℕ) where
+  -- where the word of row i and column j stands
+  abbrev pub cellAt : ℕ → ℕ → ℕ
+  cellAt i j = base + chunk * (i * n + j)
+
+  -- line t of the block has moved
+  abbrev pub Step : ℕ → List ℕ → List ℕ → Type 0
+  Step t xs ys = LineMoved m n (lineAt m n base chunk t) xs ys
+
+  -- which line number t is
+  pub line1 : (t : ℕ) → t < n → lineAt m n base chunk t ≡ column m n base chunk 1 t
+  unfolding lineAt
+  line1 t h = rw (lt-ltb t n h)
+
+  pub line2 : (t : ℕ) → t < m → lineAt m n base chunk (n + t) ≡ row n base chunk t
+  unfolding lineAt
+  line2 t h = rw (le-ltb (n + t) n (omega arith), lt-ltb (n + t) (n + m) (omega arith)) (ap (row n base chunk) (omega arith))
+
+  pub line3 : (t : ℕ) → lineAt m n base chunk (n + m + t) ≡ column m n base chunk 3 t
+  unfolding lineAt
+  line3 t = rw (le-ltb (n + m + t) n (omega arith), le-ltb (n + m + t) (n + m) (omega arith)) (ap (column m n base chunk 3) (omega arith))
+
+  -- the words of a column, and of a row, in the block's own terms
+  pub column-at : (p j i : ℕ) → posOn (column m n base chunk p j) i ≡ cellAt i j
+  column-at p j i =
+      let e : chunk * (i * n + j) ≡ chunk * n * i + chunk * j = mul-add chunk (i * n) j ∙ ap (λ (z : ℕ). z + chunk * j) (ap (λ (z : ℕ). chunk * z) (mul-comm i n) ∙ sym (mul-assoc chunk n i)) in
+      omega arith
+
+  pub row-at : (i j : ℕ) → posOn (row n base chunk i) j ≡ cellAt i j
+  row-at i j = let e = mul-add chunk (i * n) j in omega arith
+
+-- the same words at the same offsets
+moved-at : {count : ℕ} {pos pos′ to from : ℕ → ℕ} {xs ys : List ℕ} → ((k : ℕ) → pos k ≡ pos′ k) → Moved count pos to from xs ys → Moved count pos′ to from xs ys
+moved-at {count} {pos} {pos′} {to} {from} {xs} {ys} e m = record {
+  same = m .same;
+  placed = λ k h. ap (λ (z : ℕ). getD ys z 0) (sym (e (to k))) ∙ m .placed k h ∙ ap (λ (z : ℕ). getD xs z 0) (e (from k));
+  others = λ p h. m .others p (λ k d q. h k d (sym (e k) ∙ q));
+}
+
+-- a run of no step changes nothing
+nothing-ran : {P : ℕ → List ℕ → List ℕ → Type 0} {e : ℕ} {xs ys : List ℕ} → Ran P e e xs ys → xs ≡ ys
+nothing-ran {P} {e} r = go r refl
+  where
+    go : {l : ℕ} {zs ws : List ℕ} → Ran P e l zs ws → l ≡ e → zs ≡ ws
+    go done q = refl
+    go (more h p r) q = absurd (omega arith)
+
+-- how many columns of pass 1 are left out
+skipped-none : (m n : ℕ) → ltb 1 (gcdOf m n) ≡ true → skipped m n ≡ 0
+unfolding skipped
+skipped-none m n q = rw q
+
+skipped-all : (m n : ℕ) → ltb 1 (gcdOf m n) ≡ false → skipped m n ≡ n
+unfolding skipped
+skipped-all m n q = rw q
+
+pub skipped-le : (m n : ℕ) → skipped m n ≤ n
+skipped-le m n = go (ltb 1 (gcdOf m n)) refl
+  where
+    go : (t : Bool) → ltb 1 (gcdOf m n) ≡ t → skipped m n ≤ n
+    go true q = omega (arith, skipped-none m n q)
+    go false q = omega (arith, skipped-all m n q)
+
+module _ (m n base chunk : ℕ) (hm : 0 < m) (hn : 0 < n) (hc : 0 < chunk) where
+  s : Sides m n
+  s = sides-are m n hm hn
+
+  -- no two cells stand at one offset
+  cells-apart : (i j i′ j′ : ℕ) → j < n → j′ < n → cellAt m n base chunk i j ≡ cellAt m n base chunk i′ j′ → (i ≡ i′) × (j ≡ j′)
+  cells-apart i j i′ j′ h h′ e =
+      let q : i * n + j ≡ i′ * n + j′ = eq-of-mul-eq-mul-left chunk hc (i * n + j) (i′ * n + j′) (omega arith) in
+      (sym (digits-div i h) ∙ ap (λ (z : ℕ). z / n) q ∙ digits-div i′ h′, sym (digits-mod i h) ∙ ap (λ (z : ℕ). z % n) q ∙ digits-mod i′ h′)
+
+  -- the columns of a pass that gathers, and the rows of pass 2
+  columns : (src : ℕ → ℕ → ℕ) → ((i j : ℕ) → src i j < m) → Family n m (λ j i. cellAt m n base chunk i j) (λ j i. i) (λ j i. src i j)
+  columns src lt = record {
+    apart = λ t k u j a b c d e. cells-apart k t j u a c e .1;
+    to-lt = λ t k a b. b;
+    from-lt = λ t k a b. lt k t;
+  }
+
+  rows : Family m n (λ i j. cellAt m n base chunk i j) (λ i j. column2 m n i j) (λ i j. j)
+  rows = record {
+    apart = λ t k u j a b c d e. cells-apart t k u j b d e .0;
+    to-lt = λ t k a b. column2-lt m n t k hn;
+    from-lt = λ t k a b. b;
+  }
+
+  -- the lines of each pass are that family
+  step1 : (t : ℕ) (xs ys : List ℕ) → t < n → Step m n base chunk (0 + t) xs ys → Moved m (λ i. cellAt m n base chunk i t) (λ i. i) (λ i. row1 m n i t) xs ys
+  step1 t xs ys h p =
+      moved-at (column-at m n base chunk 1 t)
+      (subst (λ (l : Line). LineMoved m n l xs ys) (ap (lineAt m n base chunk) (omega arith) ∙ line1 m n base chunk t h) p)
+
+  step2 : (t : ℕ) (xs ys : List ℕ) → t < m → Step m n base chunk (n + t) xs ys → Moved n (λ j. cellAt m n base chunk t j) (λ j. column2 m n t j) (λ j. j) xs ys
+  step2 t xs ys h p = moved-at (row-at m n base chunk t) (subst (λ (l : Line). LineMoved m n l xs ys) (line2 m n base chunk t h) p)
+
+  step3 : (t : ℕ) (xs ys : List ℕ) → t < n → Step m n base chunk (n + m + t) xs ys → Moved m (λ i. cellAt m n base chunk i t) (λ i. i) (λ i. row3 m n i t) xs ys
+  step3 t xs ys h p = moved-at (column-at m n base chunk 3 t) (subst (λ (l : Line). LineMoved m n l xs ys) (line3 m n base chunk t) p)
+
+  -- the block's words by row and column
+  abbrev cells : List ℕ → ℕ → ℕ → ℕ
+  cells xs i j = getD xs (cellAt m n base chunk i j) 0
+
+  -- what a pass leaves: the block as the pass says, every other word as it was
+  record Passed (P : (ℕ → ℕ → ℕ) → (ℕ → ℕ → ℕ) → Type 0) (xs ys : List ℕ) : Type 0 where
+    pub same : length ys ≡ length xs
+    pub pass : P (cells xs) (cells ys)
+    pub others : (p : ℕ) → ((i j : ℕ) → i < m → j < n → cellAt m n base chunk i j ≡ p → ⊥) → getD ys p 0 ≡ getD xs p 0
+
+  passed1 : {xs ys : List ℕ} → Ran (Step m n base chunk) (0 + n) 0 xs ys → Passed (Pass1 m n) xs ys
+  passed1 r =
+      let f = ran-some (Step m n base chunk) 0 (columns (row1 m n) (λ i j. row1-lt m n i j hm)) step1 r in
+      record { same = f .same; pass = λ i j a b. f .placed j i b a; others = λ p h. f .others p (λ u k a b e. h k u b a e) }
+
+  passed2 : {xs ys : List ℕ} → Ran (Step m n base chunk) (n + m) n xs ys → Passed (Pass2 m n) xs ys
+  passed2 r =
+      let f = ran-some (Step m n base chunk) n rows step2 r in
+      record { same = f .same; pass = λ i j a b. f .placed i j a b; others = λ p h. f .others p (λ u k a b e. h u k a b e) }
+
+  passed3 : {xs ys : List ℕ} → Ran (Step m n base chunk) (n + m + n) (n + m) xs ys → Passed (Pass3 m n) xs ys
+  passed3 r =
+      let f = ran-some (Step m n base chunk) (n + m) (columns (row3 m n) (λ i j. row3-lt m n i j hm)) step3 r in
+      record { same = f .same; pass = λ i j a b. f .placed j i b a; others = λ p h. f .others p (λ u k a b e. h k u b a e) }
+
+  -- where the sides share no factor pass 1 leaves every word where it is
+  alone : gcdOf m n ≡ 1 → (i j : ℕ) → i < m → j < n → row1 m n i j ≡ i
+  unfolding row1
+  alone e i j a b =
+      ap (λ (z : ℕ). (i + j / (n / z)) % m) e
+      ∙ ap (λ (z : ℕ). (i + j / z) % m) (div-one n)
+      ∙ ap (λ (z : ℕ). (i + z) % m) (div-eq-of-lt b)
+      ∙ ap (λ (z : ℕ). z % m) (add-zero i)
+      ∙ mod-eq-of-lt a
+
+  -- the lines before pass 2
+  first-lines : {xs ys : List ℕ} → Ran (Step m n base chunk) n (skipped m n) xs ys → Passed (Pass1 m n) xs ys
+  first-lines {xs} {ys} r = go (ltb 1 (gcdOf m n)) refl
+    where
+      left-out : skipped m n ≡ n → gcdOf m n ≡ 1 → Passed (Pass1 m n) xs ys
+      left-out e g =
+          subst (λ (zs : List ℕ). Passed (Pass1 m n) xs zs) (nothing-ran (subst (λ (z : ℕ). Ran (Step m n base chunk) n z xs ys) e r))
+          (record { same = refl; pass = λ i j a b. ap (λ (z : ℕ). cells xs z j) (sym (alone g i j a b)); others = λ p h. refl })
+
+      go : (t : Bool) → ltb 1 (gcdOf m n) ≡ t → Passed (Pass1 m n) xs ys
+      go true q = passed1 (subst₂ (λ (z w : ℕ). Ran (Step m n base chunk) z w xs ys) (omega arith) (skipped-none m n q) r)
+      go false q = left-out (skipped-all m n q) (let c = s .c-pos in let d = ltb-false 1 (gcdOf m n) q in omega arith)
+
+  -- the lines of the block turn it
+  pub lines-turn : {xs ws : List ℕ} → Ran (Step m n base chunk) (n + m + n) (skipped m n) xs ws → TurnedAt m n base chunk xs ws
+  lines-turn {xs} {ws} r =
+      let c = cut n (skipped-le m n) (omega arith) r in
+      let d = cut (n + m) (omega arith) (omega arith) (c .rest) in
+      let p = first-lines (c .front) in
+      let q = passed2 (d .front) in
+      let t = passed3 (d .rest) in
+      let within : (k : ℕ) → k < m * n → (k / n < m) × (k % n < n) = λ k h. (div-lt-iff-lt-mul hn .1 h, mod-lt k hn) in
+      record {
+        same = t .same ∙ q .same ∙ p .same;
+        placed = λ k h.
+            let l = k % n * m + k / n in
+            ap (λ (z : ℕ). getD ws (base + chunk * z) 0) (sym (div-add-mod' l n))
+            ∙ followed m n (cells xs) (cells (c .mid)) (cells (d .mid)) (cells ws) (p .pass) (q .pass) (t .pass) (k / n) (k % n) (within k h .0) (within k h .1)
+            ∙ ap (λ (z : ℕ). getD xs (base + chunk * z) 0) (div-add-mod' k n);
+        others = λ z h.
+            let away : (i j : ℕ) → i < m → j < n → cellAt m n base chunk i j ≡ z → ⊥ = λ i j a b e. h (i * n + j) (digits-lt a b) e in
+            t .others z away ∙ q .others z away ∙ p .others z away;
+      }
