@@ -57,7 +57,7 @@ pick-swap {r} k l e = pick-exchange k (upto r) l ∙ ap (exchange k) (ap (λ (n 
 abbrev pub grouped : List ℕ → ℕ → ℕ → List ℕ → List ℕ
 grouped a m n b = volume a ∷ m ∷ n ∷ volume b ∷ []
 
-grouped-volume : (a : List ℕ) (m n : ℕ) (b : List ℕ) → volume (grouped a m n b) ≡ volume (a ++ (m ∷ n ∷ b))
+pub grouped-volume : (a : List ℕ) (m n : ℕ) (b : List ℕ) → volume (grouped a m n b) ≡ volume (a ++ (m ∷ n ∷ b))
 unfolding volume
 grouped-volume a m n b = rw (volume-append a (m ∷ n ∷ b), mul-one (volume b))
 

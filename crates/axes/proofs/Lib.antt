@@ -4,3 +4,9 @@ pub mod Ranges
 pub mod Orders
 pub mod Swaps
 pub mod Grouped
+pub mod Checks
+pub mod Steps
+pub mod Progress
+pub mod Calls
+pub mod Outcomes
+pub mod Demands

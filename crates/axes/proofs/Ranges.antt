@@ -9,8 +9,8 @@ use native.Mathlib.Omega.{arith}
 use lib.Dec.{eqb, ltb}
 use lib.ListN.{length, getD}
 use borrow.Author.Tests.{ltb-false, eqb-false}
-use Rattle.lists.specs.Choose.{either}
-use Rattle.refusals.specs.Conditions.{some, outOfRange, badLength, noSwap, badSwap}
+use Rattle.lists.specs.Choose.{choose, either}
+use Rattle.refusals.specs.Conditions.{some, outOfRange, badLength, firstPlace, noSwap, badSwap}
 
 -- neither of two tests holds where one of them does not
 neither-left : (a b : Bool) → either a b ≡ false → a ≡ false
@@ -25,6 +25,25 @@ pub none-at : (f : ℕ → Bool) (l : List ℕ) → some f l ≡ false → (k : 
 none-at f [] e k h = absurd (not-suc-le-zero h)
 none-at f (x ∷ l) e zero h = neither-left (f x) (some f l) e
 none-at f (x ∷ l) e (suc k) h = none-at f l (neither-right (f x) (some f l) e) k (le-of-suc-le-suc h)
+
+-- where the test holds at some entry there is a first, and it is among them
+pub found-place : (f : ℕ → Bool) (l : List ℕ) → firstPlace f l < length l → some f l ≡ true
+unfolding firstPlace
+found-place f [] h = absurd (not-suc-le-zero h)
+found-place f (x ∷ l) h = go (f x) h (found-place f l)
+  where
+    go : (t : Bool) → choose t 0 (suc (firstPlace f l)) < suc (length l) → (firstPlace f l < length l → some f l ≡ true) → either t (some f l) ≡ true
+    go true h ih = refl
+    go false h ih = ih (le-of-suc-le-suc h)
+
+pub no-place : (f : ℕ → Bool) (l : List ℕ) → length l ≤ firstPlace f l → some f l ≡ false
+unfolding firstPlace
+no-place f [] h = refl
+no-place f (x ∷ l) h = go (f x) h (no-place f l)
+  where
+    go : (t : Bool) → suc (length l) ≤ choose t 0 (suc (firstPlace f l)) → (length l ≤ firstPlace f l → some f l ≡ false) → either t (some f l) ≡ false
+    go true h ih = absurd (not-suc-le-zero h)
+    go false h ih = ih (le-of-suc-le-suc h)
 
 pub in-range : (ds : List ℕ) → badLength ds ≡ false → (k : ℕ) → k < length ds → (0 < getD ds k 0) × (getD ds k 0 ≤ 4096)
 in-range ds e k h =

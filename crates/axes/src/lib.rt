@@ -1,9 +1,11 @@
 // Four axes: swaps, chains, orders by number and their plans.
 ghost use mathlib.Core.Path.{_≡_};
 ghost use Rattle.orders.specs.Chains.{exchange};
-ghost use Rattle.axes.specs.Promises.{PlanPromise};
+ghost use Rattle.axes.specs.Answers.{refused};
+ghost use Rattle.axes.specs.Promises.{ChainPromise, RequestPromise, PlanPromise};
 
 mod block;
+mod chains;
 mod plans;
 mod tables;
 
@@ -71,4 +73,51 @@ pub fn plan(order: usize) -> Planned
         swaps: swaps,
         len: count,
     }
+}
+
+// The answer of a refused call.
+fn refusal(number: u32, place: usize) -> Answer
+    ensures { λ r. ⌜ r ≡ refused number place ⌝ }
+{
+    Answer {
+        number: number,
+        place: place,
+        lens: [0; 4],
+        order: 0,
+        swaps: 0,
+    }
+}
+
+// A chain of swaps on a block, through scratch as long as its longest axis: 0, or 1 to 6.
+pub fn chain(buf: &mut [u32], scratch: &mut [u32], shape: Shape, swaps: &[usize]) -> Answer
+    ensures { λ r. ⌜ ChainPromise (shape .lens) (now (swaps .entry)) (now (buf .entry)) (now (scratch .entry)) r (now (buf .exit)) (now (scratch .exit)) ⌝ }
+{
+    let lens = shape.lens;
+    let number = chains::chain_number(buf, scratch, lens, swaps);
+    if number == 6 {
+        let place = chains::first_bad(swaps);
+        return refusal(6, place);
+    }
+    if number != 0 {
+        return refusal(number, 0);
+    }
+    chains::run(buf, scratch, shape, swaps)
+}
+
+// The direct request for an order by its number, which runs its plan: 0, or 1, 2, 3, 4, 7, 8.
+pub fn request(buf: &mut [u32], scratch: &mut [u32], shape: Shape, order: usize) -> Answer
+    ensures { λ r. ⌜ RequestPromise (shape .lens) order (now (buf .entry)) (now (scratch .entry)) r (now (buf .exit)) (now (scratch .exit)) ⌝ }
+{
+    let lens = shape.lens;
+    let number = block::block_number(buf, scratch, lens);
+    if number != 0 {
+        return refusal(number, 0);
+    }
+    let planned = plan(order);
+    if planned.number != 0 {
+        return refusal(planned.number, 0);
+    }
+    let swaps = planned.swaps;
+    let count = planned.len;
+    chains::run(buf, scratch, shape, &swaps[..count])
 }
