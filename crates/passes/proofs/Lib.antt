@@ -5,3 +5,5 @@ pub mod Ran
 pub mod Strided
 pub mod Fits
 pub mod Going
+pub mod Accepted
+pub mod Adjacent

@@ -6,7 +6,9 @@ use Prim.Native.Nat.{ℕ, _+_, _*_, _-_, _/_, _%_, _<_, _≤_}
 use lib.Dec.{ltb, eqb}
 use lib.ListN.{length, getD}
 use Rattle.lists.specs.Choose.{choose}
+use Rattle.refusals.specs.Scratch.{need}
 use Rattle.numbers.specs.Gcd.{gcdOf}
+use Rattle.flat.specs.Turn.{sides}
 use Rattle.flat.specs.Passes.{rowGroup, columnGroup, row1, column2, row3}
 use Rattle.passes.specs.declared.line.Sides.{Sides}
 use Rattle.passes.specs.declared.line.Line.{Line}
@@ -111,3 +113,15 @@ pub record Lies (m n base chunk : ℕ) (xs scratch : List ℕ) : Type 0 where
 -- the block has been turned where it lies: the word of offset i·n + j stands at offset j·m + i, every other word of the buffer stands
 abbrev pub TurnedAt : ℕ → ℕ → ℕ → ℕ → List ℕ → List ℕ → Type 0
 TurnedAt m n base chunk xs ys = Moved (m * n) (λ p. base + chunk * p) (λ p. (p % n) * m + p / n) (λ p. p) xs ys
+
+-- where block t of an adjacent swap lies: t counts the words after the two axes within the blocks before them
+abbrev pub swapBase : ℕ → ℕ → ℕ → ℕ → ℕ
+swapBase m n chunk t = t / chunk * (m * n * chunk) + t % chunk
+
+-- the blocks of an adjacent swap lie in the buffer, and scratch has room for the longer side
+pub record AllLie (outer m n chunk : ℕ) (xs scratch : List ℕ) : Type 0 where
+  pub blocks : 0 < outer
+  pub words : 0 < chunk
+  pub few : outer * chunk * (m * n) ≤ 1048576
+  pub enough : outer * chunk * (m * n) ≤ length xs
+  pub room : need (sides m n) ≤ length scratch

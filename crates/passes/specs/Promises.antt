@@ -1,13 +1,15 @@
 -- What the calls by passes promise. Assumes nothing: these are definitions.
+use mathlib.Core.Path.{_≡_}
+use mathlib.Core.Bool.{Bool}
 use mathlib.Core.List.{List, [], _∷_}
 use Prim.Native.Nat.{ℕ}
-use lib.Dec.{eqb}
-use Rattle.lists.specs.Choose.{either}
+use lib.Dec.{eqb, ltb}
+use Rattle.lists.specs.Choose.{choose, either}
 use Rattle.layout.specs.Layout.{Laid}
-use Rattle.refusals.specs.FirstOf.{Check, check}
+use Rattle.refusals.specs.FirstOf.{Check, check, firstOf}
 use Rattle.refusals.specs.Conditions.{badLength, tooManyWords, shortBuffer, shortScratch}
 use Rattle.refusals.specs.Calls.{passesChecks}
-use Rattle.refusals.specs.Scratch.{need}
+use Rattle.refusals.specs.Scratch.{need, cleared}
 use Rattle.refusals.specs.Promise.{Rearranged}
 use Rattle.flat.specs.Turn.{sides, Turn, TurnBack}
 
@@ -27,10 +29,18 @@ swapBlock outer m n chunk = outer ∷ m ∷ n ∷ chunk ∷ []
 abbrev pub middle : List ℕ
 middle = 0 ∷ 2 ∷ 1 ∷ 3 ∷ []
 
--- adjacent swap: 1 (also for no block before or no word after the two axes), 2, 3, 4
+-- a side is out of range, or there is no block before or no word after the two axes
+abbrev pub noBlock : ℕ → ℕ → ℕ → ℕ → Bool
+noBlock outer m n chunk = either (badLength (sides m n)) (either (eqb outer 0) (eqb chunk 0))
+
+-- a count of words, cut to one more than a block may have
+abbrev pub cappedWords : ℕ → ℕ
+cappedWords v = choose (ltb 1048576 v) 1048577 v
+
+-- adjacent swap: 1, 2, 3, 4
 abbrev pub swapChecks : ℕ → ℕ → ℕ → ℕ → List ℕ → List ℕ → List Check
 swapChecks outer m n chunk buffer scratch =
-    check 1 (either (badLength (sides m n)) (either (eqb outer 0) (eqb chunk 0)))
+    check 1 (noBlock outer m n chunk)
     ∷ check 2 (tooManyWords (swapBlock outer m n chunk))
     ∷ check 3 (shortBuffer (swapBlock outer m n chunk) buffer)
     ∷ check 4 (shortScratch (need (sides m n)) scratch)
@@ -40,3 +50,9 @@ swapChecks outer m n chunk buffer scratch =
 abbrev pub SwapPromise : ℕ → ℕ → ℕ → ℕ → List ℕ → List ℕ → ℕ → List ℕ → List ℕ → Type 0
 SwapPromise outer m n chunk buffer scratch =
     Rearranged (swapChecks outer m n chunk buffer scratch) (need (sides m n)) (Laid (swapBlock outer m n chunk) middle buffer) buffer scratch
+
+-- clearing scratch: 4 where it has fewer words than are to be zero, and then it is as it was
+pub record ClearPromise (n : ℕ) (scratch : List ℕ) (number : ℕ) (after : List ℕ) : Type 0 where
+  pub number-is : number ≡ firstOf (check 4 (shortScratch n scratch) ∷ [])
+  pub zeroed : number ≡ 0 → after ≡ cleared n scratch
+  pub kept : (number ≡ 0 → ⊥) → after ≡ scratch

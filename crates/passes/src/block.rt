@@ -5,9 +5,11 @@ use crate::line::Line;
 use crate::line::Sides;
 ghost use mathlib.Core.Path.{_≡_};
 ghost use Prim.Native.Nat.{_<_, _≤_};
+ghost use Rattle.layout.specs.Layout.{Laid};
 ghost use Rattle.flat.specs.Turn.{sides};
 ghost use Rattle.refusals.specs.Scratch.{need};
-ghost use Rattle.passes.specs.Lines.{Sound, Lies, Past, TurnedAt, lineCount, lineOf};
+ghost use Rattle.passes.specs.Lines.{Sound, Lies, AllLie, Past, TurnedAt, lineCount, lineOf};
+ghost use Rattle.passes.specs.Promises.{swapBlock, middle};
 
 // The sides of an m by n block.
 pub(crate) fn sides_of(m: usize, n: usize) -> Sides
@@ -108,5 +110,18 @@ pub(crate) fn turn_home_at(
         l -= 1;
         let line = line_of(s, base, chunk, l);
         line::back(buf, scratch, s, line);
+    }
+}
+
+// Every block of an adjacent swap is turned where it lies: one for each block before the two axes and each word after them.
+pub(crate) fn turn_all(buf: &mut [u32], scratch: &mut [u32], s: Sides, outer: usize, chunk: usize)
+    requires { ⌜ Sound s × AllLie outer (s .m) (s .n) chunk (now buf) (now scratch) ⌝ }
+    ensures { λ _. ⌜ Laid (swapBlock outer (s .m) (s .n) chunk) middle (now (buf .entry)) (now (buf .exit)) × Past (need (sides (s .m) (s .n))) (now (scratch .entry)) (now (scratch .exit)) ⌝ }
+{
+    let words = s.m * s.n * chunk;
+    let count = outer * chunk;
+    for t in 0..count {
+        let base = t / chunk * words + t % chunk;
+        turn_at(buf, scratch, s, base, chunk);
     }
 }

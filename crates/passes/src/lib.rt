@@ -1,4 +1,68 @@
 // The flat turn by passes, its reverse, and the adjacent swap of four axes.
 mod block;
+mod checks;
 mod gcd;
 mod line;
+mod scratch;
+
+ghost use Rattle.passes.specs.Promises.{TurnPromise, TurnBackPromise, SwapPromise, ClearPromise};
+
+// Turns an m by n block within its buffer, through scratch of max(m, n) words: 0, or 1, 2, 3, 4.
+pub fn turn(buf: &mut [u32], scratch: &mut [u32], m: usize, n: usize) -> u32
+    ensures { λ r. ⌜ TurnPromise m n (now (buf .entry)) (now (scratch .entry)) r (now (buf .exit)) (now (scratch .exit)) ⌝ }
+{
+    let number = checks::flat(buf, scratch, m, n);
+    if number != 0 {
+        return number;
+    }
+    let s = block::sides_of(m, n);
+    block::turn_at(buf, scratch, s, 0, 1);
+    scratch::clear_longest(scratch, m, n);
+    0
+}
+
+// Undoes the turn of an m by n block: the same checks and the same scratch.
+pub fn turn_back(buf: &mut [u32], scratch: &mut [u32], m: usize, n: usize) -> u32
+    ensures { λ r. ⌜ TurnBackPromise m n (now (buf .entry)) (now (scratch .entry)) r (now (buf .exit)) (now (scratch .exit)) ⌝ }
+{
+    let number = checks::flat(buf, scratch, m, n);
+    if number != 0 {
+        return number;
+    }
+    let s = block::sides_of(m, n);
+    block::turn_home_at(buf, scratch, s, 0, 1);
+    scratch::clear_longest(scratch, m, n);
+    0
+}
+
+// Exchanges the two axes in the middle of outer × m × n × chunk words, through scratch of max(m, n) words: 0, or 1, 2, 3, 4.
+pub fn swap(
+    buf: &mut [u32],
+    scratch: &mut [u32],
+    outer: usize,
+    m: usize,
+    n: usize,
+    chunk: usize,
+) -> u32
+    ensures { λ r. ⌜ SwapPromise outer m n chunk (now (buf .entry)) (now (scratch .entry)) r (now (buf .exit)) (now (scratch .exit)) ⌝ }
+{
+    let number = checks::swap(buf, scratch, outer, m, n, chunk);
+    if number != 0 {
+        return number;
+    }
+    let s = block::sides_of(m, n);
+    block::turn_all(buf, scratch, s, outer, chunk);
+    scratch::clear_longest(scratch, m, n);
+    0
+}
+
+// Zeroes the first n words of scratch and answers 0; answers 4 where there are fewer.
+pub fn clear(scratch: &mut [u32], n: usize) -> u32
+    ensures { λ r. ⌜ ClearPromise n (now (scratch .entry)) r (now (scratch .exit)) ⌝ }
+{
+    if scratch.len() < n {
+        return 4;
+    }
+    scratch::zero(scratch, n);
+    0
+}

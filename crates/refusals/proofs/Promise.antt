@@ -4,7 +4,8 @@ use mathlib.Core.List.{List}
 use mathlib.Core.Logic.{⊎-elim}
 use Prim.Native.Nat.{ℕ}
 use Rattle.lists.proofs.Decide.{eq-or-ne}
-use Rattle.refusals.specs.FirstOf.{Check}
+use Rattle.refusals.specs.FirstOf.{Check, firstOf}
+use Rattle.refusals.specs.Scratch.{cleared}
 use Rattle.refusals.specs.Promise.{Rearranged}
 
 module _ {checks : List Check} {needed : ℕ} {Right : List ℕ → Type 0} {buffer₀ scratch₀ : List ℕ} (one : (ys zs : List ℕ) → Right ys → Right zs → ys ≡ zs)
@@ -23,3 +24,12 @@ module _ {checks : List Check} {needed : ℕ} {Right : List ℕ → Type 0} {buf
       let n′ : r′ ≡ 0 → ⊥ = λ e. n (one-number ∙ e) in
       (one-number, p .kept n .0 ∙ sym (q .kept n′ .0), p .kept n .1 ∙ sym (q .kept n′ .1)))
       (eq-or-ne r 0)
+
+-- a refused outcome, and an accepted one
+pub refused : {checks : List Check} {needed : ℕ} {Right : List ℕ → Type 0} {buffer scratch : List ℕ} {r : ℕ}
+    → r ≡ firstOf checks → (r ≡ 0 → ⊥) → Rearranged checks needed Right buffer scratch r buffer scratch
+refused e n = record { number-is = e; words = λ z. absurd (n z); zeroed = λ z. absurd (n z); kept = λ _. (refl, refl) }
+
+pub accepted : {checks : List Check} {needed : ℕ} {Right : List ℕ → Type 0} {buffer₀ scratch₀ buffer scratch : List ℕ}
+    → firstOf checks ≡ 0 → Right buffer → scratch ≡ cleared needed scratch₀ → Rearranged checks needed Right buffer₀ scratch₀ 0 buffer scratch
+accepted e r z = record { number-is = sym e; words = λ _. r; zeroed = λ _. z; kept = λ n. absurd (n refl) }

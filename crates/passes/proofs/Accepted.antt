@@ -1,0 +1,75 @@
+-- What the calls' checks tell where none holds, and what the block's turn and the cleared scratch are then.
+use mathlib.Core.Path.{_≡_, refl, sym, ap, ap₂, _∙_, subst}
+use mathlib.Core.List.{List, [], _∷_, _++_}
+use Prim.Native.Nat.{ℕ, _+_, _*_, _-_, _/_, _%_, _<_, _≤_}
+use native.Mathlib.Omega.{arith}
+use native.Mathlib.Nat.{le-trans, zero-add, one-mul}
+use lib.ListN.{length, getD, drop, replicate, length-drop}
+use lib.Seq.{ext-getD, getD-drop}
+use lib.Arith.{digits-div, digits-mod, digits-lt}
+use Rattle.refusals.specs.FirstOf.{check, firstOf}
+use Rattle.refusals.specs.Conditions.{shortScratch}
+use Rattle.refusals.specs.Calls.{passesChecks}
+use Rattle.refusals.specs.Scratch.{need, cleared}
+use Rattle.refusals.proofs.Conditions.{Valid, InRange, valid, enough-scratch}
+use Rattle.refusals.proofs.Conditions.InRange.{none, more}
+use Rattle.flat.specs.Turn.{sides, Turn}
+use Rattle.flat.proofs.Turn.{volume-two, from-literal}
+use Rattle.passes.specs.Lines.{Moved, Lies, Past, TurnedAt}
+use Rattle.passes.proofs.Fits.{side-need}
+
+-- sides and buffers of a flat call that is accepted
+pub record Accepted (m n : ℕ) (buffer scratch : List ℕ) : Type 0 where
+  pub m-pos : 0 < m
+  pub n-pos : 0 < n
+  pub m-few : m ≤ 4096
+  pub n-few : n ≤ 4096
+  pub enough : m * n ≤ length buffer
+  pub room : need (sides m n) ≤ length scratch
+
+pub flat-accepted : (m n : ℕ) (buffer scratch : List ℕ) → firstOf (passesChecks (sides m n) buffer scratch) ≡ 0 → Accepted m n buffer scratch
+flat-accepted m n buffer scratch e = go (v .0 .lengths)
+  where
+    v : Valid (sides m n) buffer × (firstOf (check 4 (shortScratch (need (sides m n)) scratch) ∷ []) ≡ 0)
+    v = valid (sides m n) buffer (check 4 (shortScratch (need (sides m n)) scratch) ∷ []) e
+
+    go : InRange (sides m n) → Accepted m n buffer scratch
+    go (more pm fm (more pn fn none)) = record {
+      m-pos = pm;
+      n-pos = pn;
+      m-few = fm;
+      n-few = fn;
+      enough = rw (volume-two m n) at (v .0 .enough);
+      room = enough-scratch (need (sides m n)) scratch [] (v .1) .0;
+    }
+
+pub accepted-by : {m n r : ℕ} (buffer scratch : List ℕ) → r ≡ firstOf (passesChecks (sides m n) buffer scratch) → r ≡ 0 → Accepted m n buffer scratch
+accepted-by {m} {n} buffer scratch e z = flat-accepted m n buffer scratch (sym e ∙ z)
+
+-- the block of a flat call lies at the buffer's start
+pub flat-lies : {m n : ℕ} {buffer scratch : List ℕ} → Accepted m n buffer scratch → Lies m n 0 1 buffer scratch
+flat-lies {m} {n} a = record {
+  apart = omega arith;
+  inside = λ p h. omega (arith, a .enough);
+  rows = le-trans (side-need m n .0) (a .room);
+  columns = le-trans (side-need m n .1) (a .room);
+  near = omega arith;
+  close = omega arith;
+}
+
+-- turned there, it is turned
+pub flat-turned : (m n : ℕ) (xs ys : List ℕ) → TurnedAt m n 0 1 xs ys → Turn m n xs ys
+flat-turned m n xs ys t =
+    from-literal m n xs ys (t .same)
+    (λ i j hi hj.
+    let p = i * n + j in
+    let e : 0 + 1 * (p % n * m + p / n) ≡ j * m + i = omega (arith, ap (λ (z : ℕ). z * m) (digits-mod i hj), digits-div i hj) in
+    ap (λ (z : ℕ). getD ys z 0) (sym e) ∙ t .placed p (digits-lt hi hj) ∙ ap (λ (z : ℕ). getD xs z 0) (omega arith))
+    (λ k h. t .others k (λ j d e. omega arith))
+
+-- scratch whose first words are zeroed is cleared, whatever stood there
+pub cleared-past : {k : ℕ} {scratch held : List ℕ} → Past k scratch held → cleared k held ≡ cleared k scratch
+cleared-past {k} {scratch} {held} p =
+    ap (λ (l : List ℕ). replicate k 0 ++ l)
+    (ext-getD 0 (drop k held) (drop k scratch) (length-drop k held ∙ ap (λ (z : ℕ). z - k) (p .same) ∙ sym (length-drop k scratch))
+    (λ i h. getD-drop k held i 0 ∙ p .rest (k + i) (omega arith) ∙ sym (getD-drop k scratch i 0)))

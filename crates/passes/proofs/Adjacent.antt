@@ -1,0 +1,204 @@
+-- The blocks of an adjacent swap are a family: turned one after the other, they are the layout that exchanges the two axes
+-- in the middle.
+use mathlib.Core.Path.{_≡_, refl, sym, ap, ap₂, _∙_, subst}
+use mathlib.Core.List.{List, [], _∷_}
+use Prim.Native.Nat.{ℕ, _+_, _*_, _-_, _/_, _%_, _<_, _≤_}
+use native.Mathlib.Omega.{arith}
+use native.Mathlib.Nat.{mul-comm, mul-assoc, mul-add, add-mul, mul-one, mod-lt, div-add-mod', div-lt-iff-lt-mul, pos-of-ne-zero, le-trans, le-mul-of-pos-right, mul-pos}
+use lib.ListN.{length, getD}
+use lib.Arith.{digits-div, digits-mod, digits-lt}
+use mathlib.Core.Bool.{Bool, true, false}
+use lib.Dec.{ltb, eqb, lit<}
+use borrow.Author.Tests.{ltb-true, ltb-false, eqb-false}
+use Rattle.lists.specs.Choose.{either}
+use Rattle.refusals.specs.FirstOf.{check, firstOf}
+use Rattle.refusals.specs.Conditions.{badLength, tooManyWords, shortBuffer, shortScratch}
+use Rattle.refusals.specs.Scratch.{need}
+use Rattle.refusals.proofs.Conditions.{InRange, in-range, either-false, passed, enough-scratch}
+use Rattle.flat.specs.Turn.{sides}
+use Rattle.layout.specs.Layout.{volume, Within, at, pick, Laid}
+use Rattle.layout.specs.Layout.Within.{none, more}
+use Rattle.layout.proofs.Offsets.{at-lt}
+use Rattle.passes.specs.Lines.{Lies, AllLie, swapBase}
+use Rattle.passes.proofs.Fits.{side-need}
+use Rattle.passes.specs.Promises.{swapBlock, middle, noBlock, cappedWords, swapChecks}
+use Rattle.passes.proofs.Family.{Family, Some}
+
+-- a word of the swap, by its block, row, column and word: its offset
+pub swap-at : (outer m n chunk e i j u : ℕ) → e * (m * n * chunk) + u + chunk * (i * n + j) ≡ at (swapBlock outer m n chunk) (e ∷ i ∷ j ∷ u ∷ [])
+unfolding at volume
+swap-at outer m n chunk e i j u =
+    let a : e * (m * n * chunk) ≡ e * (m * (n * (chunk * 1))) = ap (λ (z : ℕ). e * z) (mul-assoc m n chunk ∙ ap (λ (z : ℕ). m * (n * z)) (sym (mul-one chunk))) in
+    let b : chunk * (i * n + j) ≡ i * (n * (chunk * 1)) + j * (chunk * 1) =
+    mul-add chunk (i * n) j
+    ∙ ap₂ _+_ (mul-comm chunk (i * n) ∙ mul-assoc i n chunk ∙ ap (λ (z : ℕ). i * (n * z)) (sym (mul-one chunk))) (mul-comm chunk j ∙ ap (λ (z : ℕ). j * z) (sym (mul-one chunk))) in
+    let c : u * 1 ≡ u = mul-one u in
+    omega arith
+
+pub swap-volume : (outer m n chunk : ℕ) → volume (swapBlock outer m n chunk) ≡ outer * chunk * (m * n)
+unfolding volume
+swap-volume outer m n chunk =
+    ap (λ (z : ℕ). outer * (m * (n * z))) (mul-one chunk)
+    ∙ ap (λ (z : ℕ). outer * z) (sym (mul-assoc m n chunk) ∙ mul-comm (m * n) chunk)
+    ∙ sym (mul-assoc outer chunk (m * n))
+
+-- where word p of block t stands, where it goes and whence it comes
+abbrev pub posOf : ℕ → ℕ → ℕ → ℕ → ℕ → ℕ
+posOf m n chunk t p = swapBase m n chunk t + chunk * p
+
+abbrev pub toOf : ℕ → ℕ → ℕ → ℕ → ℕ
+toOf m n t p = p % n * m + p / n
+
+abbrev pub fromOf : ℕ → ℕ → ℕ
+fromOf t p = p
+
+module _ (outer m n chunk : ℕ) (hm : 0 < m) (hn : 0 < n) (hc : 0 < chunk) where
+  -- coordinates of word p of block t
+  coordinates : ℕ → ℕ → List ℕ
+  coordinates t p = t / chunk ∷ p / n ∷ p % n ∷ t % chunk ∷ []
+
+  pos-is : (t p : ℕ) → posOf m n chunk t p ≡ at (swapBlock outer m n chunk) (coordinates t p)
+  unfolding coordinates
+  pos-is t p =
+      ap (λ (z : ℕ). swapBase m n chunk t + chunk * z) (sym (div-add-mod' p n))
+      ∙ swap-at outer m n chunk (t / chunk) (p / n) (p % n) (t % chunk)
+
+  within : (t p : ℕ) → t < outer * chunk → p < m * n → Within (swapBlock outer m n chunk) (coordinates t p)
+  unfolding coordinates
+  within t p h k = more (div-lt-iff-lt-mul hc .1 h) (more (div-lt-iff-lt-mul hn .1 k) (more (mod-lt p hn) (more (mod-lt t hc) none)))
+
+  pub pos-lt : (t p : ℕ) → t < outer * chunk → p < m * n → posOf m n chunk t p < volume (swapBlock outer m n chunk)
+  pos-lt t p h k = subst (λ (z : ℕ). z < volume (swapBlock outer m n chunk)) (sym (pos-is t p)) (at-lt (within t p h k))
+
+  -- no two blocks share a word
+  pub blocks : Family (outer * chunk) (m * n) (posOf m n chunk) (toOf m n) fromOf
+  blocks = record {
+    apart = λ t k u j ht hk hu hj e. blocks-apart t k u j hk hj e;
+    to-lt = λ t p h k. rw (mul-comm m n) (digits-lt (mod-lt p hn) (div-lt-iff-lt-mul hn .1 k));
+    from-lt = λ t p h k. k;
+  }
+    where
+      -- a word's place after its block's number of words are counted
+      flat-pos : (t p : ℕ) → posOf m n chunk t p ≡ (t / chunk * (m * n) + p) * chunk + t % chunk
+      flat-pos t p =
+          let a : t / chunk * (m * n * chunk) ≡ t / chunk * (m * n) * chunk = sym (mul-assoc (t / chunk) (m * n) chunk) in
+          let b : (t / chunk * (m * n) + p) * chunk ≡ t / chunk * (m * n) * chunk + p * chunk = add-mul (t / chunk * (m * n)) p chunk in
+          omega (arith, mul-comm chunk p)
+
+      blocks-apart : (t k u j : ℕ) → k < m * n → j < m * n → posOf m n chunk t k ≡ posOf m n chunk u j → t ≡ u
+      blocks-apart t k u j hk hj e =
+          let q = sym (flat-pos t k) ∙ e ∙ flat-pos u j in
+          let r : t % chunk ≡ u % chunk = sym (digits-mod (t / chunk * (m * n) + k) (mod-lt t hc)) ∙ ap (λ (z : ℕ). z % chunk) q ∙ digits-mod (u / chunk * (m * n) + j) (mod-lt u hc) in
+          let d : t / chunk * (m * n) + k ≡ u / chunk * (m * n) + j = sym (digits-div (t / chunk * (m * n) + k) (mod-lt t hc)) ∙ ap (λ (z : ℕ). z / chunk) q ∙ digits-div (u / chunk * (m * n) + j) (mod-lt u hc) in
+          let e′ : t / chunk ≡ u / chunk = sym (digits-div (t / chunk) hk) ∙ ap (λ (z : ℕ). z / (m * n)) d ∙ digits-div (u / chunk) hj in
+          sym (div-add-mod' t chunk) ∙ ap₂ (λ (x y : ℕ). x * chunk + y) e′ r ∙ div-add-mod' u chunk
+
+  -- all blocks turned are the swap
+  pub swapped : (xs ys : List ℕ) → Some (outer * chunk) (m * n) (posOf m n chunk) (toOf m n) fromOf (outer * chunk) xs ys → Laid (swapBlock outer m n chunk) middle xs ys
+  unfolding pick
+  swapped xs ys f = record {
+    same = f .same;
+    placed = λ x w. placed x w;
+    tail = λ k h. f .others k (λ t p a b e. let z = pos-lt t p a b in omega arith);
+  }
+    where
+      placed : (x : List ℕ) → Within (swapBlock outer m n chunk) x → getD ys (at (pick middle (swapBlock outer m n chunk)) (pick middle x)) 0 ≡ getD xs (at (swapBlock outer m n chunk) x) 0
+      placed x (more {x = e} he (more {x = i} hi (more {x = j} hj (more {x = u} hu none)))) =
+          let t = e * chunk + u in
+          let p = i * n + j in
+          let base : swapBase m n chunk t ≡ e * (m * n * chunk) + u = ap₂ (λ (a b : ℕ). a * (m * n * chunk) + b) (digits-div e hu) (digits-mod e hu) in
+          let base′ : e * (m * n * chunk) + u ≡ e * (n * m * chunk) + u = ap (λ (z : ℕ). e * (z * chunk) + u) (mul-comm m n) in
+          let there : toOf m n t p ≡ j * m + i = ap₂ (λ (a b : ℕ). a * m + b) (digits-mod i hj) (digits-div i hj) in
+          ap (λ (z : ℕ). getD ys z 0) (sym (ap₂ (λ (a b : ℕ). a + chunk * b) (base ∙ base′) there ∙ swap-at outer n m chunk e j i u))
+          ∙ f .placed t p (digits-lt he hu) (digits-lt hi hj)
+          ∙ ap (λ (z : ℕ). getD xs z 0) (ap (λ (a : ℕ). a + chunk * p) base ∙ swap-at outer m n chunk e i j u)
+
+-- a block of a swap that lies in the buffer, on the way: buffer and scratch of the same lengths
+module _ {outer m n chunk : ℕ} {xs scratch : List ℕ} (hm : 0 < m) (hn : 0 < n) (y : AllLie outer m n chunk xs scratch) where
+  -- all that is computed on the way is no more than the words of the block
+  pub around-few : outer * chunk ≤ 1048576
+  around-few = le-trans (le-mul-of-pos-right (outer * chunk) (mul-pos hm hn)) (y .few)
+
+  pub words-few : m * n * chunk ≤ 1048576
+  words-few =
+      le-trans (le-mul-of-pos-right (m * n * chunk) (y .blocks))
+      (subst (λ (z : ℕ). z ≤ 1048576) (mul-comm (outer * chunk) (m * n) ∙ ap (λ (z : ℕ). m * n * z) (mul-comm outer chunk) ∙ sym (mul-assoc (m * n) chunk outer)) (y .few))
+
+  pub base-few : (t : ℕ) → t < outer * chunk → swapBase m n chunk t ≤ 1048576
+  base-few t h =
+      let z = pos-lt outer m n chunk hm hn (y .words) t 0 h (mul-pos hm hn) in
+      omega (arith, y .few, swap-volume outer m n chunk)
+
+  pub block-lies : (t : ℕ) (ys held : List ℕ) → t < outer * chunk → length ys ≡ length xs → length held ≡ length scratch → Lies m n (swapBase m n chunk t) chunk ys held
+  block-lies t ys held h e f = record {
+    apart = y .words;
+    inside = λ p k. let z = pos-lt outer m n chunk hm hn (y .words) t p h k in omega (arith, y .enough, swap-volume outer m n chunk);
+    rows = rw f (le-trans (side-need m n .0) (y .room));
+    columns = rw f (le-trans (side-need m n .1) (y .room));
+    near = base-few t h;
+    close = le-trans (subst (λ (z : ℕ). chunk ≤ z) (mul-comm chunk outer) (le-mul-of-pos-right chunk (y .blocks))) around-few;
+  }
+
+-- sides and counts of an adjacent swap that has a block
+pub record There (outer m n chunk : ℕ) : Type 0 where
+  pub m-pos : 0 < m
+  pub n-pos : 0 < n
+  pub m-few : m ≤ 4096
+  pub n-few : n ≤ 4096
+  pub outer-pos : 0 < outer
+  pub chunk-pos : 0 < chunk
+
+pub there : (outer m n chunk : ℕ) → noBlock outer m n chunk ≡ false → There outer m n chunk
+there outer m n chunk e = go (in-range (sides m n) (p .0))
+  where
+    p : (badLength (sides m n) ≡ false) × (either (eqb outer 0) (eqb chunk 0) ≡ false)
+    p = either-false (badLength (sides m n)) (either (eqb outer 0) (eqb chunk 0)) e
+
+    q : (eqb outer 0 ≡ false) × (eqb chunk 0 ≡ false)
+    q = either-false (eqb outer 0) (eqb chunk 0) (p .1)
+
+    go : InRange (sides m n) → There outer m n chunk
+    go (InRange.more pm fm (InRange.more pn fn InRange.none)) = record {
+      m-pos = pm;
+      n-pos = pn;
+      m-few = fm;
+      n-few = fn;
+      outer-pos = pos-of-ne-zero (eqb-false outer 0 (q .0));
+      chunk-pos = pos-of-ne-zero (eqb-false chunk 0 (q .1));
+    }
+
+-- a count that is cut to one more than a block may have
+pub capped-over : (v : ℕ) → 1048576 < cappedWords v → 1048576 < v
+capped-over v h = go (ltb 1048576 v) refl
+  where
+    go : (t : Bool) → ltb 1048576 v ≡ t → 1048576 < v
+    go true e = ltb-true 1048576 v e
+    go false e = rw e at h
+
+pub capped-under : (v : ℕ) → cappedWords v ≤ 1048576 → (v ≤ 1048576) × (cappedWords v ≡ v)
+capped-under v h = go (ltb 1048576 v) refl
+  where
+    go : (t : Bool) → ltb 1048576 v ≡ t → (v ≤ 1048576) × (cappedWords v ≡ v)
+    go true e = let z : 1048577 ≤ 1048576 = rw e at h in absurd (omega arith)
+    go false e = (ltb-false 1048576 v e, rw e)
+
+-- an adjacent swap that is accepted: it has a block, and its blocks lie in the buffer
+pub swap-accepted : {r : ℕ} (outer m n chunk : ℕ) (buffer scratch : List ℕ) → r ≡ firstOf (swapChecks outer m n chunk buffer scratch) → r ≡ 0
+    → There outer m n chunk × AllLie outer m n chunk buffer scratch
+swap-accepted outer m n chunk buffer scratch e z =
+    let v = volume (swapBlock outer m n chunk) in
+    let rest₄ = check 4 (shortScratch (need (sides m n)) scratch) ∷ [] in
+    let rest₃ = check 3 (shortBuffer (swapBlock outer m n chunk) buffer) ∷ rest₄ in
+    let p = passed (noBlock outer m n chunk) 1 (firstOf (check 2 (tooManyWords (swapBlock outer m n chunk)) ∷ rest₃)) (lit< tt) (sym e ∙ z) in
+    let q = passed (tooManyWords (swapBlock outer m n chunk)) 2 (firstOf rest₃) (lit< tt) (p .1) in
+    let r = passed (shortBuffer (swapBlock outer m n chunk) buffer) 3 (firstOf rest₄) (lit< tt) (q .1) in
+    let h = there outer m n chunk (p .0) in (
+      h,
+      record {
+        blocks = h .outer-pos;
+        words = h .chunk-pos;
+        few = rw (swap-volume outer m n chunk) at (ltb-false 1048576 v (q .0));
+        enough = rw (swap-volume outer m n chunk) at (ltb-false (length buffer) v (r .0));
+        room = enough-scratch (need (sides m n)) scratch [] (r .1) .0;
+      },
+    )

@@ -1,0 +1,62 @@
+-- What a condition that does not hold tells: lengths in range, enough words, enough scratch.
+use mathlib.Core.Path.{_≡_, refl, sym, ap, _∙_}
+use mathlib.Core.Bool.{Bool, true, false}
+use mathlib.Core.List.{List, [], _∷_}
+use Prim.Native.Nat.{ℕ, _<_, _≤_}
+use native.Mathlib.Nat.{pos-of-ne-zero}
+use native.Mathlib.Omega.{arith}
+use lib.Dec.{ltb, eqb, lit<}
+use lib.ListN.{length}
+use borrow.Author.Tests.{ltb-false, eqb-false}
+use Rattle.lists.specs.Choose.{choose, either}
+use Rattle.layout.specs.Layout.{volume}
+use Rattle.refusals.specs.FirstOf.{Check, check, firstOf}
+use Rattle.refusals.specs.Conditions.{some, outOfRange, badLength, tooManyWords, shortBuffer, shortScratch}
+
+pub either-false : (a b : Bool) → either a b ≡ false → (a ≡ false) × (b ≡ false)
+either-false true b e = let z : _≡_ {A = ℕ} 0 1 = cc in absurd (omega arith)
+either-false false b e = (refl, e)
+
+-- every length is 1 to 4,096
+pub data InRange : List ℕ → Type 0 where
+  none : InRange []
+  more : {d : ℕ} {ds : List ℕ} → 0 < d → d ≤ 4096 → InRange ds → InRange (d ∷ ds)
+
+pub in-range : (ds : List ℕ) → badLength ds ≡ false → InRange ds
+in-range [] e = InRange.none
+in-range (d ∷ ds) e =
+    let p = either-false (outOfRange d) (badLength ds) e in
+    let q = either-false (eqb d 0) (ltb 4096 d) (p .0) in
+    InRange.more (pos-of-ne-zero (eqb-false d 0 (q .0))) (ltb-false 4096 d (q .1)) (in-range ds (p .1))
+
+-- a block that is accepted: lengths in range, not too many words, all of them in the buffer
+pub record Valid (ds buffer : List ℕ) : Type 0 where
+  pub lengths : InRange ds
+  pub few : volume ds ≤ 1048576
+  pub enough : volume ds ≤ length buffer
+
+-- a check that was passed, and what follows it
+pub passed : (t : Bool) (k r : ℕ) → 0 < k → choose t k r ≡ 0 → (t ≡ false) × (r ≡ 0)
+passed true k r h e = absurd (omega arith)
+passed false k r h e = (refl, e)
+
+pub valid : (ds buffer : List ℕ) (rest : List Check)
+    → firstOf (check 1 (badLength ds) ∷ check 2 (tooManyWords ds) ∷ check 3 (shortBuffer ds buffer) ∷ rest) ≡ 0 → Valid ds buffer × (firstOf rest ≡ 0)
+valid ds buffer rest e =
+    let p = passed (badLength ds) 1 _ (lit< tt) e in
+    let q = passed (tooManyWords ds) 2 _ (lit< tt) (p .1) in
+    let r = passed (shortBuffer ds buffer) 3 (firstOf rest) (lit< tt) (q .1) in (
+      record {
+        lengths = in-range ds (p .0);
+        few = ltb-false 1048576 (volume ds) (q .0);
+        enough = ltb-false (length buffer) (volume ds) (r .0);
+      },
+      r .1,
+    )
+
+-- scratch that is accepted has as many words as are needed
+pub enough-scratch : (needed : ℕ) (scratch : List ℕ) (rest : List Check) → firstOf (check 4 (shortScratch needed scratch) ∷ rest) ≡ 0
+    → (needed ≤ length scratch) × (firstOf rest ≡ 0)
+enough-scratch needed scratch rest e =
+    let p = passed (shortScratch needed scratch) 4 (firstOf rest) (lit< tt) e in
+    (ltb-false (length scratch) needed (p .0), p .1)
