@@ -77,8 +77,8 @@ pub record Joined (r₁ r₂ r : Answer) (zs us ws vs : List ℕ) : Type 0 where
   pub scratch : vs ≡ us
 
 module _ {ds s t xs ss : List ℕ} {r₁ r₂ r : Answer} {ys ts zs us ws vs : List ℕ} (axes : length ds ≡ 4)
-  (p : ChainPromise ds s xs ss r₁ ys ts) (q : ChainPromise (r₁ .lens) t ys ts r₂ zs us) (j : ChainPromise ds (s ++ t) xs ss r ws vs)
-  (e : r₁ .number ≡ 0) (d : r₂ .number ≡ 0) (h : length (s ++ t) ≤ 32) where
+    (p : ChainPromise ds s xs ss r₁ ys ts) (q : ChainPromise (r₁ .lens) t ys ts r₂ zs us) (j : ChainPromise ds (s ++ t) xs ss r ws vs)
+    (e : r₁ .number ≡ 0) (d : r₂ .number ≡ 0) (h : length (s ++ t) ≤ 32) where
   between : length (r₁ .lens) ≡ 4
   between = ap length (new-lengths axes p e) ∙ length-follow ds s ∙ axes
 
@@ -112,7 +112,7 @@ pub record Alike (r r′ : Answer) (ys ts zs us : List ℕ) : Type 0 where
 
 -- chains that name one order leave the same
 module _ {ds s t xs ss : List ℕ} {r r′ : Answer} {ys ts zs us : List ℕ} (axes : length ds ≡ 4) (p : ChainPromise ds s xs ss r ys ts)
-  (q : ChainPromise ds t xs ss r′ zs us) (e : r .number ≡ 0) (d : r′ .number ≡ 0) (one : named 4 s ≡ named 4 t) where
+    (q : ChainPromise ds t xs ss r′ zs us) (e : r .number ≡ 0) (d : r′ .number ≡ 0) (one : named 4 s ≡ named 4 t) where
   pub one-order : Alike r r′ ys ts zs us
   one-order = record {
     lengths = ap (λ (a : Answer). a .lens) (q .given d) ∙ ap (λ (o : List ℕ). pick o ds) (sym one) ∙ sym (ap (λ (a : Answer). a .lens) (p .given e));
@@ -129,7 +129,7 @@ pub record Restored (ds xs ts : List ℕ) (r : Answer) (zs us : List ℕ) : Type
   pub scratch : us ≡ ts
 
 module _ {ds c xs ss : List ℕ} {r r′ : Answer} {ys ts zs us : List ℕ} (axes : length ds ≡ 4) (p : ChainPromise ds c xs ss r ys ts)
-  (q : ChainPromise (r .lens) (reverse c) ys ts r′ zs us) (e : r .number ≡ 0) where
+    (q : ChainPromise (r .lens) (reverse c) ys ts r′ zs us) (e : r .number ≡ 0) where
   turned : length (r .lens) ≡ 4
   turned = ap length (new-lengths axes p e) ∙ length-follow ds c ∙ axes
 
@@ -153,7 +153,7 @@ module _ {ds c xs ss : List ℕ} {r r′ : Answer} {ys ts zs us : List ℕ} (axe
 
 -- an order that one call answers, asked for in another, means the same layout
 module _ {ds c xs ss : List ℕ} {r r′ : Answer} {ys ts zs us : List ℕ} (axes : length ds ≡ 4) (p : ChainPromise ds c xs ss r ys ts)
-  (q : RequestPromise ds (r .order) xs ss r′ zs us) (e : r .number ≡ 0) where
+    (q : RequestPromise ds (r .order) xs ss r′ zs us) (e : r .number ≡ 0) where
   low : r .order < 24
   low = rw (ap (λ (a : Answer). a .order) (p .given e)) (number-below-4 c)
 
@@ -181,6 +181,6 @@ module _ {ds c xs ss : List ℕ} {r r′ : Answer} {ys ts zs us : List ℕ} (axe
 
 -- a request of a number leaves exactly what the chain of its plan leaves, answer and both slices, refused or not
 module _ {ds xs ss : List ℕ} {k : ℕ} {plan : Planned} {r r′ : Answer} {ys ts zs us : List ℕ} (axes : length ds ≡ 4) (p : PlanPromise k plan)
-  (z : plan .number ≡ 0) (q : RequestPromise ds k xs ss r ys ts) (c : ChainPromise ds (take (plan .len) (plan .swaps)) xs ss r′ zs us) where
+    (z : plan .number ≡ 0) (q : RequestPromise ds k xs ss r ys ts) (c : ChainPromise ds (take (plan .len) (plan .swaps)) xs ss r′ zs us) where
   pub plan-leaves : (r ≡ r′) × (ys ≡ zs) × (ts ≡ us)
   plan-leaves = one-request axes q (request-of-chain p z c)

@@ -23,7 +23,7 @@ use Rattle.axes.proofs.Checks.{request-order}
 
 -- two outcomes, accepted together or refused together
 module _ {checks : List Check} {needed : ℕ} {Right : List ℕ → Type 0} {xs ss : List ℕ} (r r′ : Answer) {ys ys′ ts ts′ : List ℕ}
-  (p : Rearranged checks needed Right xs ss (r .number) ys ts) (q : Rearranged checks needed Right xs ss (r′ .number) ys′ ts′) where
+    (p : Rearranged checks needed Right xs ss (r .number) ys ts) (q : Rearranged checks needed Right xs ss (r′ .number) ys′ ts′) where
   same-number : r .number ≡ r′ .number
   same-number = p .number-is ∙ sym (q .number-is)
 

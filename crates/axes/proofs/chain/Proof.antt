@@ -32,7 +32,7 @@ same-length-2 : tie.Need-same-length-2
 same-length-2 c = search needs
 
 returns : tie.Need-returns
-returns c = 
+returns c =
     let x = c .before .before .before .before .before .before .before .before .before .before in
     chain-refused (c .refusal .ensures) (λ e. omega arith) (x .args .shape .lens) (now (x .args .swaps)) (now (x .args .buf)) (now (x .args .scratch))
     (sym (c .before .before .if1 .taken) ∙ c .before .before .before .chain-number .ensures)
@@ -48,7 +48,7 @@ same-length-4 : tie.Need-same-length-4
 same-length-4 c = search needs
 
 returns-2 : tie.Need-returns-2
-returns-2 c = 
+returns-2 c =
     let x = c .before .before .before .before .before .before .before .before .before .before in
     let number = c .before .before .before .chain-number .result in
     let swaps = now (x .args .swaps) in

@@ -27,7 +27,7 @@ same-length-2 : tie.Need-same-length-2
 same-length-2 c = search needs
 
 returns : tie.Need-returns
-returns c = 
+returns c =
     let x = c .before .before .before .before .before .before .before .before in
     let ds = x .args .shape .lens in
     let number = c .before .before .block-number .ensures in
@@ -50,7 +50,7 @@ same-length-4 : tie.Need-same-length-4
 same-length-4 c = search needs
 
 returns-2 : tie.Need-returns-2
-returns-2 c = 
+returns-2 c =
     let x = c .before .before .before .before .before .before .before .before .before .before .before in
     let ds = x .args .shape .lens in
     let block = sound ds (now (x .args .buf)) (now (x .args .scratch)) (sym (c .before .before .before .before .before .block-number .ensures) ∙ c .before .before .before .before .if1 .left) in
@@ -65,7 +65,7 @@ slice-aggregate-run : tie.Need-slice-aggregate-run
 slice-aggregate-run c = plan-count (c .before .before .before .before .before .before .plan .ensures) (c .before .before .before .before .if2 .left)
 
 run-requires : tie.Need-run-requires
-run-requires c κs = 
+run-requires c κs =
     let x = c .before .before .before .before .before .before .before .before .before .before .before .before .before .before in
     plan-accepted (c .before .before .before .before .before .before .plan .ensures) (c .before .before .before .before .if2 .left)
     (sound (x .args .shape .lens) (now (x .args .buf)) (now (x .args .scratch)) (sym (c .before .before .before .before .before .before .before .before .block-number .ensures) ∙ c .before .before .before .before .before .before .before .if1 .left))
@@ -77,7 +77,7 @@ same-length-6 : tie.Need-same-length-6
 same-length-6 c = search needs
 
 returns-3 : tie.Need-returns-3
-returns-3 c = 
+returns-3 c =
     let x = c .before .before .before .before .before .before .before .before .before .before .before .before .before .before .before .before .before .before .before in
     request-met (c .before .before .before .before .before .before .before .before .before .before .before .plan .ensures) (c .before .before .before .before .before .before .before .before .before .if2 .left)
     (sound (x .args .shape .lens) (now (x .args .buf)) (now (x .args .scratch)) (sym (c .before .before .before .before .before .before .before .before .before .before .before .before .before .block-number .ensures) ∙ c .before .before .before .before .before .before .before .before .before .before .before .before .if1 .left))

@@ -21,7 +21,7 @@ use Rattle.axes.proofs.chains.run.Lts as lts
 use Rattle.axes.proofs.Shape.swapped.Reads as swapped-reads
 use Rattle.axes.proofs.block.longest_axis.Reads as longest-axis-reads
 use Rattle.axes.proofs.chains.swap_at.Reads as swap-at-reads
-use Rattle.axes.proofs.passes.clear.Reads as clear-reads
+use Rattle.passes.proofs.clear.Reads as clear-reads
 use Rattle.axes.proofs.tables.next_order.Reads as next-order-reads
 
 abbrev Inv-loop : tie.InvT-loop

@@ -13,7 +13,7 @@ use Rattle.axes.proofs.chains.swap_at.Tie as tie
 use Rattle.axes.proofs.chains.swap_at.Reads as reads
 use Rattle.axes.proofs.chains.swap_at.Lts as lts
 use Rattle.axes.proofs.block.product.Reads as product-reads
-use Rattle.axes.proofs.passes.swap.Reads as swap-reads
+use Rattle.passes.proofs.swap.Reads as swap-reads
 
 product-requires : tie.Need-product-requires
 product-requires c κs =
