@@ -11,7 +11,9 @@ use lib.Dec.{eqb, ltb}
 use lib.ListN.{length, getD, drop, replicate, length-map, length-drop}
 use lib.Seq.{drop-cons, drop-length, slice, slice-cons, take-all}
 use borrow.Author.Tests.{eq-eqb, ne-eqb, lt-ltb, le-ltb}
+use Rattle.lists.specs.Tab.{tab}
 use Rattle.lists.specs.Choose.{choose}
+use Rattle.lists.proofs.Tab.{tab-getD}
 use Rattle.layout.specs.Layout.{volume, placeOf}
 use Rattle.refusals.specs.Conditions.{some, firstPlace, longest}
 use Rattle.orders.specs.Plans.{under, falling, firstBack}
@@ -25,6 +27,10 @@ drop-front l k h = rw (add-one k) (drop-cons l k 0 h)
 
 pub drop-end : (l : List ℕ) (k : ℕ) → k ≡ length l → drop k l ≡ []
 drop-end l k e = ap (λ (n : ℕ). drop n l) e ∙ drop-length l
+
+-- a list is its entries
+pub entries : (n : ℕ) (l : List ℕ) → length l ≡ n → tab n (λ k. getD l k 0) ≡ l
+entries n l e = ap (λ (m : ℕ). tab m (λ k. getD l k 0)) (sym e) ∙ tab-getD l
 
 pub whole : {n : ℕ} (l : List ℕ) → length l ≡ n → slice 0 n l ≡ l
 whole {n} l e = take-all n l (omega arith)

@@ -1,18 +1,12 @@
--- A table in rows, computed from its rule: the entry in row i and column j. A constant table that is this list has been checked
--- against the rule at all of its entries, by one comparison of the two lists.
-use mathlib.Core.Path.{_≡_, ap₂, _∙_}
-use mathlib.Core.List.{List}
-use Prim.Native.Nat.{ℕ, _+_, _*_, _/_, _%_, _<_}
-use lib.Arith.{digits-div, digits-mod, digits-lt}
-use lib.ListN.{getD}
-use Rattle.lists.specs.Tab.{tab}
-use Rattle.lists.proofs.Tab.{getD-tab}
+-- A table of rows, one for each of a list of orders and made of it: the row at a place. A constant table that is such a list has been
+-- checked against the rule at all of its entries, by one comparison of the two.
+use mathlib.Core.Path.{_≡_, refl}
+use mathlib.Core.List.{List, [], _∷_, map}
+use Prim.Native.Nat.{ℕ, zero, suc, _<_}
+use native.Mathlib.Nat.{not-suc-le-zero, le-of-suc-le-suc}
+use lib.ListN.{length, getD}
 
-abbrev pub inRows : ℕ → ℕ → (ℕ → ℕ → ℕ) → List ℕ
-inRows rows columns rule = tab (rows * columns) (λ n. rule (n / columns) (n % columns))
-
-pub in-row : (rows columns : ℕ) (rule : ℕ → ℕ → ℕ) (i j : ℕ) → i < rows → j < columns
-    → getD (inRows rows columns rule) (i * columns + j) 0 ≡ rule i j
-in-row rows columns rule i j h k =
-    getD-tab (rows * columns) (λ n. rule (n / columns) (n % columns)) (i * columns + j) 0 (digits-lt h k)
-    ∙ ap₂ rule (digits-div i k) (digits-mod i k)
+pub row-at : (made : List ℕ → List ℕ) (rows : List (List ℕ)) (i : ℕ) → i < length rows → getD (map made rows) i [] ≡ made (getD rows i [])
+row-at made [] i h = absurd (not-suc-le-zero h)
+row-at made (o ∷ rows) zero h = refl
+row-at made (o ∷ rows) (suc i) h = row-at made rows i (le-of-suc-le-suc h)

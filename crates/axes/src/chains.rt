@@ -35,11 +35,12 @@ pub(crate) fn chain_number(buf: &[u32], scratch: &[u32], lens: [usize; 4], swaps
     if number != 0 {
         return number;
     }
-    if swaps.len() > 32 {
+    let count = swaps.len();
+    let bad = first_bad(swaps);
+    if count > 32 {
         return 5;
     }
-    let bad = first_bad(swaps);
-    if bad < swaps.len() {
+    if bad < count {
         return 6;
     }
     0

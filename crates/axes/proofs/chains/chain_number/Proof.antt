@@ -33,10 +33,10 @@ returns c =
 
 returns-2 : tie.Need-returns-2
 returns-2 c =
-    let x = c .before .before .before .before .before .before in
+    let x = c .before .before .before .before .before .before .before in
     let swaps = now (x .args .swaps) in
     let more : List Check = check 5 (longChain swaps) ∷ check 6 (badSwap swaps) ∷ [] in
-    let block = sound (x .args .lens) (now (x .args .buf)) (now (x .args .scratch)) (sym (c .before .before .block-number .ensures) ∙ c .before .if1 .left) in
+    let block = sound (x .args .lens) (now (x .args .buf)) (now (x .args .scratch)) (sym (c .before .before .before .block-number .ensures) ∙ c .before .before .if1 .left) in
     let first : First 5 more = First.here (lt-ltb 32 (length swaps) (c .if2 .taken)) refl in
     sym (accepted-so-far more (silent-block block) ∙ first-is first)
 
@@ -49,9 +49,9 @@ returns-3 c =
     let swaps = now (x .args .swaps) in
     let more : List Check = check 5 (longChain swaps) ∷ check 6 (badSwap swaps) ∷ [] in
     let block = sound (x .args .lens) (now (x .args .buf)) (now (x .args .scratch)) (sym (c .before .before .before .before .block-number .ensures) ∙ c .before .before .before .if1 .left) in
-    let place = c .before .first-bad .ensures in
+    let place = c .before .before .first-bad .ensures in
     let first : First 6 more =
-    First.later (le-ltb 32 (length swaps) (c .before .before .if2 .left)) (First.here (found-place noSwap swaps (omega (arith, place))) refl) in
+    First.later (le-ltb 32 (length swaps) (c .before .if2 .left)) (First.here (found-place noSwap swaps (omega (arith, place))) refl) in
     sym (accepted-so-far more (silent-block block) ∙ first-is first)
 
 returns-4 : tie.Need-returns-4
@@ -60,12 +60,12 @@ returns-4 c =
     let swaps = now (x .args .swaps) in
     let more : List Check = check 5 (longChain swaps) ∷ check 6 (badSwap swaps) ∷ [] in
     let block = sound (x .args .lens) (now (x .args .buf)) (now (x .args .scratch)) (sym (c .before .before .before .before .block-number .ensures) ∙ c .before .before .before .if1 .left) in
-    let place = c .before .first-bad .ensures in
+    let place = c .before .before .first-bad .ensures in
     let silent : Silent more =
-    Silent.more (le-ltb 32 (length swaps) (c .before .before .if2 .left)) (Silent.more (no-place noSwap swaps (omega (arith, place))) Silent.none) in
+    Silent.more (le-ltb 32 (length swaps) (c .before .if2 .left)) (Silent.more (no-place noSwap swaps (omega (arith, place))) Silent.none) in
     sym (accepted-so-far more (silent-block block) ∙ silent-zero silent)
 
 pub chain-number-spec : {M : Type 1} → statement M
 chain-number-spec =
     tie.close
-    (tie.spec block-number-requires returns returns-2 first-bad-requires returns-3 returns-4)
+    (tie.spec block-number-requires returns first-bad-requires returns-2 returns-3 returns-4)

@@ -9,8 +9,7 @@ use lib.ListN.{drop, length, getD, set, replicate, length-map}
 use Rattle.lists.specs.Tab.{tab}
 use Rattle.lists.proofs.Tab.{tab-more}
 use Rattle.orders.specs.Plans.{relabelled, firstBack, planned}
-use Rattle.axes.proofs.Front.{held, drop-zeros}
-use Rattle.axes.proofs.Orders.{entries}
+use Rattle.axes.proofs.Front.{held, entries, drop-zeros}
 use Rattle.axes.proofs.Swaps.{length-planned, back-few, swap-next, swaps-after}
 use borrow.Author.Needs.{needs}
 use Rattle.axes.proofs.plans.Order.planned_swaps.Statement.{statement}
