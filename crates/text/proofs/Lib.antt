@@ -1,1 +1,3 @@
 pub mod Bench
+pub mod Numbers
+pub mod Lines

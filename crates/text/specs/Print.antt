@@ -36,4 +36,4 @@ fields (v ∷ vs) = field v ++ fields vs
 
 -- a line: its word, a field for each number, closed by one LF
 unfoldable pub line : List ℕ → List ℕ → List ℕ
-line word vs = word ++ fields vs ++ (lineFeed ∷ [])
+line word vs = word ++ (fields vs ++ (lineFeed ∷ []))

@@ -36,8 +36,8 @@ rowsText (suc count) n words = line rowWord (take n words) ++ rowsText count n (
 
 -- a sheet: line 1 `shape` and the lengths, line 2 `chain` and the swaps, then the rows
 unfoldable pub sheetText : List ℕ → List ℕ → List ℕ → List ℕ
-sheetText ds chain words = line shapeWord ds ++ line chainWord chain ++ rowsText (rowCount ds) (rowWidth ds) words
+sheetText ds chain words = line shapeWord ds ++ (line chainWord chain ++ rowsText (rowCount ds) (rowWidth ds) words)
 
 -- a result sheet: line 1 `shape` with the new lengths, line 2 `order` with the order number, then the rows of the new shape
 unfoldable pub resultText : List ℕ → ℕ → List ℕ → List ℕ
-resultText ds order words = line shapeWord ds ++ line orderWord (order ∷ []) ++ rowsText (rowCount ds) (rowWidth ds) words
+resultText ds order words = line shapeWord ds ++ (line orderWord (order ∷ []) ++ rowsText (rowCount ds) (rowWidth ds) words)
