@@ -1,1 +1,2 @@
 mod field;
+mod line;
