@@ -1,3 +1,6 @@
 pub mod Places
 pub mod Runs
 pub mod LinesAt
+pub mod Stores
+pub mod Checks
+pub mod RowsFrom

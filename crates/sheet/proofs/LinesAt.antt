@@ -13,6 +13,7 @@ use Rattle.lists.proofs.Test.{same→eq}
 use Rattle.text.specs.Print.{tabByte, lineFeed}
 use Rattle.text.specs.Read.{Found, after, readFields, closed, readLine, tabs}
 use Rattle.text.proofs.Numbers.{decided}
+use Rattle.text.proofs.Lines.{after-found, closed-found}
 use Rattle.sheet.proofs.Places.{drop-next}
 
 same-length : (xs ys : List ℕ) → same xs ys ≡ true → length xs ≡ length ys
@@ -54,10 +55,6 @@ module _ (bytes : List ℕ) (at : ℕ) (word : List ℕ) where
         length-drop at bytes,
       )
 
-  pub word-short : at ≤ length bytes → length bytes - at < length word → same (take (length word) (drop at bytes)) word ≡ false
-  word-short h k =
-      decided (same (take (length word) (drop at bytes)) word) (λ t. absurd (omega (arith, word-inside h t))) (λ t. t)
-
   -- the line at a place, once its word stands there
   pub no-word : (n : ℕ) → same (take (length word) (drop at bytes)) word ≡ false → readLine word n (drop at bytes) ≡ Found.none
   unfolding readLine
@@ -67,6 +64,25 @@ module _ (bytes : List ℕ) (at : ℕ) (word : List ℕ) where
       → readLine word n (drop at bytes) ≡ after (readFields n (drop (at + length word) bytes)) closed
   unfolding readLine
   past-word n e = rw (e, drop-drop (length word) at bytes)
+
+  -- the fields of a line that was read, and its LF behind them
+  pub line-fields : (n : ℕ) {us mid : List ℕ} → at ≤ length bytes → readLine word n (drop at bytes) ≡ Found.found us mid
+      → (at + length word ≤ length bytes) × (readFields n (drop (at + length word) bytes) ≡ Found.found us (lineFeed ∷ mid))
+  line-fields n {us} {mid} h e =
+      decided (same (take (length word) (drop at bytes)) word)
+      (λ (t : same (take (length word) (drop at bytes)) word ≡ true).
+      after-found (readFields n (drop (at + length word) bytes)) closed (sym (past-word n t) ∙ e)
+      (λ vs end f g.
+      let k = closed-found vs end g in
+      (word-inside h t, f ∙ ap (λ (l : List ℕ). Found.found l end) (k .0) ∙ ap (Found.found us) (k .1))))
+      (λ (t : same (take (length word) (drop at bytes)) word ≡ false).
+      let z : Found.none ≡ Found.found us mid = sym (no-word n t) ∙ e in
+      let q : _≡_ {A = ℕ} 0 1 = cc in
+      absurd (omega arith))
+
+  pub word-short : at ≤ length bytes → length bytes - at < length word → same (take (length word) (drop at bytes)) word ≡ false
+  word-short h k =
+      decided (same (take (length word) (drop at bytes)) word) (λ t. absurd (omega (arith, word-inside h t))) (λ t. t)
 
 module _ (bytes : List ℕ) (p : ℕ) where
   pub closed-end : (vs : List ℕ) → length bytes ≤ p → closed vs (drop p bytes) ≡ Found.none

@@ -5,10 +5,12 @@ use Prim.Native.Nat.{ℕ, zero, suc, _+_, _<_, _≤_}
 use native.Mathlib.Omega.{arith}
 use native.Mathlib.Nat.{le-of-suc-le-suc}
 use native.Mathlib.Numerals.{add-one}
-use lib.ListN.{length}
+use lib.ListN.{length, drop}
+use mathlib.Core.Bool.{Bool}
 use Rattle.text.specs.Read.{Found, after, readField, readFields}
+use Rattle.text.proofs.Numbers.{decided}
 use Rattle.text.proofs.Lines.{after-found}
-use Rattle.sheet.specs.Place.{numbersOf}
+use Rattle.sheet.specs.Place.{At, There, numbersOf}
 
 -- what was found is found with its own numbers
 pub got : {x : Found (List ℕ)} {vs rest : List ℕ} → x ≡ Found.found vs rest → x ≡ Found.found (numbersOf x) rest
@@ -70,3 +72,9 @@ field-there i n bs {us} {end} e h f g =
     let a : Found.none ≡ Found.found us end = sym (fields-stop i n bs f g h) ∙ e in
     let z : _≡_ {A = ℕ} 0 1 = cc in
     omega arith
+
+-- so a field that is read again is found again
+pub taken-field : (i n : ℕ) (bs : List ℕ) {vs mid bytes : List ℕ} (ok : Bool) {value next : ℕ} → There (readFields n bs) → i < n
+    → readFields i bs ≡ Found.found vs mid → At bytes (readField mid) ok value next → readField mid ≡ Found.found value (drop next bytes)
+taken-field i n bs ok t h e a =
+    decided ok (λ q. a .right q) (λ q. absurd (field-there i n bs (t .found) h e (a .wrong q)))

@@ -4,7 +4,9 @@ use mathlib.Core.Bool.{Bool, true, false}
 use mathlib.Core.List.{List, []}
 use Prim.Native.Nat.{ℕ, _≤_}
 use lib.ListN.{length, drop}
+use lib.Seq.{sets}
 use Rattle.text.specs.Read.{Found}
+use Rattle.text.specs.Meaning.{Step}
 
 -- where it is ok, what was found is the value, with the bytes from `next` on after it; else nothing was found
 pub record At {A : Type 0} (bytes : List ℕ) (what : Found A) (ok : Bool) (value : A) (next : ℕ) : Type 0 where
@@ -16,3 +18,32 @@ pub record At {A : Type 0} (bytes : List ℕ) (what : Found A) (ok : Bool) (valu
 abbrev pub numbersOf : Found (List ℕ) → List ℕ
 numbersOf Found.none = []
 numbersOf (Found.found vs rest) = vs
+
+-- the bytes after what was found
+abbrev pub restOf : {A : Type 0} → Found A → List ℕ
+restOf Found.none = []
+restOf (Found.found a rest) = rest
+
+-- something was found
+pub record There (what : Found (List ℕ)) : Type 0 where
+  pub found : what ≡ Found.found (numbersOf what) (restOf what)
+
+-- the numbers that were found are stored in words from `from` on, and the bytes from `next` on follow them
+pub record Copied (bytes : List ℕ) (what : Found (List ℕ)) (next : ℕ) (words : List ℕ) (from : ℕ) (words′ : List ℕ) : Type 0 where
+  pub read : what ≡ Found.found (numbersOf what) (drop next bytes)
+  pub inside : next ≤ length bytes
+  pub stored : words′ ≡ sets words from (numbersOf what)
+
+-- the words of a step that went on, none of a refusal
+abbrev pub wordsOf : Step → List ℕ
+wordsOf (Step.refuse number place) = []
+wordsOf (Step.go vs rest) = vs
+
+-- the rows are right, and nothing follows them
+pub record RowsThere (what : Step) : Type 0 where
+  pub rows : what ≡ Step.go (wordsOf what) []
+
+-- where it is ok, the rows are right and nothing follows them; else the line is malformed, missing or left over
+pub record RowsAt (what : Step) (ok : Bool) (line : ℕ) : Type 0 where
+  pub right : ok ≡ true → what ≡ Step.go (wordsOf what) []
+  pub wrong : ok ≡ false → what ≡ Step.refuse 10 line

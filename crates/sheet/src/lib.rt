@@ -1,2 +1,5 @@
+mod check;
 mod field;
 mod line;
+mod rows;
+mod values;

@@ -85,7 +85,7 @@ text-fields {rest = rest} none s = refl
 text-fields {rest = rest} (more {v} {vs} l m) s =
     rw (append-assoc (field v) (fields vs) rest, text-field v l (stops-fields vs s), text-fields m s)
 
-closed-found : (vs mid : List ℕ) {us rest : List ℕ} → closed vs mid ≡ Found.found us rest → (vs ≡ us) × (mid ≡ lineFeed ∷ rest)
+pub closed-found : (vs mid : List ℕ) {us rest : List ℕ} → closed vs mid ≡ Found.found us rest → (vs ≡ us) × (mid ≡ lineFeed ∷ rest)
 unfolding closed
 closed-found vs [] {us} {rest} e = let n : _≡_ {A = ℕ} 0 1 = cc in absurd (omega arith)
 closed-found vs (b ∷ bs) {us} {rest} e =
@@ -107,7 +107,7 @@ line-then word vs rest =
     append-assoc word (fields vs ++ (lineFeed ∷ [])) rest
     ∙ ap (λ (l : List ℕ). word ++ l) (append-assoc (fields vs) (lineFeed ∷ []) rest)
 
-T-true : (t : Bool) → t ≡ true → T t
+pub T-true : (t : Bool) → t ≡ true → T t
 T-true t e = rw e tt
 
 true-T : (t : Bool) → T t → t ≡ true
