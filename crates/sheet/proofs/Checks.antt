@@ -12,6 +12,7 @@ use borrow.Author.Tests.{ltb-false, lt-ltb, le-ltb, eq-eqb, ne-eqb}
 use Rattle.lists.specs.Choose.{choose, either}
 use Rattle.layout.specs.Layout.{volume}
 use Rattle.refusals.specs.Conditions.{some, outOfRange, badLength, noSwap, badSwap, firstPlace}
+use Rattle.text.specs.Sheet.{rowCount, rowWidth}
 use Rattle.text.proofs.Numbers.{decided, either-false}
 use Rattle.text.proofs.Length.{none-at}
 use Rattle.sheet.proofs.Places.{drop-next}
@@ -71,6 +72,20 @@ volume-four (a ∷ b ∷ c ∷ []) e = absurd (omega arith)
 volume-four (a ∷ b ∷ c ∷ d ∷ []) e = rw (mul-one d)
 volume-four (a ∷ b ∷ c ∷ d ∷ x ∷ ds) e = absurd (omega arith)
 
+-- all lengths but the last multiplied, and the last
+pub rows-four : (ds : List ℕ) → length ds ≡ 4 → getD ds 0 0 * (getD ds 1 0 * getD ds 2 0) ≡ rowCount ds
+unfolding rowCount volume
+rows-four [] e = absurd (omega arith)
+rows-four (a ∷ []) e = absurd (omega arith)
+rows-four (a ∷ b ∷ []) e = absurd (omega arith)
+rows-four (a ∷ b ∷ c ∷ []) e = absurd (omega arith)
+rows-four (a ∷ b ∷ c ∷ d ∷ []) e = rw (mul-one c)
+rows-four (a ∷ b ∷ c ∷ d ∷ x ∷ ds) e = absurd (omega arith)
+
+pub width-four : (ds : List ℕ) → length ds ≡ 4 → getD ds 3 0 ≡ rowWidth ds
+unfolding rowWidth
+width-four ds e = rw e
+
 -- two, three and four lengths multiply to no more than 4,096 to that power
 module _ (ds : List ℕ) (e : length ds ≡ 4) (h : badLength ds ≡ false) where
   pub two-bound : getD ds 2 0 * getD ds 3 0 ≤ 16777216
@@ -78,6 +93,12 @@ module _ (ds : List ℕ) (e : length ds ≡ 4) (h : badLength ds ≡ false) wher
 
   pub three-bound : getD ds 1 0 * (getD ds 2 0 * getD ds 3 0) ≤ 68719476736
   three-bound = mul-le-mul (length-bound ds 1 (omega arith) h) two-bound
+
+  pub plane-bound : getD ds 1 0 * getD ds 2 0 ≤ 16777216
+  plane-bound = mul-le-mul (length-bound ds 1 (omega arith) h) (length-bound ds 2 (omega arith) h)
+
+  pub rows-bound : getD ds 0 0 * (getD ds 1 0 * getD ds 2 0) ≤ 68719476736
+  rows-bound = mul-le-mul (length-bound ds 0 (omega arith) h) plane-bound
 
   pub four-bound : getD ds 0 0 * (getD ds 1 0 * (getD ds 2 0 * getD ds 3 0)) ≤ 281474976710656
   four-bound = mul-le-mul (length-bound ds 0 (omega arith) h) three-bound

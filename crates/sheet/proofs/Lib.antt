@@ -4,3 +4,4 @@ pub mod LinesAt
 pub mod Stores
 pub mod Checks
 pub mod RowsFrom
+pub mod HeadLines

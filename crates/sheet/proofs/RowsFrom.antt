@@ -136,3 +136,13 @@ row-at bytes count n i p h inside t =
 -- the room that the rows left need: one row less
 pub room-left : (count n i : ℕ) → i < count → (count - i) * n ≡ n + (count - (i + 1)) * n
 room-left count n i h = let a : count - i ≡ suc (count - (i + 1)) = omega arith in rw a (omega arith)
+
+ended-words : (k : ℕ) (bs : List ℕ) → wordsOf (ended k bs) ≡ []
+unfolding ended
+ended-words k [] = refl
+ended-words k (b ∷ bs) = refl
+
+-- behind the last row no word is left
+pub no-words : (count n : ℕ) (bs : List ℕ) → wordsOf (rowsLeft count n count bs) ≡ []
+unfolding rowLines
+no-words count n bs = let a : count - count ≡ 0 = omega arith in rw a (ended-words (3 + count) bs)

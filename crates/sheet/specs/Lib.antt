@@ -1,1 +1,3 @@
+pub mod Swaps
 pub mod Place
+pub mod Reader

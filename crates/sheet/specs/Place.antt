@@ -7,6 +7,7 @@ use lib.ListN.{length, drop}
 use lib.Seq.{sets}
 use Rattle.text.specs.Read.{Found}
 use Rattle.text.specs.Meaning.{Step}
+use Rattle.sheet.specs.Swaps.{padded}
 
 -- where it is ok, what was found is the value, with the bytes from `next` on after it; else nothing was found
 pub record At {A : Type 0} (bytes : List ℕ) (what : Found A) (ok : Bool) (value : A) (next : ℕ) : Type 0 where
@@ -47,3 +48,15 @@ pub record RowsThere (what : Step) : Type 0 where
 pub record RowsAt (what : Step) (ok : Bool) (line : ℕ) : Type 0 where
   pub right : ok ≡ true → what ≡ Step.go (wordsOf what) []
   pub wrong : ok ≡ false → what ≡ Step.refuse 10 line
+
+-- where the number is 0, the step went on with the values, and the bytes from `next` on follow them; else it refused so
+pub record StepAt (bytes : List ℕ) (what : Step) (number place : ℕ) (values : List ℕ) (next : ℕ) : Type 0 where
+  pub right : number ≡ 0 → what ≡ Step.go values (drop next bytes)
+  pub wrong : (number ≡ 0 → ⊥) → what ≡ Step.refuse number place
+  pub inside : next ≤ length bytes
+
+-- the chain that was read stands before the zeros of the swaps, which it counts
+pub record ChainAt (bytes : List ℕ) (what : Step) (number place : ℕ) (swaps : List ℕ) (count next : ℕ) : Type 0 where
+  pub step : StepAt bytes what number place (wordsOf what) next
+  pub padded : number ≡ 0 → swaps ≡ padded (wordsOf what)
+  pub counted : number ≡ 0 → count ≡ length (wordsOf what)

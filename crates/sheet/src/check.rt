@@ -5,6 +5,7 @@ ghost use Prim.Native.Nat.{_≤_};
 ghost use lib.ListN.{take};
 ghost use Rattle.layout.specs.Layout.{volume};
 ghost use Rattle.refusals.specs.Conditions.{badLength, firstPlace, noSwap};
+ghost use Rattle.text.specs.Sheet.{rowCount};
 
 // Whether an axis length is 0 or above 4,096.
 pub(crate) fn bad_length(lens: [usize; 4]) -> bool
@@ -28,6 +29,15 @@ pub(crate) fn volume_of(lens: [usize; 4]) -> usize
 {
     let chunk = lens[2] * lens[3];
     let plane = lens[1] * chunk;
+    lens[0] * plane
+}
+
+// The rows of a block.
+pub(crate) fn row_count(lens: [usize; 4]) -> usize
+    requires { ⌜ badLength lens ≡ false ⌝ }
+    ensures { λ r. ⌜ r ≡ rowCount lens ⌝ }
+{
+    let plane = lens[1] * lens[2];
     lens[0] * plane
 }
 

@@ -23,12 +23,18 @@ pub(crate) fn rows_at(bytes: &[u8], at: usize, count: usize, n: usize) -> Rows
     for i in 0..count {
         let l = line::line_at(bytes, p, b"row", n);
         if !l.ok {
-            return Rows { ok: false, line: i + 3 };
+            return Rows {
+                ok: false,
+                line: i + 3,
+            };
         }
         p = l.next;
     }
     if p < bytes.len() {
-        return Rows { ok: false, line: count + 3 };
+        return Rows {
+            ok: false,
+            line: count + 3,
+        };
     }
     Rows { ok: true, line: 0 }
 }

@@ -48,14 +48,14 @@ a-swap : (k : ℕ) → noSwap k ≡ false → k ≤ limit
 a-swap k e = omega (arith, ltb-false 2 k e)
 
 -- what line 1 and its checks let through
-record ShapeRead (buffer bytes ds rest : List ℕ) : Type 0 where
-  few-bytes : length bytes ≤ 16384
-  held : Held (line shapeWord) 4 bytes ds rest
-  lengths : badLength ds ≡ false
-  few-words : volume ds ≤ 1024
-  room : volume ds ≤ length buffer
+pub record ShapeRead (buffer bytes ds rest : List ℕ) : Type 0 where
+  pub few-bytes : length bytes ≤ 16384
+  pub held : Held (line shapeWord) 4 bytes ds rest
+  pub lengths : badLength ds ≡ false
+  pub few-words : volume ds ≤ 1024
+  pub room : volume ds ≤ length buffer
 
-shape-read : (buffer bytes : List ℕ) {ds rest : List ℕ} → shapeLine buffer bytes ≡ Step.go ds rest → ShapeRead buffer bytes ds rest
+pub shape-read : (buffer bytes : List ℕ) {ds rest : List ℕ} → shapeLine buffer bytes ≡ Step.go ds rest → ShapeRead buffer bytes ds rest
 unfolding shapeLine
 shape-read buffer bytes {ds} {rest} e =
     let checked : List ℕ → List ℕ → Step = λ es mid.
@@ -90,12 +90,12 @@ read-shape {buffer} {bytes} {ds} {rest} h =
     )
 
 -- what line 2 and its checks let through
-record ChainRead (bytes chain rest : List ℕ) : Type 0 where
-  held : Held (line chainWord) (tabs bytes) bytes chain rest
-  few-swaps : length chain ≤ 32
-  swaps : badSwap chain ≡ false
+pub record ChainRead (bytes chain rest : List ℕ) : Type 0 where
+  pub held : Held (line chainWord) (tabs bytes) bytes chain rest
+  pub few-swaps : length chain ≤ 32
+  pub swaps : badSwap chain ≡ false
 
-chain-read : (bytes : List ℕ) {chain rest : List ℕ} → chainLine bytes ≡ Step.go chain rest → ChainRead bytes chain rest
+pub chain-read : (bytes : List ℕ) {chain rest : List ℕ} → chainLine bytes ≡ Step.go chain rest → ChainRead bytes chain rest
 unfolding chainLine
 chain-read bytes {chain} {rest} e =
     let checked : List ℕ → List ℕ → Step = λ c mid.

@@ -53,9 +53,10 @@ loop-less c = search needs
 loop-again : tie.Need-loop-again Inv-loop μ-loop
 loop-again c =
     let l = c .before .before .before .loop in
-    let lens = c .before .before .before .before .args .t1 in
-    (omega arith,
-    l .inv .1 ∙ some-later outOfRange lens (l .i) (omega arith) (range-in (getD lens (l .i) 0) (c .before .if1 .left) (c .if2 .left)))
+    let lens = c .before .before .before .before .args .t1 in (
+      omega arith,
+      l .inv .1 ∙ some-later outOfRange lens (l .i) (omega arith) (range-in (getD lens (l .i) 0) (c .before .if1 .left) (c .if2 .left)),
+    )
 
 returns-3 : tie.Need-returns-3 Inv-loop μ-loop
 returns-3 c =

@@ -33,9 +33,12 @@ returns c =
     let l = c .before .before .loop in
     let s = c .before .before .before in
     let xs = take (s .args .n) (s .args .t1) in
-    omega (arith, l .inv .1,
-    place-here noSwap xs (l .i) (omega (arith, length-take-le (s .args .n) (s .args .t1) (omega arith)))
-    (rw (getD-take (s .args .n) (s .args .t1) (l .i) 0 (c .before .loop-test .taken)) (lt-ltb 2 (getD (s .args .t1) (l .i) 0) (c .if1 .taken))))
+    omega (
+      arith,
+      l .inv .1,
+      place-here noSwap xs (l .i) (omega (arith, length-take-le (s .args .n) (s .args .t1) (omega arith)))
+          (rw (getD-take (s .args .n) (s .args .t1) (l .i) 0 (c .before .loop-test .taken)) (lt-ltb 2 (getD (s .args .t1) (l .i) 0) (c .if1 .taken))),
+    )
 
 add-i : tie.Need-add-i Inv-loop μ-loop
 add-i c = search needs
@@ -47,18 +50,25 @@ loop-again : tie.Need-loop-again Inv-loop μ-loop
 loop-again c =
     let l = c .before .before .loop in
     let s = c .before .before .before in
-    let xs = take (s .args .n) (s .args .t1) in
-    (omega arith,
-    omega (arith, l .inv .1,
-    place-later noSwap xs (l .i) (omega (arith, length-take-le (s .args .n) (s .args .t1) (omega arith)))
-    (rw (getD-take (s .args .n) (s .args .t1) (l .i) 0 (c .before .loop-test .taken)) (le-ltb 2 (getD (s .args .t1) (l .i) 0) (c .if1 .left)))))
+    let xs = take (s .args .n) (s .args .t1) in (
+      omega arith,
+      omega (
+        arith,
+        l .inv .1,
+        place-later noSwap xs (l .i) (omega (arith, length-take-le (s .args .n) (s .args .t1) (omega arith)))
+            (rw (getD-take (s .args .n) (s .args .t1) (l .i) 0 (c .before .loop-test .taken)) (le-ltb 2 (getD (s .args .t1) (l .i) 0) (c .if1 .left))),
+      ),
+    )
 
 returns-2 : tie.Need-returns-2 Inv-loop μ-loop
 returns-2 c =
     let l = c .before .loop in
     let s = c .before .before in
-    omega (arith, l .inv .1,
-    place-end noSwap (take (s .args .n) (s .args .t1)) (l .i) (omega (arith, length-take-le (s .args .n) (s .args .t1) (omega arith))))
+    omega (
+      arith,
+      l .inv .1,
+      place-end noSwap (take (s .args .n) (s .args .t1)) (l .i) (omega (arith, length-take-le (s .args .n) (s .args .t1) (omega arith))),
+    )
 
 pub first-bad-spec : {M : Type 1} → statement M
 first-bad-spec =

@@ -28,7 +28,7 @@ loop-holds c =
     let a = c .before .args in
     let bs = drop (a .at) (a .bytes .now) in
     let e : rowsLeft (a .count) (a .n) 0 bs ≡ rowLines 3 (a .count) (a .n) bs =
-        let z : a .count - 0 ≡ a .count = omega arith in rw z in
+    let z : a .count - 0 ≡ a .count = omega arith in rw z in
     (omega arith, c .before .pre .0, ([], sym e ∙ behind-none (rowsLeft (a .count) (a .n) 0 bs)))
 
 slice-aggregate-line-at : tie.Need-slice-aggregate-line-at Inv-loop μ-loop
@@ -63,13 +63,16 @@ loop-again c =
     let mid = drop (f .line-at .result .next) (a .bytes .now) in
     let us = numbersOf (readLine rowWord (a .n) bs) in
     let good : readLine rowWord (a .n) bs ≡ Found.found us mid = f .line-at .ensures .right (not-false (f .line-at .result .ok) (c .if1 .left)) in
-    let ws = l .inv .2 .0 in
-    (omega arith,
-    f .line-at .ensures .inside,
-    (ws ++ us,
-    l .inv .2 .1
-    ∙ ap (behind ws) (row-step (a .count) (a .n) (l .i) bs (omega arith) good)
-    ∙ behind-behind ws us (rowsLeft (a .count) (a .n) (l .i + 1) mid)))
+    let ws = l .inv .2 .0 in (
+      omega arith,
+      f .line-at .ensures .inside,
+      (
+        ws ++ us,
+        l .inv .2 .1
+            ∙ ap (behind ws) (row-step (a .count) (a .n) (l .i) bs (omega arith) good)
+            ∙ behind-behind ws us (rowsLeft (a .count) (a .n) (l .i + 1) mid),
+      ),
+    )
 
 add-t15 : tie.Need-add-t15 Inv-loop μ-loop
 add-t15 c = search needs
@@ -80,7 +83,7 @@ returns-2 c =
     let a = c .before .before .before .before .args in
     let e : l .i ≡ a .count = omega arith in
     let over : rowsLeft (a .count) (a .n) (l .i) (drop (l .p) (a .bytes .now)) ≡ Step.refuse 10 (a .count + 3) =
-        rw e (rows-left-over (a .count) (a .n) (a .bytes .now) (l .p) (c .if2 .taken)) in
+    rw e (rows-left-over (a .count) (a .n) (a .bytes .now) (l .p) (c .if2 .taken)) in
     rows-wrong (l .inv .2 .1 ∙ ap (behind (l .inv .2 .0)) over)
 
 returns-3 : tie.Need-returns-3 Inv-loop μ-loop
@@ -89,7 +92,7 @@ returns-3 c =
     let a = c .before .before .before .before .args in
     let e : l .i ≡ a .count = omega arith in
     let over : rowsLeft (a .count) (a .n) (l .i) (drop (l .p) (a .bytes .now)) ≡ Step.go [] [] =
-        rw e (rows-end (a .count) (a .n) (a .bytes .now) (l .p) (c .if2 .left)) in
+    rw e (rows-end (a .count) (a .n) (a .bytes .now) (l .p) (c .if2 .left)) in
     rows-right 0 (l .inv .2 .1 ∙ ap (behind (l .inv .2 .0)) over)
 
 pub rows-at-spec : {M : Type 1} → statement M

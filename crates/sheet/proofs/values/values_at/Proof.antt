@@ -49,12 +49,13 @@ loop-again c =
     let vs = numbersOf (readFields (l .i) bs) in
     let v = c .field-at .result .value in
     let f = taken-field (l .i) (s .args .n) bs (c .field-at .result .ok) (s .pre .1) (omega arith) (l .inv .1) (c .field-at .ensures) in
-    let e = fields-more (l .i) bs (l .inv .1) f in
-    (omega arith,
-    got e,
-    ap (λ (x : List ℕ). set x (l .i) v) (l .inv .2)
-    ∙ zeros-more vs (l .i) 32 v (fields-text (l .i) bs (l .inv .1) .long) (omega (arith, s .pre .0))
-    ∙ ap (λ (x : Found (List ℕ)). numbersOf x ++ replicate (32 - (l .i + 1)) 0) (sym e))
+    let e = fields-more (l .i) bs (l .inv .1) f in (
+      omega arith,
+      got e,
+      ap (λ (x : List ℕ). set x (l .i) v) (l .inv .2)
+          ∙ zeros-more vs (l .i) 32 v (fields-text (l .i) bs (l .inv .1) .long) (omega (arith, s .pre .0))
+          ∙ ap (λ (x : Found (List ℕ)). numbersOf x ++ replicate (32 - (l .i + 1)) 0) (sym e),
+    )
 
 returns : tie.Need-returns Inv-loop μ-loop
 returns c =

@@ -71,14 +71,15 @@ loop-again c =
     let bs = drop (s .args .at) (s .args .bytes .now) in
     let vs = numbersOf (readFields (l .i) bs) in
     let v = c .before .field-at .result .value in
-    let e = fields-more (l .i) bs (l .inv .1) (again c) in
-    (omega arith,
-    got e,
-    length-set (l .words) (s .args .from + l .i) v ∙ l .inv .2,
-    c .before .field-at .ensures .inside,
-    ap (λ (x : List ℕ). set x (s .args .from + l .i) v) (l .inv .4)
-    ∙ sets-more (s .args .words .now) (s .args .from) (l .i) vs v (fields-text (l .i) bs (l .inv .1) .long)
-    ∙ ap (λ (x : Found (List ℕ)). sets (s .args .words .now) (s .args .from) (numbersOf x)) (sym e))
+    let e = fields-more (l .i) bs (l .inv .1) (again c) in (
+      omega arith,
+      got e,
+      length-set (l .words) (s .args .from + l .i) v ∙ l .inv .2,
+      c .before .field-at .ensures .inside,
+      ap (λ (x : List ℕ). set x (s .args .from + l .i) v) (l .inv .4)
+          ∙ sets-more (s .args .words .now) (s .args .from) (l .i) vs v (fields-text (l .i) bs (l .inv .1) .long)
+          ∙ ap (λ (x : Found (List ℕ)). sets (s .args .words .now) (s .args .from) (numbersOf x)) (sym e),
+    )
 
 same-length : tie.Need-same-length Inv-loop μ-loop
 same-length c = search needs
