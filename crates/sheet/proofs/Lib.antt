@@ -5,3 +5,4 @@ pub mod Stores
 pub mod Checks
 pub mod RowsFrom
 pub mod HeadLines
+pub mod Whole

@@ -57,13 +57,18 @@ none-at f (v ∷ vs) (suc k) h e = none-at f vs k (le-of-suc-le-suc h) (either-f
 pub in-range-pos : (d : ℕ) → outOfRange d ≡ false → 1 ≤ d
 in-range-pos d e = omega (arith, eqb-false d 0 (either-false (eqb d 0) (ltb 4096 d) e .0))
 
+-- a block has no more rows than words
+pub rows-le-words : (ds : List ℕ) → 0 < length ds → badLength ds ≡ false → rowCount ds ≤ volume ds
+unfolding rowWidth
+rows-le-words ds axes lengths =
+    let wide : 1 ≤ rowWidth ds = in-range-pos (rowWidth ds) (none-at outOfRange ds (length ds - 1) (omega arith) lengths) in
+    omega (arith, mul-le-mul-left (rowCount ds) wide, rows-volume ds axes)
+
 -- 16,384 bytes always suffice for 1,024 words
 pub result-fits : (ds : List ℕ) (order : ℕ) (words : List ℕ) → length ds ≡ 4 → badLength ds ≡ false → volume ds ≤ 1024
     → length (resultText ds order words) ≤ 16384
-unfolding resultText rowWidth
+unfolding resultText
 result-fits ds order words axes lengths few =
-    let wide : 1 ≤ rowWidth ds = in-range-pos (rowWidth ds) (none-at outOfRange ds (length ds - 1) (omega arith) lengths) in
-    let rows : rowCount ds * 1 ≤ rowCount ds * rowWidth ds = mul-le-mul-left (rowCount ds) wide in
     rw (
       length-append (line shapeWord ds) (line orderWord (order ∷ []) ++ rowsText (rowCount ds) (rowWidth ds) words),
       length-append (line orderWord (order ∷ [])) (rowsText (rowCount ds) (rowWidth ds) words),
@@ -76,4 +81,5 @@ result-fits ds order words axes lengths few =
       fields-few (order ∷ []),
       rows-few (rowCount ds) (rowWidth ds) words,
       rows-volume ds (omega arith),
+      rows-le-words ds (omega arith) lengths,
     ))
