@@ -6,3 +6,5 @@ pub mod Checks
 pub mod RowsFrom
 pub mod HeadLines
 pub mod Whole
+pub mod Spelling
+pub mod Puts

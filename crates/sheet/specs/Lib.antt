@@ -1,3 +1,4 @@
 pub mod Swaps
 pub mod Place
 pub mod Reader
+pub mod Put

@@ -2,6 +2,7 @@ mod check;
 mod field;
 mod head;
 mod line;
+mod put;
 mod rows;
 mod values;
 
