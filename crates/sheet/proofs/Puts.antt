@@ -4,8 +4,8 @@ use mathlib.Core.List.{List, [], _∷_, _++_}
 use Prim.Native.Nat.{ℕ, zero, suc, _+_, _-_, _*_, _<_, _≤_}
 use native.Mathlib.Omega.{arith}
 use native.Mathlib.Numerals.{add-one}
-use lib.ListN.{length, set, take, drop, getD, length-append, length-set}
-use lib.Seq.{sets, length-sets}
+use lib.ListN.{length, set, take, drop, getD, length-append, length-set, length-drop, drop-of-length-le}
+use lib.Seq.{sets, length-sets, length-take-le, getD-take, getD-drop}
 use Rattle.text.specs.Print.{tabByte, decimal, field, fields}
 use Rattle.sheet.specs.Put.{Room, Put}
 use Rattle.sheet.proofs.Places.{drop-next}
@@ -46,3 +46,37 @@ leads-same e h = rw e at h
 pub fields-next : (vs : List ℕ) (i : ℕ) → i < length vs → fields (drop i vs) ≡ field (getD vs i 0) ++ fields (drop (i + 1) vs)
 unfolding fields
 fields-next vs i h = rw (drop-next vs i h)
+
+pub no-fields : (vs : List ℕ) (i : ℕ) → length vs ≤ i → fields (drop i vs) ≡ []
+unfolding fields
+no-fields vs i h = rw (drop-of-length-le vs {i = i} h)
+
+-- n words from a place on
+module _ (words : List ℕ) (from n : ℕ) (fits : from + n ≤ length words) where
+  pub length-part : length (take n (drop from words)) ≡ n
+  length-part = length-take-le n (drop from words) (omega (arith, length-drop from words))
+
+  pub words-next : (i : ℕ) → i < n
+      → fields (drop i (take n (drop from words))) ≡ field (getD words (from + i) 0) ++ fields (drop (i + 1) (take n (drop from words)))
+  words-next i h =
+      fields-next (take n (drop from words)) i (omega (arith, length-part))
+      ∙ ap (λ (v : ℕ). field v ++ fields (drop (i + 1) (take n (drop from words))))
+      (getD-take n (drop from words) i 0 h ∙ getD-drop from words i 0)
+
+-- a field is its tab and its number
+module _ {out : List ℕ} {at : ℕ} (v : ℕ) (r : Room out at (field v)) where
+  pub field-in : at < length out
+  unfolding field
+  field-in = omega (arith, r .fits)
+
+  pub field-room : Room (set out at tabByte) (at + 1) (decimal v)
+  unfolding field
+  field-room = record { fits = omega (arith, r .fits, length-set out at tabByte) }
+
+  pub field-put : {next : ℕ} {out′ : List ℕ} → Put (set out at tabByte) (at + 1) (decimal v) next out′ → Put out at (field v) next out′
+  unfolding field
+  field-put q =
+      record { place = omega (arith, q .place); bytes = q .bytes ∙ ap (λ (k : ℕ). sets (set out at tabByte) k (decimal v)) (add-one at) }
+
+pub put-length : {out : List ℕ} {at : ℕ} {text : List ℕ} {next : ℕ} {out′ : List ℕ} → Put out at text next out′ → length out′ ≡ length out
+put-length {out} {at} {text} q = ap length (q .bytes) ∙ length-sets out at text

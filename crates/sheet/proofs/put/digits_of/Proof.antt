@@ -10,8 +10,6 @@ use Rattle.sheet.proofs.Spelling.{length-last, length-one}
 use native.Mathlib.Omega.{arith}
 use Rattle.sheet.proofs.put.digits_of.Statement.{statement}
 use Rattle.sheet.proofs.put.digits_of.Tie as tie
-use Rattle.sheet.proofs.put.digits_of.Reads as reads
-use Rattle.sheet.proofs.put.digits_of.Lts as lts
 
 abbrev Inv-loop : tie.InvT-loop
 Inv-loop v count₀ left₀ count left =
@@ -21,25 +19,20 @@ abbrev μ-loop : tie.MeasureT-loop
 μ-loop v count₀ left₀ count left =
     left
 
--- src/put.rt:18:5
 loop-holds : tie.Need-loop-holds Inv-loop μ-loop
 loop-holds c = (omega arith, omega arith)
 
--- src/put.rt:20:9
 add-count : tie.Need-add-count Inv-loop μ-loop
 add-count c = omega (arith, c .before .loop .inv .1, decimal-few (c .before .before .args .v))
 
--- src/put.rt:18:5
 loop-less : tie.Need-loop-less Inv-loop μ-loop
 loop-less c = search needs
 
--- src/put.rt:18:5
 loop-again : tie.Need-loop-again Inv-loop μ-loop
 loop-again c =
     let l = c .before .loop in
     (omega arith, omega (arith, l .inv .1, length-last (l .left) (c .loop-test .taken) (omega arith)))
 
--- src/put.rt:12:1
 returns : tie.Need-returns Inv-loop μ-loop
 returns c = let l = c .before .loop in omega (arith, l .inv .1, length-one (l .left) (c .loop-test .left))
 

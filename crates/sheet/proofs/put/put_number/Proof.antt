@@ -10,9 +10,6 @@ use Rattle.sheet.proofs.Spelling.{spell, no-digits, spell-decimal, spel
 use borrow.Author.Needs.{needs}
 use Rattle.sheet.proofs.put.put_number.Statement.{statement}
 use Rattle.sheet.proofs.put.put_number.Tie as tie
-use Rattle.sheet.proofs.put.put_number.Reads as reads
-use Rattle.sheet.proofs.put.put_number.Lts as lts
-use Rattle.sheet.proofs.put.digits_of.Reads as digits-of-reads
 
 abbrev Inv-loop : tie.InvT-loop
 Inv-loop out₀ at v next left₀ p₀ out left p =
@@ -23,47 +20,39 @@ abbrev μ-loop : tie.MeasureT-loop
 μ-loop out₀ at v next left₀ p₀ out left p =
     p - at
 
--- src/put.rt:30:21
 digits-of-requires : tie.Need-digits-of-requires Inv-loop μ-loop
 digits-of-requires c κs = search needs
 
--- src/put.rt:30:16
 add-next : tie.Need-add-next Inv-loop μ-loop
 add-next c = let s = c .before .before in omega (arith, c .digits-of .ensures, s .pre .1 .fits)
 
--- src/put.rt:33:5
 loop-holds : tie.Need-loop-holds Inv-loop μ-loop
 loop-holds c =
     let s = c .before .before in
-    let e : s .args .at + c .digits-of .result - s .args .at ≡ length (decimal (s .args .v)) = omega (arith, c .digits-of .ensures) in
-    (omega arith,
-    omega arith,
-    ap (λ (n : ℕ). s .args .at + n) (c .digits-of .ensures),
-    omega (arith, c .digits-of .ensures, s .pre .1 .fits),
-    refl,
-    rw (e, spell-decimal (s .args .v) (s .pre .0)))
+    let e : s .args .at + c .digits-of .result - s .args .at ≡ length (decimal (s .args .v)) = omega (arith, c .digits-of .ensures) in (
+      omega arith,
+      omega arith,
+      ap (λ (n : ℕ). s .args .at + n) (c .digits-of .ensures),
+      omega (arith, c .digits-of .ensures, s .pre .1 .fits),
+      refl,
+      rw (e, spell-decimal (s .args .v) (s .pre .0)),
+    )
 
--- src/put.rt:34:9
 sub-p : tie.Need-sub-p Inv-loop μ-loop
 sub-p c = search needs
 
--- src/put.rt:35:19
 add-out : tie.Need-add-out Inv-loop μ-loop
 add-out c = search needs
 
--- src/put.rt:35:18
 cast-out : tie.Need-cast-out Inv-loop μ-loop
 cast-out c = omega arith
 
--- src/put.rt:35:9
 slice-write-out : tie.Need-slice-write-out Inv-loop μ-loop
 slice-write-out c = omega arith
 
--- src/put.rt:33:5
 loop-less : tie.Need-loop-less Inv-loop μ-loop
 loop-less c = search needs
 
--- src/put.rt:33:5
 loop-again : tie.Need-loop-again Inv-loop μ-loop
 loop-again c =
     let l = c .before .loop in
@@ -71,19 +60,18 @@ loop-again c =
     let k : l .p - at ≡ suc (l .p - 1 - at) = omega arith in
     let q : at + (l .p - 1 - at) ≡ l .p - 1 = omega arith in
     let back : sets (l .out) at (spell (l .p - at) (l .left)) ≡ sets (set (l .out) (l .p - 1) (48 + l .left % 10)) at (spell (l .p - 1 - at) (l .left / 10)) =
-        rw k (rw q at (spell-back (l .out) at (l .p - 1 - at) (l .left))) in
-    (omega arith,
-    omega arith,
-    l .inv .2,
-    l .inv .3,
-    length-set (l .out) (l .p - 1) (48 + l .left % 10) ∙ l .inv .4,
-    sym back ∙ l .inv .5)
+    rw k (rw q at (spell-back (l .out) at (l .p - 1 - at) (l .left))) in (
+      omega arith,
+      omega arith,
+      l .inv .2,
+      l .inv .3,
+      length-set (l .out) (l .p - 1) (48 + l .left % 10) ∙ l .inv .4,
+      sym back ∙ l .inv .5,
+    )
 
--- src/put.rt:26:1
 same-length : tie.Need-same-length Inv-loop μ-loop
 same-length c = c .before .loop .inv .4
 
--- src/put.rt:26:1
 returns : tie.Need-returns Inv-loop μ-loop
 returns c =
     let l = c .before .loop in

@@ -11,8 +11,6 @@ use Rattle.sheet.proofs.Places.{drop-next}
 use Rattle.sheet.proofs.Puts.{Leads, leads-start, leads-room, leads-step, leads-end, leads-same}
 use Rattle.sheet.proofs.put.put_word.Statement.{statement}
 use Rattle.sheet.proofs.put.put_word.Tie as tie
-use Rattle.sheet.proofs.put.put_word.Reads as reads
-use Rattle.sheet.proofs.put.put_word.Lts as lts
 
 abbrev Inv-loop : tie.InvT-loop
 Inv-loop out₀ at word i₀ i-end out i =
@@ -22,33 +20,26 @@ abbrev μ-loop : tie.MeasureT-loop
 μ-loop out₀ at word i₀ i-end out i =
     i-end - i
 
--- src/put.rt:55:5
 loop-holds : tie.Need-loop-holds Inv-loop μ-loop
 loop-holds c =
     let z : c .args .at + 0 ≡ c .args .at = omega arith in
     (omega arith, refl, rw z (leads-start (c .pre)))
 
--- src/put.rt:56:23
 shared-slice-read-out : tie.Need-shared-slice-read-out Inv-loop μ-loop
 shared-slice-read-out c = search needs
 
--- src/put.rt:56:13
 add-out : tie.Need-add-out Inv-loop μ-loop
 add-out c = search needs
 
--- src/put.rt:56:9
 slice-write-out : tie.Need-slice-write-out Inv-loop μ-loop
 slice-write-out c = search needs
 
--- src/put.rt:55:9
 add-i : tie.Need-add-i Inv-loop μ-loop
 add-i c = search needs
 
--- src/put.rt:55:5
 loop-less : tie.Need-loop-less Inv-loop μ-loop
 loop-less c = search needs
 
--- src/put.rt:55:5
 loop-again : tie.Need-loop-again Inv-loop μ-loop
 loop-again c =
     let l = c .before .before .loop in
@@ -57,15 +48,12 @@ loop-again c =
     let put : Put (l .out) (a .at + l .i) (b ∷ []) (a .at + (l .i + 1)) (set (l .out) (a .at + l .i) b) = record { place = omega arith; bytes = refl } in
     (omega arith, refl, leads-step (b ∷ []) (drop (l .i + 1) (a .word .now)) (leads-same (drop-next (a .word .now) (l .i) (omega arith)) (l .inv .2)) put)
 
--- src/put.rt:58:5
 add-result : tie.Need-add-result Inv-loop μ-loop
 add-result c = search needs
 
--- src/put.rt:51:1
 same-length : tie.Need-same-length Inv-loop μ-loop
 same-length c = search needs
 
--- src/put.rt:51:1
 returns : tie.Need-returns Inv-loop μ-loop
 returns c =
     let l = c .before .loop in
