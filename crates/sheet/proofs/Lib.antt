@@ -8,3 +8,5 @@ pub mod HeadLines
 pub mod Whole
 pub mod Spelling
 pub mod Puts
+pub mod Pages
+pub mod Writes

@@ -1,6 +1,6 @@
 -- Texts put one behind the other: what is left to be put leads to the whole. From the law of runs of stores.
 use mathlib.Core.Path.{_≡_, refl, sym, ap, _∙_}
-use mathlib.Core.List.{List, [], _∷_, _++_}
+use mathlib.Core.List.{List, [], _∷_, _++_, append-nil}
 use Prim.Native.Nat.{ℕ, zero, suc, _+_, _-_, _*_, _<_, _≤_}
 use native.Mathlib.Omega.{arith}
 use native.Mathlib.Numerals.{add-one}
@@ -80,3 +80,24 @@ module _ {out : List ℕ} {at : ℕ} (v : ℕ) (r : Room out at (field v)) where
 
 pub put-length : {out : List ℕ} {at : ℕ} {text : List ℕ} {next : ℕ} {out′ : List ℕ} → Put out at text next out′ → length out′ ≡ length out
 put-length {out} {at} {text} q = ap length (q .bytes) ∙ length-sets out at text
+
+-- a text of three parts is put part by part
+module _ {out : List ℕ} {at : ℕ} {text : List ℕ} (s t u : List ℕ) (parts : text ≡ s ++ (t ++ u)) (r : Room out at text) where
+  whole : Leads out at text out at (s ++ (t ++ u))
+  whole = leads-same parts (leads-start r)
+
+  pub first-room : Room out at s
+  first-room = leads-room s (t ++ u) whole
+
+  pub second-room : {a : ℕ} {out₁ : List ℕ} → Put out at s a out₁ → Room out₁ a t
+  second-room p = leads-room t u (leads-step s (t ++ u) whole p)
+
+  third : {a b : ℕ} {out₁ out₂ : List ℕ} → Put out at s a out₁ → Put out₁ a t b out₂ → Leads out at text out₂ b (u ++ [])
+  third p q = leads-same (sym (append-nil u)) (leads-step t u (leads-step s (t ++ u) whole p) q)
+
+  pub third-room : {a b : ℕ} {out₁ out₂ : List ℕ} → Put out at s a out₁ → Put out₁ a t b out₂ → Room out₂ b u
+  third-room p q = leads-room u [] (third p q)
+
+  pub three-put : {a b next : ℕ} {out₁ out₂ out₃ : List ℕ} → Put out at s a out₁ → Put out₁ a t b out₂ → Put out₂ b u next out₃
+      → Put out at text next out₃
+  three-put p q e = leads-end (leads-step u [] (third p q) e)

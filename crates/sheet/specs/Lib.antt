@@ -2,3 +2,4 @@ pub mod Swaps
 pub mod Place
 pub mod Reader
 pub mod Put
+pub mod Writer
