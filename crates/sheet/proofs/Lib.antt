@@ -10,3 +10,4 @@ pub mod Spelling
 pub mod Puts
 pub mod Pages
 pub mod Writes
+pub mod Promises
