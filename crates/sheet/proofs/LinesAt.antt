@@ -2,14 +2,16 @@
 use mathlib.Core.Path.{_≡_, refl, sym, ap, _∙_}
 use mathlib.Core.Bool.{Bool, true, false}
 use mathlib.Core.List.{List, [], _∷_, _++_}
+use mathlib.Core.Logic.{⊎-elim}
 use Prim.Native.Nat.{ℕ, zero, suc, _+_, _-_, _<_, _≤_}
 use native.Mathlib.Omega.{arith}
 use lib.Dec.{T, eqb}
-use lib.ListN.{length, take, drop, getD, length-take, length-drop, drop-of-length-le}
+use lib.ListN.{length, take, drop, getD, length-take, length-drop, drop-of-length-le, List·getD-eq-default}
 use lib.Seq.{drop-drop, drop-length}
 use borrow.Author.Tests.{eq-eqb, ne-eqb}
 use Rattle.lists.specs.Choose.{choose, both, same}
 use Rattle.lists.proofs.Test.{same→eq}
+use Rattle.lists.proofs.Decide.{lt-or-ge}
 use Rattle.text.specs.Print.{tabByte, lineFeed}
 use Rattle.text.specs.Read.{Found, after, readFields, closed, readLine, tabs}
 use Rattle.text.proofs.Numbers.{decided}
@@ -84,20 +86,28 @@ module _ (bytes : List ℕ) (at : ℕ) (word : List ℕ) where
   word-short h k =
       decided (same (take (length word) (drop at bytes)) word) (λ t. absurd (omega (arith, word-inside h t))) (λ t. t)
 
-module _ (bytes : List ℕ) (p : ℕ) where
-  pub closed-end : (vs : List ℕ) → length bytes ≤ p → closed vs (drop p bytes) ≡ Found.none
-  unfolding closed
-  closed-end vs h = rw (drop-of-length-le bytes {i = p} h)
+pub not-closed : (bytes : List ℕ) (p : ℕ) (vs : List ℕ) → (getD bytes p 0 ≡ lineFeed → ⊥) → closed vs (drop p bytes) ≡ Found.none
+unfolding closed
+not-closed bytes p vs e =
+    ⊎-elim
+    (λ (i : p < length bytes). rw (drop-next bytes p i, ne-eqb (getD bytes p 0) lineFeed e))
+    (λ (o : length bytes ≤ p). rw (drop-of-length-le bytes {i = p} o))
+    (lt-or-ge p (length bytes))
 
+-- a byte that is not 0 stands inside
+pub byte-inside : (bytes : List ℕ) (p : ℕ) {b : ℕ} → getD bytes p 0 ≡ b → 0 < b → p < length bytes
+byte-inside bytes p e h =
+    ⊎-elim
+    (λ (i : p < length bytes). i)
+    (λ (o : length bytes ≤ p). absurd (omega (arith, List·getD-eq-default bytes 0 {n = p} o)))
+    (lt-or-ge p (length bytes))
+
+module _ (bytes : List ℕ) (p : ℕ) where
   pub tabs-end : length bytes ≤ p → tabs (drop p bytes) ≡ 0
   unfolding tabs
   tabs-end h = rw (drop-of-length-le bytes {i = p} h)
 
 module _ (bytes : List ℕ) (p : ℕ) (h : p < length bytes) where
-  pub closed-other : (vs : List ℕ) → (getD bytes p 0 ≡ lineFeed → ⊥) → closed vs (drop p bytes) ≡ Found.none
-  unfolding closed
-  closed-other vs e = rw (drop-next bytes p h, ne-eqb (getD bytes p 0) lineFeed e)
-
   pub closed-feed : (vs : List ℕ) → getD bytes p 0 ≡ lineFeed → closed vs (drop p bytes) ≡ Found.found vs (drop (p + 1) bytes)
   unfolding closed
   closed-feed vs e = rw (drop-next bytes p h, e)

@@ -2,7 +2,7 @@
 use crate::field;
 ghost use mathlib.Core.Path.{_≡_};
 ghost use Prim.Native.Nat.{_+_, _≤_};
-ghost use lib.ListN.{length, take, drop};
+ghost use lib.ListN.{length, take, drop, getD};
 ghost use Rattle.lists.specs.Choose.{same};
 ghost use Rattle.text.specs.Read.{readFields, readLine, tabs};
 ghost use Rattle.sheet.specs.Place.{At, numbersOf};
@@ -11,6 +11,13 @@ ghost use Rattle.sheet.specs.Place.{At, numbersOf};
 pub struct End {
     pub ok: bool,
     pub next: usize,
+}
+
+// The byte at p, 0 past the end.
+fn byte_at(bytes: &[u8], p: usize) -> u8
+    ensures { λ r. ⌜ r ≡ getD (now (bytes .entry)) p 0 ⌝ }
+{
+    if p < bytes.len() { bytes[p] } else { 0 }
 }
 
 // Whether `word` stands at `at`.
@@ -58,10 +65,7 @@ pub(crate) fn line_at(bytes: &[u8], at: usize, word: &[u8], n: usize) -> End
         return End { ok: false, next: 0 };
     }
     let p = f.next;
-    if bytes.len() <= p {
-        return End { ok: false, next: 0 };
-    }
-    if bytes[p] != 10 {
+    if byte_at(bytes, p) != 10 {
         return End { ok: false, next: 0 };
     }
     End {

@@ -1,16 +1,17 @@
 -- `line_at` meets its contract: its word, what `fields_at` says of the fields behind it, and the LF.
 use mathlib.Core.Path.{_≡_, refl, sym, ap, _∙_}
 use mathlib.Core.Bool.{true}
-use Prim.Native.Nat.{ℕ, _+_, _≤_}
+use Prim.Native.Nat.{ℕ, _+_, _<_, _≤_}
 use mathlib.Core.List.{List}
-use lib.ListN.{length, take, drop}
+use lib.ListN.{length, take, drop, getD}
 use borrow.Author.Tests.{not-true, not-false}
 use Rattle.lists.specs.Choose.{same}
+use Rattle.text.specs.Print.{lineFeed}
 use Rattle.text.specs.Read.{Found, readFields, readLine, closed}
 use Rattle.sheet.specs.Place.{numbersOf}
 use Rattle.sheet.proofs.Places.{at-found, at-none}
 use Rattle.sheet.proofs.Runs.{got}
-use Rattle.sheet.proofs.LinesAt.{no-word, past-word, word-inside, closed-end, closed-other, closed-feed}
+use Rattle.sheet.proofs.LinesAt.{no-word, past-word, word-inside, not-closed, byte-inside, closed-feed}
 use native.Mathlib.Omega.{arith}
 use borrow.Author.Needs.{needs}
 use Rattle.sheet.proofs.line.line_at.Statement.{statement}
@@ -45,6 +46,17 @@ fielded c =
     let good = f .fields-at .ensures .right (not-false (f .fields-at .result .ok) (c .if2 .left)) in
     past-word (a .bytes .now) (a .at) (a .word .now) (a .n) (stands (f .before)) ∙ rw good
 
+-- the LF stands behind the fields
+feed : (c : tie.Else3)
+    → (getD (c .before .before .before .before .before .before .before .before .before .args .bytes .now) (c .before .before .before .before .fields-at .result .next) 0 ≡ lineFeed)
+    × (c .before .before .before .before .fields-at .result .next < length (c .before .before .before .before .before .before .before .before .before .args .bytes .now))
+feed c =
+    let d = c .before .before in
+    let bytes = d .before .before .before .before .before .before .before .args .bytes .now in
+    let p = d .before .before .fields-at .result .next in
+    let e : getD bytes p 0 ≡ lineFeed = sym (c .before .byte-at .ensures) ∙ c .if3 .left in
+    (e, byte-inside bytes p e (omega arith))
+
 word-at-requires : tie.Need-word-at-requires
 word-at-requires c κs = search needs
 
@@ -68,34 +80,27 @@ returns-2 c =
     let bad = f .fields-at .ensures .wrong (not-true (f .fields-at .result .ok) (c .if2 .taken)) in
     at-none (past-word (a .bytes .now) (a .at) (a .word .now) (a .n) (stands e) ∙ rw bad)
 
+byte-at-requires : tie.Need-byte-at-requires
+byte-at-requires c κs = search needs
+
 returns-3 : tie.Need-returns-3
 returns-3 c =
-    let d = c .before in
+    let e = c .before in
+    let d = e .before in
     let a = d .before .before .before .before .before .before .before .args in
-    at-none (fielded d ∙ closed-end (a .bytes .now) (d .before .before .fields-at .result .next) (numbers d) (c .if3 .taken))
+    at-none (fielded d ∙ not-closed (a .bytes .now) (d .before .before .fields-at .result .next) (numbers d) (λ z. c .if3 .taken (e .byte-at .ensures ∙ z)))
 
-shared-slice-read-if4 : tie.Need-shared-slice-read-if4
-shared-slice-read-if4 c = search needs
+add-t10 : tie.Need-add-t10
+add-t10 c = omega (arith, feed c .1)
 
 returns-4 : tie.Need-returns-4
 returns-4 c =
-    let e = c .before .before in
-    let d = e .before in
-    let a = d .before .before .before .before .before .before .before .args in
-    at-none (fielded d ∙ closed-other (a .bytes .now) (d .before .before .fields-at .result .next) (e .if3 .left) (numbers d) (c .if4 .taken))
-
-add-t9 : tie.Need-add-t9
-add-t9 c = search needs
-
-returns-5 : tie.Need-returns-5
-returns-5 c =
-    let e = c .before .before in
-    let d = e .before in
+    let d = c .before .before in
     let p = d .before .before .fields-at .result .next in
     let a = d .before .before .before .before .before .before .before .args in
     at-found (p + 1)
-    (got (fielded d ∙ closed-feed (a .bytes .now) p (e .if3 .left) (numbers d) (c .if4 .left)))
-    (omega (arith, e .if3 .left))
+    (got (fielded d ∙ closed-feed (a .bytes .now) p (feed c .1) (numbers d) (feed c .0)))
+    (omega (arith, feed c .1))
 
 pub line-at-spec : {M : Type 1} → statement M
 line-at-spec =
@@ -106,8 +111,7 @@ line-at-spec =
     add-fields-at
     fields-at-requires
     returns-2
+    byte-at-requires
     returns-3
-    shared-slice-read-if4
-    returns-4
-    add-t9
-    returns-5)
+    add-t10
+    returns-4)
