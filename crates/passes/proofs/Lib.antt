@@ -6,4 +6,5 @@ pub mod Strided
 pub mod Fits
 pub mod Going
 pub mod Accepted
-pub mod Adjacent
+pub mod Swaps
+pub mod Once

@@ -4,7 +4,7 @@ use Prim.Native.Nat.{ℕ, _<_, _≤_}
 use native.Mathlib.Omega.{arith}
 use Rattle.refusals.proofs.Promise.{refused, accepted}
 use Rattle.passes.proofs.Accepted.{cleared-past}
-use Rattle.passes.proofs.Adjacent.{swap-accepted}
+use Rattle.passes.proofs.Swaps.{swap-accepted}
 use borrow.Author.Needs.{needs}
 use Rattle.passes.proofs.swap.Statement.{statement}
 use Rattle.passes.proofs.swap.Tie as tie
@@ -12,12 +12,12 @@ use Rattle.passes.proofs.swap.Reads as reads
 use Rattle.passes.proofs.swap.Lts as lts
 use Rattle.passes.proofs.block.sides_of.Reads as sides-of-reads
 use Rattle.passes.proofs.block.turn_all.Reads as turn-all-reads
-use Rattle.passes.proofs.checks.swap.Reads as swap-reads
+use Rattle.passes.proofs.adjacent.number.Reads as number-reads
 use Rattle.passes.proofs.scratch.clear_longest.Reads as clear-longest-reads
 
 -- src/lib.rt:49:9
-swap-requires : tie.Need-swap-requires
-swap-requires c κs = search needs
+number-requires : tie.Need-number-requires
+number-requires c κs = search needs
 
 -- src/lib.rt:51:9
 same-length : tie.Need-same-length
@@ -29,20 +29,20 @@ same-length-2 c = search needs
 
 -- src/lib.rt:51:9
 returns : tie.Need-returns
-returns c = refused (c .before .swap .ensures) (c .if1 .taken)
+returns c = refused (c .before .number .ensures) (c .if1 .taken)
 
 -- src/lib.rt:53:9
 sides-of-requires : tie.Need-sides-of-requires
 sides-of-requires c κs =
     let x = c .before .before .before .before .before .before in
-    let a = swap-accepted (x .args .outer) (x .args .m) (x .args .n) (x .args .chunk) (x .args .buf .now) (x .args .scratch .now) (c .before .swap .ensures) (omega (arith, c .if1 .left)) in
+    let a = swap-accepted (x .args .outer) (x .args .m) (x .args .n) (x .args .chunk) (x .args .buf .now) (x .args .scratch .now) (c .before .number .ensures) (omega (arith, c .if1 .left)) in
     (a .0 .m-pos, a .0 .n-pos, a .0 .m-few, a .0 .n-few)
 
 -- src/lib.rt:54:5
 turn-all-requires : tie.Need-turn-all-requires
 turn-all-requires c κs =
     let x = c .before .before .before .before .before .before .before .before .before in
-    let a = swap-accepted (x .args .outer) (x .args .m) (x .args .n) (x .args .chunk) (x .args .buf .now) (x .args .scratch .now) (c .before .before .before .before .swap .ensures) (omega (arith, c .before .before .before .if1 .left)) in
+    let a = swap-accepted (x .args .outer) (x .args .m) (x .args .n) (x .args .chunk) (x .args .buf .now) (x .args .scratch .now) (c .before .before .before .before .number .ensures) (omega (arith, c .before .before .before .if1 .left)) in
     let s = c .before .before .sides-of .ensures in
     (s .2, rw (s .0, s .1) (a .1))
 
@@ -50,7 +50,7 @@ turn-all-requires c κs =
 clear-longest-requires : tie.Need-clear-longest-requires
 clear-longest-requires c κs =
     let x = c .before .before .before .before .before .before .before .before .before .before .before .before .before .before .before in
-    let a = swap-accepted (x .args .outer) (x .args .m) (x .args .n) (x .args .chunk) (x .args .buf .now) (x .args .scratch .now) (c .before .before .before .before .before .before .before .before .before .before .swap .ensures) (omega (arith, c .before .before .before .before .before .before .before .before .before .if1 .left)) in
+    let a = swap-accepted (x .args .outer) (x .args .m) (x .args .n) (x .args .chunk) (x .args .buf .now) (x .args .scratch .now) (c .before .before .before .before .before .before .before .before .before .before .number .ensures) (omega (arith, c .before .before .before .before .before .before .before .before .before .if1 .left)) in
     rw (c .before .before .before .before .before .turn-all .ensures .1 .same) (a .1 .room)
 
 -- src/lib.rt:39:1
@@ -67,13 +67,13 @@ returns-2 c =
     let x = c .before .before .before .before .before .before .before .before .before .before .before .before .before .before .before .before .before .before in
     let s = c .before .before .before .before .before .before .before .before .before .before .before .sides-of .ensures in
     let t = rw (s .0, s .1) at (c .before .before .before .before .before .before .before .before .turn-all .ensures) in
-    accepted (sym (c .before .before .before .before .before .before .before .before .before .before .before .before .before .swap .ensures) ∙ omega (arith, c .before .before .before .before .before .before .before .before .before .before .before .before .if1 .left)) (t .0) (c .before .before .clear-longest .ensures ∙ cleared-past (t .1))
+    accepted (sym (c .before .before .before .before .before .before .before .before .before .before .before .before .before .number .ensures) ∙ omega (arith, c .before .before .before .before .before .before .before .before .before .before .before .before .if1 .left)) (t .0) (c .before .before .clear-longest .ensures ∙ cleared-past (t .1))
 
 pub swap-spec : {M : Type 1} → statement M
 swap-spec =
     tie.close
     (tie.spec
-    swap-requires
+    number-requires
     same-length
     same-length-2
     returns

@@ -11,12 +11,12 @@ use Rattle.passes.proofs.turn.Reads as reads
 use Rattle.passes.proofs.turn.Lts as lts
 use Rattle.passes.proofs.block.sides_of.Reads as sides-of-reads
 use Rattle.passes.proofs.block.turn_at.Reads as turn-at-reads
-use Rattle.passes.proofs.checks.flat.Reads as flat-reads
+use Rattle.passes.proofs.checks.number.Reads as number-reads
 use Rattle.passes.proofs.scratch.clear_longest.Reads as clear-longest-reads
 
 -- src/lib.rt:14:9
-flat-requires : tie.Need-flat-requires
-flat-requires c κs = search needs
+number-requires : tie.Need-number-requires
+number-requires c κs = search needs
 
 -- src/lib.rt:16:9
 same-length : tie.Need-same-length
@@ -28,13 +28,13 @@ same-length-2 c = search needs
 
 -- src/lib.rt:16:9
 returns : tie.Need-returns
-returns c = refused (c .before .flat .ensures) (c .if1 .taken)
+returns c = refused (c .before .number .ensures) (c .if1 .taken)
 
 -- src/lib.rt:18:9
 sides-of-requires : tie.Need-sides-of-requires
 sides-of-requires c κs =
     let x = c .before .before .before .before .before .before in
-    let a = accepted-by (x .args .buf .now) (x .args .scratch .now) (c .before .flat .ensures) (omega (arith, c .if1 .left)) in
+    let a = accepted-by (x .args .buf .now) (x .args .scratch .now) (c .before .number .ensures) (omega (arith, c .if1 .left)) in
     (a .m-pos, a .n-pos, a .m-few, a .n-few)
 
 -- src/lib.rt:19:5
@@ -42,14 +42,14 @@ turn-at-requires : tie.Need-turn-at-requires
 turn-at-requires c κs =
     let x = c .before .before .before .before .before .before .before .before .before in
     let s = c .before .before .sides-of .ensures in
-    let a = accepted-by (x .args .buf .now) (x .args .scratch .now) (c .before .before .before .before .flat .ensures) (omega (arith, c .before .before .before .if1 .left)) in
+    let a = accepted-by (x .args .buf .now) (x .args .scratch .now) (c .before .before .before .before .number .ensures) (omega (arith, c .before .before .before .if1 .left)) in
     (s .2, rw (s .0, s .1) (flat-lies a))
 
 -- src/lib.rt:20:5
 clear-longest-requires : tie.Need-clear-longest-requires
 clear-longest-requires c κs =
     let x = c .before .before .before .before .before .before .before .before .before .before .before .before .before .before .before in
-    let a = accepted-by (x .args .buf .now) (x .args .scratch .now) (c .before .before .before .before .before .before .before .before .before .before .flat .ensures) (omega (arith, c .before .before .before .before .before .before .before .before .before .if1 .left)) in
+    let a = accepted-by (x .args .buf .now) (x .args .scratch .now) (c .before .before .before .before .before .before .before .before .before .before .number .ensures) (omega (arith, c .before .before .before .before .before .before .before .before .before .if1 .left)) in
     rw (c .before .before .before .before .before .turn-at .ensures .1 .same) (a .room)
 
 -- src/lib.rt:11:1
@@ -66,7 +66,7 @@ returns-2 c =
     let x = c .before .before .before .before .before .before .before .before .before .before .before .before .before .before .before .before .before .before in
     let s = c .before .before .before .before .before .before .before .before .before .before .before .sides-of .ensures in
     let t = rw (s .0, s .1) at (c .before .before .before .before .before .before .before .before .turn-at .ensures) in
-    accepted (sym (c .before .before .before .before .before .before .before .before .before .before .before .before .before .flat .ensures) ∙ omega (arith, c .before .before .before .before .before .before .before .before .before .before .before .before .if1 .left))
+    accepted (sym (c .before .before .before .before .before .before .before .before .before .before .before .before .before .number .ensures) ∙ omega (arith, c .before .before .before .before .before .before .before .before .before .before .before .before .if1 .left))
     (flat-turned (x .args .m) (x .args .n) (x .args .buf .now) (c .before .before .before .before .before .before .before .before .turn-at .last .0) (t .0))
     (c .before .before .clear-longest .ensures ∙ cleared-past (t .1))
 
@@ -74,7 +74,7 @@ pub turn-spec : {M : Type 1} → statement M
 turn-spec =
     tie.close
     (tie.spec
-    flat-requires
+    number-requires
     same-length
     same-length-2
     returns

@@ -10,7 +10,7 @@ use Rattle.flat.specs.Turn.{sides}
 use Rattle.passes.specs.Lines.{Past}
 use Rattle.passes.proofs.Family.{Some, some-none, some-more}
 use Rattle.passes.proofs.Fits.{past-none, past-more}
-use Rattle.passes.proofs.Adjacent.{posOf, toOf, fromOf, blocks, swapped, around-few, words-few, base-few, block-lies}
+use Rattle.passes.proofs.Swaps.{posOf, toOf, fromOf, blocks, swapped, around-few, words-few, base-few, block-lies}
 use Rattle.passes.proofs.block.turn_all.Statement.{statement}
 use Rattle.passes.proofs.block.turn_all.Tie as tie
 use Rattle.passes.proofs.block.turn_all.Reads as reads

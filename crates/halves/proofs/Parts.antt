@@ -1,0 +1,46 @@
+-- A slice that is lent in parts: what is lent as a part, and the whole once that part is back.
+use mathlib.Core.Path.{_≡_, ap, _∙_}
+use mathlib.Core.List.{List, _++_, append-nil}
+use Prim.Native.Nat.{ℕ, _-_, _+_, _≤_}
+use native.Mathlib.Omega.{arith}
+use native.Mathlib.Nat.{le-refl}
+use lib.ListN.{length, take, drop, length-append, length-drop, drop-of-length-le}
+use lib.Seq.{length-take-le, take-all, take-at, drop-at, take-append-add, drop-append-add}
+use borrow.Rule.Slice.PartMut.{midOf, putMid}
+
+module _ (k : ℕ) (xs : List ℕ) where
+  -- what is lent as the part from k on
+  pub rest-lent : midOf k (length xs - k) xs ≡ drop k xs
+  rest-lent = take-all (length xs - k) (drop k xs) (rw length-drop (le-refl (length xs - k)))
+
+  -- the whole once that part is back as ys
+  pub rest-back : (ys : List ℕ) → putMid k (length xs - k) xs ys ≡ take k xs ++ ys
+  rest-back ys = rw (drop-of-length-le (drop k xs) {i = length xs - k} (rw length-drop (le-refl (length xs - k))), append-nil)
+
+-- a list after n + w words, its first n words being p
+module _ (p q : List ℕ) (n w : ℕ) (long : length p ≡ n) where
+  pub take-past : take (n + w) (p ++ q) ≡ p ++ take w q
+  take-past = rw (← long) (take-append-add p q w)
+
+  pub drop-past : drop (n + w) (p ++ q) ≡ drop w q
+  drop-past = rw (← long) (drop-append-add p q w)
+
+-- xs is lent as two parts, one after the other: first the part up to k, which comes back as a, then the rest
+module _ (k : ℕ) (xs a : List ℕ) (le : k ≤ length xs) (la : length a ≡ length (take k xs)) where
+  pub front : length a ≡ k
+  front = la ∙ length-take-le k xs le
+
+  -- the whole once the first part is back
+  pub whole : length (a ++ drop k xs) ≡ length xs
+  whole = simp (length-append, length-drop) (omega (arith, front))
+
+  -- what is lent as the second part
+  pub second : midOf k (length (a ++ drop k xs) - k) (a ++ drop k xs) ≡ drop k xs
+  second = rest-lent k (a ++ drop k xs) ∙ drop-at a (drop k xs) k front
+
+  pub second-length : length (midOf k (length (a ++ drop k xs) - k) (a ++ drop k xs)) ≡ length xs - k
+  second-length = ap length second ∙ length-drop k xs
+
+  -- the whole once both are back
+  pub joined : (b : List ℕ) → putMid k (length (a ++ drop k xs) - k) (a ++ drop k xs) b ≡ a ++ b
+  joined b = rest-back k (a ++ drop k xs) b ∙ ap (λ (l : List ℕ). l ++ b) (take-at a (drop k xs) k front)

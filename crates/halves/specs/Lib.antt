@@ -1,0 +1,4 @@
+pub mod Rotation
+pub mod Runs
+pub mod Block
+pub mod Promise
