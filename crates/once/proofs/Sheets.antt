@@ -16,5 +16,5 @@ pub read-once : (κs : Lfts 2) (a : Dens κs read-kinds.ps) (r r′ : Sheet) (s 
 read-once κs a r r′ s s′ p q = sheets.read-once p q
 
 pub write-once : (κs : Lfts 2) (a : Dens κs write-kinds.ps) (r r′ : Written) (s s′ : AtExit (endedOf 2 write-kinds.ps write-kinds.r) κs)
-    → write.Post κs a r s → write.Post κs a r′ s′ → (r ≡ r′) × (s .1 .0 .now ≡ s′ .1 .0 .now)
+    → write.Post κs a r s → write.Post κs a r′ s′ → (r ≡ r′) × (s .1 .1 .1 .0 .now ≡ s′ .1 .1 .1 .0 .now)
 write-once κs a r r′ s s′ p q = sheets.write-once p q
