@@ -11,3 +11,5 @@ pub mod Puts
 pub mod Pages
 pub mod Writes
 pub mod Promises
+pub mod Again
+pub mod Held

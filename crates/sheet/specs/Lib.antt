@@ -2,4 +2,5 @@ pub mod Swaps
 pub mod Place
 pub mod Reader
 pub mod Put
+pub mod Thin
 pub mod Writer

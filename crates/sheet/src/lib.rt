@@ -6,6 +6,7 @@ mod page;
 mod put;
 mod rows;
 mod values;
+mod writer;
 
 ghost use mathlib.Core.Path.{_≡_};
 ghost use lib.ListN.{length};
