@@ -60,7 +60,14 @@ pub(crate) fn rows<'a, 'b>(w: Writer<'a>, words: &'b [u32], count: usize, n: usi
 }
 
 // The result sheet at the start of the lent bytes, and the place after it: whoever calls it needs no writer.
-pub(crate) fn result(out: &mut [u8], lens: [usize; 4], number: usize, words: &[u32], count: usize, n: usize) -> usize
+pub(crate) fn result(
+    out: &mut [u8],
+    lens: [usize; 4],
+    number: usize,
+    words: &[u32],
+    count: usize,
+    n: usize,
+) -> usize
     requires { ⌜ Ready (now out) lens number (now words) count n ⌝ }
     ensures { λ r. ⌜ Put (now (out .entry)) 0 (resultText lens number (now (words .entry))) r (now (out .exit)) ⌝ }
 {
