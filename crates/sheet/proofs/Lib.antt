@@ -13,3 +13,4 @@ pub mod Writes
 pub mod Promises
 pub mod Again
 pub mod Held
+pub mod Lengths

@@ -22,10 +22,9 @@ use types.Run.{look, init, forget, stop, hop, fld, from, load, addr, of-opd, and
 use types.Part.{agg, whole, sub, look-in}
 use types.Tokens.{lft-new, lft-end}
 use sound.WpLaws.{FmC, fmOf, WpFn-mono}
-use denote.RattleType.{RattleType, owns}
-use denote.Array.{Array, array-vals, array-tells, array-makes, array-lawful}
+use denote.RattleType.{owns}
 use denote.Laws.{Is, shows}
-use denote.Plain.{uint-makes, uint-vals, uint-tells, uint-lawful}
+use denote.Plain.{uint-makes, uint-lawful}
 use denote.Builtin.{u8, usize}
 use denote.Ref.{RefT, NamedLft}
 use denote.Slice.{sliceVal, MutSlice, Room}
@@ -49,6 +48,7 @@ use Rattle.sheet.specs.Put.{Put, Room as Fits}
 use Rattle.sheet.specs.declared.writer.Writer.{Writer}
 use Rattle.sheet.proofs.writer.Writer as T
 use Rattle.sheet.proofs.writer.Writer.Laws as T′
+use Rattle.sheet.proofs.Lengths.{Four, four, four-tells, four-makes, four-lawful}
 use Rattle.sheet.proofs.Held.{writer-spent, writer-spent-goes}
 use Rattle.sheet.proofs.Again.{LentAgain, lends-again, comes-back}
 use Rattle.sheet.proofs.page.put_shape as put-shape
@@ -59,13 +59,6 @@ use Rattle.sheet.proofs.writer.shape.Key.{name as #sheet·writer·shape
 use Rattle.sheet.proofs.writer.shape as shape
 use Rattle.sheet.proofs.writer.shape.Statement as stated
 use Rattle.sheet.proofs.writer.shape.Code as code
-
--- the type of the lengths, and their machine value
-abbrev Four : RattleType
-Four = Array usize 4
-
-abbrev four : List ℕ → List Val
-four = array-vals (uint-vals w64)
 
 abbrev stayed : Stays (shape.ended .signature .params) (shape.ended .kept)
 stayed = (writer-spent 1 tt, (stay-none (λ _. Four) yes, tt))
@@ -114,7 +107,7 @@ module _ {M : Type 1} (𝓤 : URA M) (H : Heap 𝓤) (A : Atoms 𝓤) (W : Given
   goes : (ν : ℕ) (δ : GName) → (badLength ds ≡ false) × Fits ys n text → ent 𝓤 (sep 𝓤 (A .lft (ν ∷ []) fullShare) (sem 𝓤 H A (MutSlice (named 0) (ν ∷ []) u8 .own (x δ ys) (s ∷ [])))) (PutShape 𝓤 H A mem run .pre (to-put-shape ν δ))
   goes ν δ within =
       qed W (‵ (flft (ν ∷ []) fullShare) ∷ ‵ (MutSlice (named 0) (ν ∷ []) u8 .own (x δ ys) (s ∷ [])) ∷ []) ∵ says ! within $ nothing ! $ move ! (1 ∷ 0 ∷ []) $ join ! $ frame ! $
-      nothing ! $ owned ! Four (Is Four) (array-makes 𝓤 H A W usize (uint-makes 𝓤 H A W w64) 4) ds _ ds-are $ fjoin ! $ owned ! usize (Is usize) (uint-makes 𝓤 H A W w64) n _ (refl, n-fits) $ fjoin ! $ move ! (1 ∷ 0 ∷ []) $ fjoin ! $ done !
+      nothing ! $ owned ! Four (Is Four) (four-makes 𝓤 H A W) ds _ ds-are $ fjoin ! $ owned ! usize (Is usize) (uint-makes 𝓤 H A W w64) n _ (refl, n-fits) $ fjoin ! $ move ! (1 ∷ 0 ∷ []) $ fjoin ! $ done !
 
   -- what is had at exit of the parameter's fields, and of the result's, at their machine values
   abbrev had : List Val × (List Val × Unit {0}) → Fml
@@ -132,14 +125,14 @@ module _ {M : Type 1} (𝓤 : URA M) (H : Heap 𝓤) (A : Atoms 𝓤) (W : Given
       use1 W (‵ (T.the-row α .own (record { out = x γ zs; at = r }) (mach r ∷ []))) (makes 𝓤 H A W (MutSlice (named 0) κ u8 ∷ usize ∷ []) (given-on r zs) (s ∷ [], (vint w64 r ∷ [], tt))) $
       nothing ! $ owned ! usize (Is usize) (uint-makes 𝓤 H A W w64) n _ (refl, n-fits) $ fjoin ! $ nothing ! $ fjoin ! $
       use1 W (‵ (inStruct (MutSlice (named 0) κ u8 ∷ usize ∷ []) (mach n ∷ []) had)) (makes 𝓤 H A W (MutSlice (named 0) κ u8 ∷ usize ∷ []) had (s ∷ [], (vint w64 n ∷ [], tt))) $
-      nothing ! $ owned ! Four (Is Four) (array-makes 𝓤 H A W usize (uint-makes 𝓤 H A W w64) 4) ds _ ds-are $ fjoin ! $ move ! (1 ∷ 0 ∷ []) $ fjoin ! $ done !
+      nothing ! $ owned ! Four (Is Four) (four-makes 𝓤 H A W) ds _ ds-are $ fjoin ! $ move ! (1 ∷ 0 ∷ []) $ fjoin ! $ done !
 
   module _ (C : Calls 𝓤 H) (Λ : Loops 𝓤 H) (fm : FmC 𝓤 H (W .laws) C) (known : Triple 𝓤 (C #sheet·page·put-shape) (PutShape 𝓤 H A mem run)) where
     walk : Is (T.the-row α) h (mach n ∷ []) → Room u8 (length ys) → (badLength ds ≡ false) × Fits ys n text → ent 𝓤 (onEntry 𝓤 H A shape.signature (κ, tt) (q, tt) a vals) (WpFn 𝓤 H C Λ code.function (mach n ∷ four ds) Post)
     walk g room within =
         qed W ((‵ (flft κ q) ⊛ ‵ ftrue) ∷ ‵ (owns (T.the-row α ∷ Four ∷ []) a vals) ∷ []) ∵ enter ! C Λ code.function (mach n ∷ four ds) _ $
         alloc1 ! (λ l₀. alloc1 ! (λ l₁. alloc1 ! (λ l₂. alloc1 ! (λ l₃. alloc1 ! (λ l₄. alloc1 ! (λ l₅. alloc1 ! (λ l₆. alloc1 ! (λ l₇. alloc1 ! (λ l₈. alloc0 ! $ params1 ! $
-        pass1 ! (init ! 14 refl (LL.lawful (T.the-type α) (T′.the-laws α) 𝓤 H A W .typed h _ g .0)) $ pass1 ! (init ! 12 refl (array-lawful 𝓤 H A W usize (uint-lawful 𝓤 H A W w64) 4 .typed ds _ ds-are .0)) $ pass0 ! $
+        pass1 ! (init ! 14 refl (LL.lawful (T.the-type α) (T′.the-laws α) 𝓤 H A W .typed h _ g .0)) $ pass1 ! (init ! 12 refl (four-lawful 𝓤 H A W .typed ds _ ds-are .0)) $ pass0 ! $
         -- [_8; …; _7; …; _6; …; _5; …; _4; …; _3; …; _2; …; _1; …; room for _0; …; the token; what w and b own]
         assigns ! (of-opd ! (load ! (from ! (fld ! refl (stop !))) (look-in ! 14 (sub ! 1 refl (whole !))))) (from ! (stop !)) (init ! 10 refl (tt, record { fits = n-fits })) $
         assigns ! (addr ! (from ! (fld ! refl (fld ! refl (hop ! (look-in ! 14 (sub ! 0 refl (sub ! 0 refl (whole !)))) (stop !)))))) (from ! (stop !)) (init ! 6 refl (tt, tt)) $
@@ -170,7 +163,7 @@ module _ {M : Type 1} (𝓤 : URA M) (H : Heap 𝓤) (A : Atoms 𝓤) (W : Given
 module _ {M : Type 1} (𝓤 : URA M) (H : Heap 𝓤) (A : Atoms 𝓤) (W : Given 𝓤 H A) (mem : Memory → SProp 𝓤) (run : Routine → Fun 𝓤) where
   shape-walks : (C : Calls 𝓤 H) (Λ : Loops 𝓤 H) → FmC 𝓤 H (W .laws) C → Triple 𝓤 (C #sheet·page·put-shape) (PutShape 𝓤 H A mem run) → Walks 𝓤 H A shape.ended stayed (WpFn 𝓤 H C Λ code.function) (shape.clauses 𝓤 H A mem run)
   shape-walks C Λ fm known = walked 𝓤 H A shape.ended stayed (shape.clauses 𝓤 H A mem run) (WpFn 𝓤 H C Λ code.function)
-      (λ κs. (LL.vals (T.the-type (namedLft 1 0 tt κs)) (T′.the-laws (namedLft 1 0 tt κs)), (four, tt))) (λ κs. (LL.tells (T.the-type (namedLft 1 0 tt κs)) (T′.the-laws (namedLft 1 0 tt κs)), (array-tells usize (uint-vals w64) (uint-tells w64) 4, tt)))
+      (λ κs. (LL.vals (T.the-type (namedLft 1 0 tt κs)) (T′.the-laws (namedLft 1 0 tt κs)), (four, tt))) (λ κs. (LL.tells (T.the-type (namedLft 1 0 tt κs)) (T′.the-laws (namedLft 1 0 tt κs)), (four-tells, tt)))
       (λ κs qs bounds a g are. needs 𝓤 ((badLength (a .1 .0) ≡ false) × Fits (a .0 .out .now) (a .0 .at) (line shapeWord (a .1 .0))) _ (λ within.
       let fields = LL.owed (T.the-type (namedLft 1 0 tt κs)) (T′.the-laws (namedLft 1 0 tt κs)) (a .0) _ (are .0) in
       walk 𝓤 H A W mem run (κs .0) (qs .0) (a .0 .out .ptr .0) (a .0 .out .ptr .1) (a .0 .out .name) (a .0 .out .now) (a .0 .at) (a .1 .0) (fields .1 .0 .1) (are .1 .0) C Λ fm known (are .0) (fields .0 .0 .1) within))
