@@ -119,9 +119,7 @@ pub fn write(lens: [usize; 4], order: usize, words: &[u32], out: &mut [u8]) -> W
             count: 0,
         };
     }
-    let second = page::put_shape(out, 0, lens);
-    let third = page::put_order(out, second, order);
-    let end = page::put_rows(out, third, words, rows, lens[3]);
+    let end = writer::result(out, lens, order, words, rows, lens[3]);
     Written {
         number: 0,
         count: end,
