@@ -1,6 +1,6 @@
 -- Demand 2: the passes of rows and columns and the recursive method leave the same words, for all sides and buffers. Both
 -- promises lay the block out alike, and two outcomes of one turn are equal.
-use mathlib.Core.Path.{_≡_, refl, sym, ap, _∙_}
+use mathlib.Core.Path.{_≡_, refl}
 use mathlib.Core.List.{List}
 use Prim.Native.Nat.{ℕ}
 use Rattle.flat.proofs.Turn.{one-turn}

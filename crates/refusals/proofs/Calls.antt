@@ -1,13 +1,13 @@
 -- Every list of checks has numbers that refuse, so the laws of `firstOf` hold of every call: 0 exactly when none of its
 -- conditions holds.
-use mathlib.Core.List.{List, [], _∷_}
+use mathlib.Core.List.{List}
 use mathlib.Core.Logic.{_↔_}
 use mathlib.Core.Path.{_≡_}
 use Prim.Native.Nat.{ℕ}
 use lib.Dec.{lit<}
-use Rattle.refusals.specs.FirstOf.{Check, firstOf}
+use Rattle.refusals.specs.FirstOf.{firstOf}
 use Rattle.refusals.specs.Calls.{passesChecks, recursionChecks, chainChecks, requestChecks, planChecks}
-use Rattle.refusals.proofs.FirstOf.{Refusing, Silent, accepted-exactly}
+use Rattle.refusals.proofs.FirstOf.{Silent, accepted-exactly}
 use Rattle.refusals.proofs.FirstOf.Refusing.{none, more}
 
 pub passes-accepted : (ds b s : List ℕ) → (firstOf (passesChecks ds b s) ≡ 0) ↔ Silent (passesChecks ds b s)
