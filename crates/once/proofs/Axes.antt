@@ -1,6 +1,6 @@
 -- The calls on four axes: any two outcomes that a contract allows from one entry coincide, answer and every lent slice.
 -- A shape's array of four lengths is a list of four.
-use mathlib.Core.Path.{_≡_, refl, sym, ap, _∙_}
+use mathlib.Core.Path.{_≡_, sym, ap, _∙_}
 use mathlib.Core.List.{List}
 use Prim.Native.Nat.{ℕ}
 use lib.ListN.{length}
