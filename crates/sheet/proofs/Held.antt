@@ -1,7 +1,7 @@
 -- What a proof has at exit of a `Writer` that was passed by value, in a signature of n lifetimes of which its own is the first.
---     writer-gave      the body has given the borrow up for good, by passing it on to a callee, and has only what says its last list.        writer-gave-goes      the law for it
---     writer-spent     the result names the struct's lifetime: nothing is said of a last list.        writer-spent-goes      the law for it
--- From the fields' laws. The laws take `Given`.
+--     writer-gave     the body has given the borrow up for good, by passing it on, and has only what says its last list
+--     writer-spent    the result names the struct's lifetime: nothing is said of a last list
+-- Each with its law (`-goes`), from the fields' laws.
 use mathlib.Core.Path.{refl}
 use mathlib.Core.List.{List, [], _∷_}
 use Prim.Native.Nat.{ℕ}

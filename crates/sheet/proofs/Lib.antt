@@ -1,3 +1,6 @@
+pub mod Lengths
+pub mod Again
+pub mod Held
 pub mod Places
 pub mod Runs
 pub mod LinesAt
@@ -11,6 +14,3 @@ pub mod Puts
 pub mod Pages
 pub mod Writes
 pub mod Promises
-pub mod Again
-pub mod Held
-pub mod Lengths

@@ -1,7 +1,7 @@
 -- `write` meets its contract: the first check that holds is its number; where none does, the thin writer puts the text.
 use mathlib.Core.Path.{_≡_, refl, sym, ap, _∙_}
-use mathlib.Core.Bool.{true, false}
-use Prim.Native.Nat.{ℕ, _*_, _≤_, _<_}
+use mathlib.Core.Bool.{false}
+use Prim.Native.Nat.{ℕ, _*_, _≤_}
 use lib.ListN.{length, getD}
 use borrow.Author.Needs.{needs}
 use Rattle.layout.specs.Layout.{volume}
