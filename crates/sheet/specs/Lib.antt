@@ -3,3 +3,4 @@ pub mod Place
 pub mod Reader
 pub mod Put
 pub mod Writer
+pub mod RefusalWriter
