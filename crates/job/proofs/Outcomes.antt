@@ -148,3 +148,8 @@ job-once {bytes} {words} {scratch} {out} p q =
       p .scratch-is ∙ sym (q .scratch-is),
       p .text-is ∙ ap (λ (k : ℕ). jobText (meaning words bytes) words ++ drop k out) count ∙ sym (q .text-is),
     )
+
+-- the byte buffer holds as many bytes as the job counts
+pub text-inside : {bytes words scratch out : List ℕ} {n : ℕ} {w s o : List ℕ} → Done bytes words scratch out n w s o → n ≤ length o
+text-inside {bytes} {words} {scratch} {out} {n} p =
+    omega (arith, p .count-is, ap length (p .text-is), length-append (jobText (meaning words bytes) words) (drop n out))
