@@ -14,3 +14,4 @@ pub mod Puts
 pub mod Pages
 pub mod Writes
 pub mod Promises
+pub mod Refusals

@@ -4,3 +4,4 @@ pub mod Reader
 pub mod Put
 pub mod Thin
 pub mod Writer
+pub mod RefusalWriter

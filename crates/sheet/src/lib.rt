@@ -4,6 +4,7 @@ mod head;
 mod line;
 mod page;
 mod put;
+mod refusal;
 mod rows;
 mod values;
 mod writer;
@@ -13,6 +14,7 @@ ghost use lib.ListN.{length};
 ghost use Rattle.text.specs.Sheet.{resultText};
 ghost use Rattle.sheet.specs.Reader.{ReadAs, refusal};
 ghost use Rattle.sheet.specs.Writer.{Measured, nothingWritten, WrittenAs};
+ghost use Rattle.sheet.specs.RefusalWriter.{RefusalWrittenAs};
 
 // What a sheet says: its number and place, its lengths, its swaps (unused ones 0) and how many they are.
 pub struct Sheet {
@@ -112,6 +114,26 @@ pub fn write(lens: [usize; 4], order: usize, words: &[u32], out: &mut [u8]) -> W
         return nothing_written(24);
     }
     let end = writer::result(out, lens, order, words, rows, lens[3]);
+    Written {
+        number: 0,
+        count: end,
+    }
+}
+
+// Writes the line of a refusal: measures it, then puts it at the start of `out`.
+pub fn write_refusal(number: u32, place: u32, out: &mut [u8]) -> Written
+    ensures { λ r. ⌜ RefusalWrittenAs number place (now (out .entry)) r (now (out .exit)) ⌝ }
+{
+    let first = number as usize;
+    let second = place as usize;
+    let need = refusal::refusal_len(first, second);
+    if out.len() < need {
+        return Written {
+            number: 24,
+            count: 0,
+        };
+    }
+    let end = refusal::put_refusal(out, 0, first, second);
     Written {
         number: 0,
         count: end,

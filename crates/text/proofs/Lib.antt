@@ -6,3 +6,4 @@ pub mod Rows
 pub mod Accepted
 pub mod Length
 pub mod Refused
+pub mod Bounds

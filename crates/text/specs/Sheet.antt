@@ -21,6 +21,10 @@ orderWord = 111 ∷ 114 ∷ 100 ∷ 101 ∷ 114 ∷ []
 abbrev pub rowWord : List ℕ
 rowWord = 114 ∷ 111 ∷ 119 ∷ []
 
+-- the word `refused`
+abbrev pub refusedWord : List ℕ
+refusedWord = 114 ∷ 101 ∷ 102 ∷ 117 ∷ 115 ∷ 101 ∷ 100 ∷ []
+
 -- the words of a row: the last length
 unfoldable pub rowWidth : List ℕ → ℕ
 rowWidth ds = getD ds (length ds - 1) 0
@@ -41,3 +45,7 @@ sheetText ds chain words = line shapeWord ds ++ (line chainWord chain ++ rowsTex
 -- a result sheet: line 1 `shape` with the new lengths, line 2 `order` with the order number, then the rows of the new shape
 unfoldable pub resultText : List ℕ → ℕ → List ℕ → List ℕ
 resultText ds order words = line shapeWord ds ++ (line orderWord (order ∷ []) ++ rowsText (rowCount ds) (rowWidth ds) words)
+
+-- one line: `refused`, number, place
+unfoldable pub refusalText : ℕ → ℕ → List ℕ
+refusalText number place = line refusedWord (number ∷ place ∷ [])

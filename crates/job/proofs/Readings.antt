@@ -1,0 +1,73 @@
+-- What the reader's answer says of the sheet's meaning: a number that is not 0 is the refusal itself, within bounds; 0 says that the
+-- sheet is right, with the answered lengths and the first swaps. By cases on the meaning.
+use mathlib.Core.Path.{_≡_, refl, sym, ap, ap₂, _∙_, subst}
+use mathlib.Core.List.{List, [], _∷_, _++_}
+use Prim.Native.Nat.{ℕ, _+_, _-_, _<_, _≤_}
+use native.Mathlib.Omega.{arith}
+use lib.ListN.{length, take, drop, replicate, length-append}
+use lib.Seq.{take-at}
+use Rattle.text.specs.Meaning.{Outcome, meaning}
+use Rattle.text.proofs.Accepted.{Right, accepted-right}
+use Rattle.text.proofs.Bounds.{Bounded, Within, meaning-within}
+use Rattle.sheet.specs.declared.Sheet.{Sheet}
+use Rattle.sheet.specs.Swaps.{padded}
+use Rattle.sheet.specs.Reader.{answer, kept, ReadAs}
+
+-- the swaps that an answer counts
+abbrev pub swapsOf : Sheet → List ℕ
+swapsOf r = take (r .count) (r .swaps)
+
+-- a sheet that was refused
+pub record Turned-away (buffer bytes : List ℕ) (r : Sheet) (buffer′ : List ℕ) : Type 0 where
+  pub means : meaning buffer bytes ≡ Outcome.refused (r .number) (r .place)
+  pub same : buffer′ ≡ buffer
+  pub bounded : Bounded (r .number) (r .place)
+
+-- a sheet that was accepted
+pub record Taken (buffer bytes : List ℕ) (r : Sheet) (buffer′ words : List ℕ) : Type 0 where
+  pub means : meaning buffer bytes ≡ Outcome.accepted (r .lens) (swapsOf r) words
+  pub stored : buffer′ ≡ kept (Outcome.accepted (r .lens) (swapsOf r) words) buffer
+  pub right : Right buffer bytes (r .lens) (swapsOf r) words
+  pub inside : r .count ≤ length (r .swaps)
+  pub count : length (swapsOf r) ≡ r .count
+
+module _ {buffer bytes : List ℕ} {r : Sheet} {buffer′ : List ℕ} (p : ReadAs buffer bytes r buffer′) where
+  pub turned-away : (r .number ≡ 0 → ⊥) → Turned-away buffer bytes r buffer′
+  turned-away n = by (meaning buffer bytes) refl (meaning-within buffer bytes)
+    where
+      by : (o : Outcome) → meaning buffer bytes ≡ o → Within o → Turned-away buffer bytes r buffer′
+      by (Outcome.refused number place) m (Within.refused h) =
+          let a = p .answers ∙ ap answer m in
+          let e : number ≡ r .number = sym (ap (λ (s : Sheet). s .number) a) in
+          let f : place ≡ r .place = sym (ap (λ (s : Sheet). s .place) a) in
+          record {
+            means = m ∙ ap₂ Outcome.refused e f;
+            same = p .words ∙ ap (λ (o : Outcome). kept o buffer) m;
+            bounded = rw (← e, ← f) h;
+          }
+      by (Outcome.accepted ds chain words) m w = absurd (n (ap (λ (s : Sheet). s .number) (p .answers ∙ ap answer m)))
+
+  pub taken : r .number ≡ 0 → (words : List ℕ) × Taken buffer bytes r buffer′ words
+  taken z = by (meaning buffer bytes) refl (meaning-within buffer bytes)
+    where
+      by : (o : Outcome) → meaning buffer bytes ≡ o → Within o → (words : List ℕ) × Taken buffer bytes r buffer′ words
+      by (Outcome.refused number place) m (Within.refused h) =
+          let e : r .number ≡ number = ap (λ (s : Sheet). s .number) (p .answers ∙ ap answer m) in
+          absurd (omega (arith, h .given))
+      by (Outcome.accepted ds chain words) m w =
+          let a = p .answers ∙ ap answer m in
+          let lens : ds ≡ r .lens = sym (ap (λ (s : Sheet). s .lens) a) in
+          let count : r .count ≡ length chain = ap (λ (s : Sheet). s .count) a in
+          let swaps : r .swaps ≡ padded chain = ap (λ (s : Sheet). s .swaps) a in
+          let first : chain ≡ swapsOf r =
+          sym (ap₂ take count swaps ∙ take-at chain (replicate (32 - length chain) 0) (length chain) refl) in
+          let means : meaning buffer bytes ≡ Outcome.accepted (r .lens) (swapsOf r) words = m ∙ ap₂ (λ (l : List ℕ) (c : List ℕ). Outcome.accepted l c words) lens first in (
+            words,
+            record {
+              means = means;
+              stored = p .words ∙ ap (λ (o : Outcome). kept o buffer) means;
+              right = accepted-right buffer bytes (r .lens) (swapsOf r) words means;
+              inside = omega (arith, count, ap length swaps, length-append chain (replicate (32 - length chain) 0));
+              count = sym (ap length first) ∙ sym count;
+            },
+          )

@@ -1,0 +1,37 @@
+-- What the whole job leaves, from what the sheet means. Assumes nothing: these are definitions.
+use mathlib.Core.Path.{_≡_}
+use mathlib.Core.List.{List, _++_}
+use Prim.Native.Nat.{ℕ, _≤_}
+use lib.ListN.{length, drop}
+use Rattle.layout.specs.Layout.{pick, laid}
+use Rattle.orders.specs.Chains.{named}
+use Rattle.orders.specs.Numbers.{numberOf}
+use Rattle.refusals.specs.Scratch.{need, cleared}
+use Rattle.text.specs.Sheet.{resultText, refusalText}
+use Rattle.text.specs.Meaning.{Outcome, meaning}
+use Rattle.sheet.specs.Reader.{kept}
+
+-- the words after the job: of a right sheet its words laid out afresh under the order that its chain names, later words as they were;
+-- a refusal leaves all as it was
+abbrev pub jobWords : Outcome → List ℕ → List ℕ
+jobWords (Outcome.refused number place) words = words
+jobWords (Outcome.accepted ds chain ws) words = laid ds (named 4 chain) (kept (Outcome.accepted ds chain ws) words)
+
+-- scratch after the job: of a right sheet as many first words as the longest axis are zero; a refusal leaves all as it was
+abbrev pub jobScratch : Outcome → List ℕ → List ℕ
+jobScratch (Outcome.refused number place) scratch = scratch
+jobScratch (Outcome.accepted ds chain ws) scratch = cleared (need ds) scratch
+
+-- the text that the job gives: the result sheet, or one line: `refused`, number, place
+abbrev pub jobText : Outcome → List ℕ → List ℕ
+jobText (Outcome.refused number place) words = refusalText number place
+jobText (Outcome.accepted ds chain ws) words =
+    resultText (pick (named 4 chain) ds) (numberOf 4 (named 4 chain)) (jobWords (Outcome.accepted ds chain ws) words)
+
+-- the promise of the whole job: the text stands at the start of the byte buffer and bytes after it stay; it always fits
+pub record Done (bytes words₀ scratch₀ out₀ : List ℕ) (count : ℕ) (words scratch out : List ℕ) : Type 0 where
+  pub words-are : words ≡ jobWords (meaning words₀ bytes) words₀
+  pub scratch-is : scratch ≡ jobScratch (meaning words₀ bytes) scratch₀
+  pub count-is : count ≡ length (jobText (meaning words₀ bytes) words₀)
+  pub fits : count ≤ 16384
+  pub text-is : out ≡ jobText (meaning words₀ bytes) words₀ ++ drop count out₀

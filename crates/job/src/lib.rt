@@ -1,0 +1,26 @@
+// The whole job of `turn`: a sheet read, its chain run, its result sheet or its refusal written.
+ghost use Rattle.job.specs.Job.{Done};
+
+// Reads the sheet into `words`, runs its chain through `scratch` and leaves the text of the outcome at the start of `out`;
+// answers how many bytes it has.
+pub fn job(
+    bytes: &[u8],
+    words: &mut [u32; 1024],
+    scratch: &mut [u32; 1024],
+    out: &mut [u8; 16384],
+) -> usize
+    ensures { λ r. ⌜ Done (now (bytes .entry)) (now (words .entry)) (now (scratch .entry)) (now (out .entry)) r (now (words .exit)) (now (scratch .exit)) (now (out .exit)) ⌝ }
+{
+    let sheet = sheet::read(bytes, words);
+    if sheet.number != 0 {
+        let told = sheet::write_refusal(sheet.number, sheet.place as u32, out);
+        return told.count;
+    }
+    let lens = sheet.lens;
+    let swaps = sheet.swaps;
+    let count = sheet.count;
+    let answer = axes::chain(words, scratch, axes::Shape { lens }, &swaps[..count]);
+    let turned = answer.lens;
+    let written = sheet::write(turned, answer.order, words, out);
+    written.count
+}

@@ -1,0 +1,110 @@
+-- A refusal's number is 1 to 24 and its place fits a number of a sheet, so that its line can be written. The places are 0, a line
+-- number, at most the rows and 3, or the place of a swap in a chain of at most 32.
+use mathlib.Core.Path.{_≡_, refl, sym, ap, _∙_}
+use mathlib.Core.Bool.{Bool, true, false}
+use mathlib.Core.List.{List, [], _∷_, _++_}
+use Prim.Native.Nat.{ℕ, zero, suc, _+_, _<_, _≤_}
+use native.Mathlib.Omega.{arith}
+use lib.ListN.{length}
+use borrow.Author.Tests.{ltb-false}
+use Rattle.lists.specs.Choose.{choose}
+use Rattle.refusals.specs.Conditions.{badLength, shortBuffer, longChain, badSwap, noSwap, firstPlace}
+use Rattle.text.specs.Print.{limit}
+use Rattle.text.specs.Read.{Found, readLine, tabs}
+use Rattle.text.specs.Sheet.{shapeWord, chainWord, rowWord, rowCount, rowWidth}
+use Rattle.text.specs.Meaning.{Step, Outcome, longSheet, bigSheet, refuseIf, onLine, onward, behind, conclude, ended, shapeLine, chainLine, rowLines, meaning}
+use Rattle.text.proofs.Accepted.{shape-read}
+use Rattle.text.proofs.Length.{rows-le-words}
+
+-- the number and the place of a refusal
+pub record Bounded (number place : ℕ) : Type 0 where
+  pub given : 0 < number
+  pub known : number ≤ 24
+  pub near : place ≤ limit
+
+-- a step that goes on, or refuses within these bounds
+data Kept : Step → Type 0 where
+  refuses : {number place : ℕ} → Bounded number place → Kept (Step.refuse number place)
+  goes : {vs rest : List ℕ} → Kept (Step.go vs rest)
+
+bounds : (number place : ℕ) → 0 < number → number ≤ 24 → place ≤ limit → Bounded number place
+bounds number place a b c = record { given = a; known = b; near = c }
+
+condition : (t : Bool) (number place : ℕ) {next : Step} → (t ≡ true → Bounded number place) → (t ≡ false → Kept next) → Kept (refuseIf t number place next)
+condition true number place h n = refuses (h refl)
+condition false number place h n = n refl
+
+form : (k : ℕ) (x : Found (List ℕ)) → k ≤ limit → Kept (onLine k x)
+form k Found.none h = refuses (bounds 10 k (omega arith) (omega arith) h)
+form k (Found.found vs rest) h = goes
+
+onwards : {s : Step} (f : List ℕ → List ℕ → Step) → Kept s → ((vs rest : List ℕ) → Kept (f vs rest)) → Kept (onward s f)
+onwards f (refuses h) k = refuses h
+onwards f (goes {vs} {rest}) k = k vs rest
+
+before : (ws : List ℕ) {s : Step} → Kept s → Kept (behind ws s)
+before ws (refuses h) = refuses h
+before ws goes = goes
+
+at-end : (k : ℕ) (bs : List ℕ) → k ≤ limit → Kept (ended k bs)
+unfolding ended
+at-end k [] h = goes
+at-end k (b ∷ bs) h = refuses (bounds 10 k (omega arith) (omega arith) h)
+
+first-inside : (f : ℕ → Bool) (vs : List ℕ) → firstPlace f vs ≤ length vs
+unfolding firstPlace
+first-inside f [] = omega arith
+first-inside f (v ∷ vs) = by (f v) (first-inside f vs)
+  where
+    by : (t : Bool) → firstPlace f vs ≤ length vs → choose t 0 (suc (firstPlace f vs)) ≤ suc (length vs)
+    by true h = omega arith
+    by false h = omega arith
+
+shape-kept : (buffer bytes : List ℕ) → Kept (shapeLine buffer bytes)
+unfolding shapeLine
+shape-kept buffer bytes =
+    condition (longSheet bytes) 9 0 (λ _. bounds 9 0 (omega arith) (omega arith) (omega arith))
+    (λ _. onwards (λ (ds : List ℕ) (rest : List ℕ). refuseIf (badLength ds) 1 0 (refuseIf (bigSheet ds) 11 0 (refuseIf (shortBuffer ds buffer) 3 0 (Step.go ds rest))))
+    (form 1 (readLine shapeWord 4 bytes) (omega arith))
+    (λ ds rest. condition (badLength ds) 1 0 (λ _. bounds 1 0 (omega arith) (omega arith) (omega arith))
+    (λ _. condition (bigSheet ds) 11 0 (λ _. bounds 11 0 (omega arith) (omega arith) (omega arith))
+    (λ _. condition (shortBuffer ds buffer) 3 0 (λ _. bounds 3 0 (omega arith) (omega arith) (omega arith)) (λ _. goes)))))
+
+chain-kept : (bytes : List ℕ) → Kept (chainLine bytes)
+unfolding chainLine
+chain-kept bytes =
+    onwards (λ (chain : List ℕ) (rest : List ℕ). refuseIf (longChain chain) 5 0 (refuseIf (badSwap chain) 6 (firstPlace noSwap chain) (Step.go chain rest)))
+    (form 2 (readLine chainWord (tabs bytes) bytes) (omega arith))
+    (λ chain rest. condition (longChain chain) 5 0 (λ _. bounds 5 0 (omega arith) (omega arith) (omega arith))
+    (λ short. condition (badSwap chain) 6 (firstPlace noSwap chain)
+    (λ _. bounds 6 (firstPlace noSwap chain) (omega arith) (omega arith) (omega (arith, ltb-false 32 (length chain) short, first-inside noSwap chain)))
+    (λ _. goes)))
+
+rows-kept : (k count n : ℕ) (bytes : List ℕ) → k + count ≤ limit → Kept (rowLines k count n bytes)
+unfolding rowLines
+rows-kept k zero n bytes h = at-end k bytes (omega arith)
+rows-kept k (suc count) n bytes h =
+    onwards (λ (ws : List ℕ) (rest : List ℕ). behind ws (rowLines (suc k) count n rest)) (form k (readLine rowWord n bytes) (omega arith))
+    (λ ws rest. before ws (rows-kept (suc k) count n rest (omega arith)))
+
+-- an outcome that is accepted, or refused within these bounds
+pub data Within : Outcome → Type 0 where
+  refused : {number place : ℕ} → Bounded number place → Within (Outcome.refused number place)
+  accepted : {ds chain words : List ℕ} → Within (Outcome.accepted ds chain words)
+
+concludes : (s : Step) (f : List ℕ → List ℕ → Outcome) → Kept s → ((vs rest : List ℕ) → s ≡ Step.go vs rest → Within (f vs rest)) → Within (conclude s f)
+concludes (Step.refuse number place) f (refuses h) k = refused h
+concludes (Step.go vs rest) f goes k = k vs rest refl
+
+pub meaning-within : (buffer bytes : List ℕ) → Within (meaning buffer bytes)
+unfolding meaning
+meaning-within buffer bytes =
+    let last : List ℕ → List ℕ → List ℕ → List ℕ → Outcome = λ ds chain words end. Outcome.accepted ds chain words in
+    let rows : List ℕ → List ℕ → List ℕ → Outcome = λ ds chain mid. conclude (rowLines 3 (rowCount ds) (rowWidth ds) mid) (last ds chain) in
+    concludes (shapeLine buffer bytes) (λ (ds : List ℕ) (rest : List ℕ). conclude (chainLine rest) (rows ds)) (shape-kept buffer bytes)
+    (λ ds rest e.
+    let h = shape-read buffer bytes e in
+    let few : 3 + rowCount ds ≤ limit = omega (arith, h .few-words, rows-le-words ds (omega (arith, h .held .long)) (h .lengths)) in
+    concludes (chainLine rest) (rows ds) (chain-kept rest)
+    (λ chain mid _. concludes (rowLines 3 (rowCount ds) (rowWidth ds) mid) (last ds chain) (rows-kept 3 (rowCount ds) (rowWidth ds) mid few)
+    (λ words end _. accepted)))
