@@ -1,0 +1,101 @@
+-- `axes::block::block_number` meets its contract: its tests are the checks 1 to 4 in their order.
+use mathlib.Core.Path.{_≡_, refl, sym, ap, _∙_}
+use mathlib.Core.Bool.{Bool, true, false}
+use native.Mathlib.Omega.{arith}
+use denote.Ref.{now}
+use lib.ListN.{length}
+use borrow.Author.Tests.{lt-ltb, le-ltb}
+use Rattle.layout.specs.Layout.{volume}
+use Rattle.refusals.specs.Conditions.{badLength, tooManyWords, shortBuffer, shortScratch, longest}
+use Rattle.refusals.specs.Scratch.{need}
+use Rattle.refusals.specs.Calls.{passesChecks}
+use Rattle.refusals.proofs.FirstOf.{First, Silent, first-is, silent-zero}
+use Rattle.axes.proofs.Front.{whole}
+use Rattle.axes.proofs.Ranges.{in-range}
+use borrow.Author.Needs.{needs}
+use Rattle.axes.proofs.block.block_number.Statement.{statement}
+use Rattle.axes.proofs.block.block_number.Tie as tie
+use Rattle.axes.proofs.block.block_number.Reads as reads
+use Rattle.axes.proofs.block.block_number.Lts as lts
+use Rattle.axes.proofs.block.bad_length.Reads as bad-length-reads
+use Rattle.axes.proofs.block.longest_axis.Reads as longest-axis-reads
+use Rattle.axes.proofs.block.product.Reads as product-reads
+
+bad-length-requires : tie.Need-bad-length-requires
+bad-length-requires c κs = search needs
+
+returns : tie.Need-returns
+returns c =
+    let x = c .before .before .before .before in
+    let l = x .args .lens in
+    let bad : badLength l ≡ true = sym (c .before .bad-length .ensures) ∙ c .if1 .taken in
+    let first : First 1 (passesChecks l (now (x .args .buf)) (now (x .args .scratch))) = First.here bad refl in
+    sym (first-is first)
+
+product-requires : tie.Need-product-requires
+product-requires c κs =
+    let x = c .before .before .before .before in
+    let l = x .args .lens in
+    let bad : badLength l ≡ false = sym (c .before .bad-length .ensures) ∙ c .if1 .left in
+    (omega arith, omega arith, λ k h. in-range l bad k (omega arith) .1)
+
+returns-2 : tie.Need-returns-2
+returns-2 c =
+    let x = c .before .before .before .before .before .before in
+    let l = x .args .lens in
+    let bad : badLength l ≡ false = sym (c .before .before .before .bad-length .ensures) ∙ c .before .before .if1 .left in
+    let words : c .before .product .result ≡ volume l = c .before .product .ensures ∙ ap volume (whole {n = 4} l (omega arith)) in
+    let many : tooManyWords l ≡ true = lt-ltb 1048576 (volume l) (omega (arith, words)) in
+    let first : First 2 (passesChecks l (now (x .args .buf)) (now (x .args .scratch))) = First.later bad (First.here many refl) in
+    sym (first-is first)
+
+returns-3 : tie.Need-returns-3
+returns-3 c =
+    let x = c .before .before .before .before .before .before .before in
+    let l = x .args .lens in
+    let bad : badLength l ≡ false = sym (c .before .before .before .before .bad-length .ensures) ∙ c .before .before .before .if1 .left in
+    let words : c .before .before .product .result ≡ volume l = c .before .before .product .ensures ∙ ap volume (whole {n = 4} l (omega arith)) in
+    let many : tooManyWords l ≡ false = le-ltb 1048576 (volume l) (omega (arith, words)) in
+    let short : shortBuffer l (now (x .args .buf)) ≡ true = lt-ltb (length (now (x .args .buf))) (volume l) (omega (arith, words)) in
+    let first : First 3 (passesChecks l (now (x .args .buf)) (now (x .args .scratch))) = First.later bad (First.later many (First.here short refl)) in
+    sym (first-is first)
+
+longest-axis-requires : tie.Need-longest-axis-requires
+longest-axis-requires c κs = search needs
+
+returns-4 : tie.Need-returns-4
+returns-4 c =
+    let x = c .before .before .before .before .before .before .before .before .before in
+    let l = x .args .lens in
+    let bad : badLength l ≡ false = sym (c .before .before .before .before .before .before .bad-length .ensures) ∙ c .before .before .before .before .before .if1 .left in
+    let words : c .before .before .before .before .product .result ≡ volume l = c .before .before .before .before .product .ensures ∙ ap volume (whole {n = 4} l (omega arith)) in
+    let many : tooManyWords l ≡ false = le-ltb 1048576 (volume l) (omega (arith, words)) in
+    let short : shortBuffer l (now (x .args .buf)) ≡ false = le-ltb (length (now (x .args .buf))) (volume l) (omega (arith, words)) in
+    let small : shortScratch (need l) (now (x .args .scratch)) ≡ true = lt-ltb (length (now (x .args .scratch))) (longest l) (omega (arith, c .before .longest-axis .ensures)) in
+    let first : First 4 (passesChecks l (now (x .args .buf)) (now (x .args .scratch))) = First.later bad (First.later many (First.later short (First.here small refl))) in
+    sym (first-is first)
+
+returns-5 : tie.Need-returns-5
+returns-5 c =
+    let x = c .before .before .before .before .before .before .before .before .before in
+    let l = x .args .lens in
+    let bad : badLength l ≡ false = sym (c .before .before .before .before .before .before .bad-length .ensures) ∙ c .before .before .before .before .before .if1 .left in
+    let words : c .before .before .before .before .product .result ≡ volume l = c .before .before .before .before .product .ensures ∙ ap volume (whole {n = 4} l (omega arith)) in
+    let many : tooManyWords l ≡ false = le-ltb 1048576 (volume l) (omega (arith, words)) in
+    let short : shortBuffer l (now (x .args .buf)) ≡ false = le-ltb (length (now (x .args .buf))) (volume l) (omega (arith, words)) in
+    let small : shortScratch (need l) (now (x .args .scratch)) ≡ false = le-ltb (length (now (x .args .scratch))) (longest l) (omega (arith, c .before .longest-axis .ensures)) in
+    let silent : Silent (passesChecks l (now (x .args .buf)) (now (x .args .scratch))) = Silent.more bad (Silent.more many (Silent.more short (Silent.more small Silent.none))) in
+    sym (silent-zero silent)
+
+pub block-number-spec : {M : Type 1} → statement M
+block-number-spec =
+    tie.close
+    (tie.spec
+    bad-length-requires
+    returns
+    product-requires
+    returns-2
+    returns-3
+    longest-axis-requires
+    returns-4
+    returns-5)

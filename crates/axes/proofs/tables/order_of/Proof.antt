@@ -1,0 +1,21 @@
+-- `axes::tables::order_of` meets its contract: the table is the list of the orders in dictionary order, entry by entry.
+use mathlib.Core.Path.{refl}
+use Rattle.orders.specs.Numbers.{orderOf, orders, arrangements}
+use borrow.Author.Needs.{needs}
+use Rattle.axes.proofs.tables.order_of.Statement.{statement}
+use Rattle.axes.proofs.tables.order_of.Tie as tie
+use Rattle.axes.proofs.tables.order_of.Reads as reads
+use Rattle.axes.proofs.tables.order_of.Lts as lts
+
+mul-axes : tie.Need-mul-axes
+mul-axes c = search needs
+
+array-copy-out-axes : tie.Need-array-copy-out-axes
+array-copy-out-axes c = search needs
+
+returns : tie.Need-returns
+unfolding orderOf orders arrangements
+returns c = refl
+
+pub order-of-spec : {M : Type 1} → statement M
+order-of-spec = tie.close (tie.spec mul-axes array-copy-out-axes returns)

@@ -1,0 +1,88 @@
+// Swaps and chains of swaps on a block.
+use crate::Answer;
+use crate::Shape;
+use crate::block;
+use crate::tables;
+ghost use mathlib.Core.Path.{_≡_};
+ghost use Prim.Native.Nat.{_<_};
+ghost use lib.ListN.{length, drop};
+ghost use Rattle.lists.specs.Tab.{upto};
+ghost use Rattle.layout.specs.Layout.{Laid};
+ghost use Rattle.orders.specs.Chains.{exchange};
+ghost use Rattle.refusals.specs.FirstOf.{firstOf};
+ghost use Rattle.refusals.specs.Conditions.{noSwap, firstPlace};
+ghost use Rattle.refusals.specs.Calls.{passesChecks, chainChecks};
+ghost use Rattle.refusals.specs.Scratch.{need};
+ghost use Rattle.axes.specs.Promises.{ChainPromise};
+
+// The place of the first swap above 2; the chain's length where there is none.
+pub(crate) fn first_bad(swaps: &[usize]) -> usize
+    ensures { λ r. ⌜ r ≡ firstPlace noSwap (now (swaps .entry)) ⌝ }
+{
+    for i in 0..swaps.len() {
+        if swaps[i] > 2 {
+            return i;
+        }
+    }
+    swaps.len()
+}
+
+// The first of the checks 1 to 6.
+pub(crate) fn chain_number(buf: &[u32], scratch: &[u32], lens: [usize; 4], swaps: &[usize]) -> u32
+    ensures { λ r. ⌜ r ≡ firstOf (chainChecks lens (now (buf .entry)) (now (scratch .entry)) (now (swaps .entry))) ⌝ }
+{
+    let number = block::block_number(buf, scratch, lens);
+    if number != 0 {
+        return number;
+    }
+    let count = swaps.len();
+    let bad = first_bad(swaps);
+    if count > 32 {
+        return 5;
+    }
+    if bad < count {
+        return 6;
+    }
+    0
+}
+
+// Swap k of a block: the axes before place k, the two axes and the axes after them.
+fn swap_at(buf: &mut [u32], scratch: &mut [u32], shape: Shape, k: usize)
+    requires { ⌜ (k < 3) × (firstOf (passesChecks (shape .lens) (now buf) (now scratch)) ≡ 0) ⌝ }
+    ensures { λ _. ⌜ Laid (shape .lens) (exchange k (upto 4)) (now (buf .entry)) (now (buf .exit)) ⌝ }
+    ensures { λ _. ⌜ length (now (scratch .exit)) ≡ length (now (scratch .entry)) ⌝ }
+    ensures { λ _. ⌜ drop (need (shape .lens)) (now (scratch .exit)) ≡ drop (need (shape .lens)) (now (scratch .entry)) ⌝ }
+{
+    let lens = shape.lens;
+    let outer = block::product(lens, 0, k);
+    let chunk = block::product(lens, k + 2, 4);
+    let m = lens[k];
+    let n = lens[k + 1];
+    passes::swap(buf, scratch, outer, m, n, chunk);
+}
+
+// An accepted chain, swap by swap; then scratch is cleared.
+pub(crate) fn run(buf: &mut [u32], scratch: &mut [u32], shape: Shape, swaps: &[usize]) -> Answer
+    requires { ⌜ firstOf (chainChecks (shape .lens) (now buf) (now scratch) (now swaps)) ≡ 0 ⌝ }
+    ensures { λ r. ⌜ ChainPromise (shape .lens) (now (swaps .entry)) (now (buf .entry)) (now (scratch .entry)) r (now (buf .exit)) (now (scratch .exit)) ⌝ }
+{
+    let lens = shape.lens;
+    let mut stands = shape;
+    let mut order = 0;
+    for i in 0..swaps.len() {
+        let k = swaps[i];
+        swap_at(buf, scratch, stands, k);
+        stands = stands.swapped(k);
+        order = tables::next_order(order, k);
+    }
+    let need = block::longest_axis(lens);
+    passes::clear(scratch, need);
+    let last = stands.lens;
+    Answer {
+        number: 0,
+        place: 0,
+        lens: last,
+        order: order,
+        swaps: swaps.len(),
+    }
+}

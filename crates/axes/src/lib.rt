@@ -1,0 +1,123 @@
+// Four axes: swaps, chains, orders by number and their plans.
+ghost use mathlib.Core.Path.{_≡_};
+ghost use Rattle.orders.specs.Chains.{exchange};
+ghost use Rattle.axes.specs.Answers.{refused};
+ghost use Rattle.axes.specs.Promises.{ChainPromise, RequestPromise, PlanPromise};
+
+mod block;
+mod chains;
+mod plans;
+mod tables;
+
+// The lengths of four axes, last axis fastest.
+pub struct Shape {
+    pub lens: [usize; 4],
+}
+
+impl Shape {
+    // The shape with the axes at places k and k + 1 exchanged; above 2 there are no such places and nothing changes.
+    pub fn swapped(self, k: usize) -> Shape
+        ensures { λ r. ⌜ r .lens ≡ exchange k (self .lens) ⌝ }
+    {
+        if k > 2 {
+            return self;
+        }
+        let mut lens = self.lens;
+        let first = lens[k];
+        let second = lens[k + 1];
+        lens[k] = second;
+        lens[k + 1] = first;
+        Shape { lens: lens }
+    }
+}
+
+// What a call on a block answers: its number, its place, the four new lengths, the number of the new order, the swaps done.
+pub struct Answer {
+    pub number: u32,
+    pub place: usize,
+    pub lens: [usize; 4],
+    pub order: usize,
+    pub swaps: usize,
+}
+
+// A plan: its number, six swap places of which the first `len` are used, and their count.
+pub struct Planned {
+    pub number: u32,
+    pub swaps: [usize; 6],
+    pub len: usize,
+}
+
+// The shortest chain that names an order and, among the shortest, the first in dictionary order.
+pub fn plan(order: usize) -> Planned
+    ensures { λ r. ⌜ PlanPromise order r ⌝ }
+{
+    if order > 23 {
+        return Planned {
+            number: 7,
+            swaps: [0; 6],
+            len: 0,
+        };
+    }
+    let axes = tables::order_of(order);
+    let count = axes.falling_pairs();
+    if count > 6 {
+        return Planned {
+            number: 8,
+            swaps: [0; 6],
+            len: 0,
+        };
+    }
+    let swaps = axes.planned_swaps(count);
+    Planned {
+        number: 0,
+        swaps: swaps,
+        len: count,
+    }
+}
+
+// The answer of a refused call.
+fn refusal(number: u32, place: usize) -> Answer
+    ensures { λ r. ⌜ r ≡ refused number place ⌝ }
+{
+    Answer {
+        number: number,
+        place: place,
+        lens: [0; 4],
+        order: 0,
+        swaps: 0,
+    }
+}
+
+// A chain of swaps on a block, through scratch as long as its longest axis: 0, or 1 to 6.
+pub fn chain(buf: &mut [u32], scratch: &mut [u32], shape: Shape, swaps: &[usize]) -> Answer
+    ensures { λ r. ⌜ ChainPromise (shape .lens) (now (swaps .entry)) (now (buf .entry)) (now (scratch .entry)) r (now (buf .exit)) (now (scratch .exit)) ⌝ }
+{
+    let lens = shape.lens;
+    let number = chains::chain_number(buf, scratch, lens, swaps);
+    if number == 6 {
+        let place = chains::first_bad(swaps);
+        return refusal(6, place);
+    }
+    if number != 0 {
+        return refusal(number, 0);
+    }
+    chains::run(buf, scratch, shape, swaps)
+}
+
+// The direct request for an order by its number, which runs its plan: 0, or 1, 2, 3, 4, 7, 8.
+pub fn request(buf: &mut [u32], scratch: &mut [u32], shape: Shape, order: usize) -> Answer
+    ensures { λ r. ⌜ RequestPromise (shape .lens) order (now (buf .entry)) (now (scratch .entry)) r (now (buf .exit)) (now (scratch .exit)) ⌝ }
+{
+    let lens = shape.lens;
+    let number = block::block_number(buf, scratch, lens);
+    if number != 0 {
+        return refusal(number, 0);
+    }
+    let planned = plan(order);
+    if planned.number != 0 {
+        return refusal(planned.number, 0);
+    }
+    let swaps = planned.swaps;
+    let count = planned.len;
+    chains::run(buf, scratch, shape, &swaps[..count])
+}

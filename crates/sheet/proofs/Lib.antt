@@ -1,0 +1,13 @@
+pub mod Places
+pub mod Runs
+pub mod LinesAt
+pub mod Stores
+pub mod Checks
+pub mod RowsFrom
+pub mod HeadLines
+pub mod Whole
+pub mod Spelling
+pub mod Puts
+pub mod Pages
+pub mod Writes
+pub mod Promises

@@ -1,0 +1,114 @@
+-- The lines of a result sheet one behind the other, and their lengths added. By induction on the rows and on the numbers.
+use mathlib.Core.Path.{_≡_, refl, sym, ap, _∙_}
+use mathlib.Core.List.{List, [], _∷_, _++_, append-assoc, append-nil}
+use Prim.Native.Nat.{ℕ, zero, suc, _+_, _-_, _*_, _<_, _≤_}
+use native.Mathlib.Omega.{arith}
+use lib.ListN.{length, take, drop, getD, length-append, length-drop}
+use lib.Seq.{drop-drop, take-add, getD-take, length-take-le}
+use Rattle.layout.specs.Layout.{volume}
+use Rattle.text.specs.Print.{lineFeed, decimal, field, fields, line}
+use Rattle.text.specs.Sheet.{shapeWord, orderWord, rowWord, rowCount, rowWidth, rowsText, resultText}
+use Rattle.text.proofs.Rows.{rows-volume}
+use Rattle.text.proofs.Length.{length-line}
+use Rattle.sheet.specs.Put.{Room, Put}
+use Rattle.sheet.proofs.Puts.{first-room, second-room, third-room, three-put, fields-next}
+
+-- a line is its word, its fields and its LF
+line-parts : (word vs : List ℕ) → line word vs ≡ word ++ (fields vs ++ (lineFeed ∷ []))
+unfolding line
+line-parts word vs = refl
+
+-- a line is put by putting its word, its fields and its LF
+module _ {out : List ℕ} {at : ℕ} (word vs : List ℕ) (r : Room out at (line word vs)) where
+  pub word-room : Room out at word
+  word-room = first-room word (fields vs) (lineFeed ∷ []) (line-parts word vs) r
+
+  pub fields-room : {a : ℕ} {out₁ : List ℕ} → Put out at word a out₁ → Room out₁ a (fields vs)
+  fields-room p = second-room word (fields vs) (lineFeed ∷ []) (line-parts word vs) r p
+
+  pub end-room : {a b : ℕ} {out₁ out₂ : List ℕ} → Put out at word a out₁ → Put out₁ a (fields vs) b out₂ → Room out₂ b (lineFeed ∷ [])
+  end-room p q = third-room word (fields vs) (lineFeed ∷ []) (line-parts word vs) r p q
+
+  pub line-put : {a b next : ℕ} {out₁ out₂ out₃ : List ℕ} → Put out at word a out₁ → Put out₁ a (fields vs) b out₂
+      → Put out₂ b (lineFeed ∷ []) next out₃ → Put out at (line word vs) next out₃
+  line-put p q e = three-put word (fields vs) (lineFeed ∷ []) (line-parts word vs) r p q e
+
+-- the fields of one number are its field
+pub fields-one : (v : ℕ) → fields (v ∷ []) ≡ field v
+unfolding fields
+fields-one v = append-nil (field v)
+
+-- one row, then the others
+pub rows-next : (count n i from : ℕ) (words : List ℕ) → i < count
+    → rowsText (count - i) n (drop from words) ≡ line rowWord (take n (drop from words)) ++ rowsText (count - (i + 1)) n (drop (from + n) words)
+unfolding rowsText
+rows-next count n i from words h =
+    let a : count - i ≡ suc (count - (i + 1)) = omega arith in
+    rw a (ap (λ (l : List ℕ). line rowWord (take n (drop from words)) ++ rowsText (count - (i + 1)) n l) (drop-drop n from words))
+
+pub no-rows : (count n : ℕ) (words : List ℕ) → rowsText (count - count) n words ≡ []
+unfolding rowsText
+no-rows count n words = let a : count - count ≡ 0 = omega arith in rw a
+
+fields-append : (us vs : List ℕ) → fields (us ++ vs) ≡ fields us ++ fields vs
+unfolding fields
+fields-append [] vs = refl
+fields-append (u ∷ us) vs = rw (fields-append us vs) (sym (append-assoc (field u) (fields us) (fields vs)))
+
+rows-none : (n : ℕ) (words : List ℕ) → 0 ≡ 4 * 0 + length (fields (take (0 * n) words))
+unfolding fields
+rows-none n words = let z : 0 * n ≡ 0 = omega arith in rw z
+
+-- the rows have four bytes each beside their fields
+pub length-rows : (count n : ℕ) (words : List ℕ) → length (rowsText count n words) ≡ 4 * count + length (fields (take (count * n) words))
+unfolding rowsText
+length-rows zero n words = rows-none n words
+length-rows (suc count) n words =
+    let e : suc count * n ≡ n + count * n = omega arith in
+    rw (
+      length-append (line rowWord (take n words)) (rowsText count n (drop n words)),
+      length-line rowWord (take n words),
+      length-rows count n (drop n words),
+      e,
+      take-add n (count * n) words,
+      fields-append (take n words) (take (count * n) (drop n words)),
+      length-append (fields (take n words)) (fields (take (count * n) (drop n words))),
+    )
+    (omega arith)
+
+-- a result sheet is line 1, line 2 and the rows
+pub result-parts : (ds : List ℕ) (order : ℕ) (words : List ℕ)
+    → resultText ds order words ≡ line shapeWord ds ++ (line orderWord (order ∷ []) ++ rowsText (rowCount ds) (rowWidth ds) words)
+unfolding resultText
+result-parts ds order words = refl
+
+-- the length of a result sheet from its parts
+pub length-result : (ds : List ℕ) (order : ℕ) (words : List ℕ)
+    → length (resultText ds order words)
+    ≡ length (line shapeWord ds ++ line orderWord (order ∷ [])) + length (rowsText (rowCount ds) (rowWidth ds) words)
+unfolding resultText
+length-result ds order words =
+    ap length (sym (append-assoc (line shapeWord ds) (line orderWord (order ∷ [])) (rowsText (rowCount ds) (rowWidth ds) words)))
+    ∙ length-append (line shapeWord ds ++ line orderWord (order ∷ [])) (rowsText (rowCount ds) (rowWidth ds) words)
+
+pub length-head : (ds : List ℕ) (order : ℕ)
+    → length (line shapeWord ds ++ line orderWord (order ∷ [])) ≡ 13 + length (fields ds) + length (decimal order)
+unfolding fields field
+length-head ds order =
+    length-append (line shapeWord ds) (line orderWord (order ∷ []))
+    ∙ rw (length-line shapeWord ds, length-line orderWord (order ∷ []), append-nil (decimal order)) (omega arith)
+
+-- the field of the next number measured, then the others
+pub measure-next : (vs : List ℕ) (i : ℕ) → i < length vs
+    → length (fields (drop i vs)) ≡ 1 + length (decimal (getD vs i 0)) + length (fields (drop (i + 1) vs))
+unfolding field
+measure-next vs i h =
+    ap length (fields-next vs i h) ∙ length-append (field (getD vs i 0)) (fields (drop (i + 1) vs)) ∙ omega arith
+
+-- the length of a result sheet, measured
+pub length-measured : (ds : List ℕ) (order : ℕ) (words : List ℕ) → 0 < length ds
+    → length (resultText ds order words)
+    ≡ 13 + length (fields ds) + length (decimal order) + 4 * rowCount ds + length (fields (take (volume ds) words))
+length-measured ds order words h =
+    length-result ds order words
+    ∙ rw (length-head ds order, length-rows (rowCount ds) (rowWidth ds) words, rows-volume ds h) (omega arith)

@@ -1,0 +1,114 @@
+-- `more_at` meets its contract. The loop's invariant: reading on from the value so far at the place reached is reading on
+-- from the start. Each way out is what the byte there says.
+use mathlib.Core.Path.{_≡_, refl, sym, ap, _∙_}
+use Prim.Native.Nat.{ℕ, _+_, _-_, _*_, _<_, _≤_}
+use native.Mathlib.Omega.{arith}
+use lib.ListN.{length, drop, getD}
+use Rattle.text.specs.Print.{limit}
+use Rattle.text.specs.Read.{readMore}
+use Rattle.sheet.proofs.Places.{at-found, at-none, at-same, more-end, more-below, more-above, more-over, more-step}
+use borrow.Author.Needs.{needs}
+use Rattle.sheet.proofs.field.more_at.Statement.{statement}
+use Rattle.sheet.proofs.field.more_at.Tie as tie
+use Rattle.sheet.proofs.field.more_at.Reads as reads
+use Rattle.sheet.proofs.field.more_at.Lts as lts
+
+abbrev Inv-loop : tie.InvT-loop
+Inv-loop bytes at start value₀ p₀ value p =
+    (p ≤ length bytes) × (value ≤ limit) × (readMore start (drop at bytes) ≡ readMore value (drop p bytes))
+
+abbrev μ-loop : tie.MeasureT-loop
+μ-loop bytes at start value₀ p₀ value p = length bytes - p
+
+-- src/field.rt:22:5
+loop-holds : tie.Need-loop-holds Inv-loop μ-loop
+loop-holds c = search needs
+
+-- src/field.rt:23:17
+shared-slice-read-b : tie.Need-shared-slice-read-b Inv-loop μ-loop
+shared-slice-read-b c = search needs
+
+-- src/field.rt:23:17
+cast-b : tie.Need-cast-b Inv-loop μ-loop
+cast-b c = omega (arith, c .shared-slice-known .given (c .before .before .loop .p))
+
+-- src/field.rt:25:13
+returns : tie.Need-returns Inv-loop μ-loop
+returns c =
+    let w = c .before .before in
+    let l = w .before .loop in
+    at-found (l .p)
+    (l .inv .2 ∙ more-below (w .before .before .args .bytes .now) (l .p) (w .loop-test .taken) (l .value) (c .if1 .taken))
+    (l .inv .0)
+
+-- src/field.rt:28:13
+returns-2 : tie.Need-returns-2 Inv-loop μ-loop
+returns-2 c =
+    let w = c .before .before .before in
+    let l = w .before .loop in
+    at-found (l .p)
+    (l .inv .2 ∙ more-above (w .before .before .args .bytes .now) (l .p) (w .loop-test .taken) (l .value) (c .if2 .taken))
+    (l .inv .0)
+
+-- src/field.rt:30:17
+mul-w : tie.Need-mul-w Inv-loop μ-loop
+mul-w c = search needs
+
+-- src/field.rt:30:17
+add-w : tie.Need-add-w Inv-loop μ-loop
+add-w c = search needs
+
+-- src/field.rt:32:13
+returns-3 : tie.Need-returns-3 Inv-loop μ-loop
+returns-3 c =
+    let w = c .before .before .before .before in
+    let l = w .before .loop in
+    at-none
+    (l .inv .2
+    ∙ more-over (w .before .before .args .bytes .now) (l .p) (w .loop-test .taken) (l .value) (c .before .before .if1 .left)
+    (c .before .if2 .left) (c .if3 .taken))
+
+-- src/field.rt:35:9
+add-p : tie.Need-add-p Inv-loop μ-loop
+add-p c = search needs
+
+-- src/field.rt:22:5
+loop-less : tie.Need-loop-less Inv-loop μ-loop
+loop-less c = search needs
+
+-- src/field.rt:22:5
+loop-again : tie.Need-loop-again Inv-loop μ-loop
+loop-again c =
+    let w = c .before .before .before .before in
+    let l = w .before .loop in (
+      omega arith,
+      c .if3 .left,
+      l .inv .2
+          ∙ more-step (w .before .before .args .bytes .now) (l .p) (w .loop-test .taken) (l .value) (c .before .before .if1 .left)
+          (c .before .if2 .left) (c .if3 .left),
+    )
+
+-- src/field.rt:16:1
+returns-4 : tie.Need-returns-4 Inv-loop μ-loop
+returns-4 c =
+    let l = c .before .loop in
+    at-found (l .p) (l .inv .2 ∙ more-end (c .before .before .args .bytes .now) (l .p) (l .value) (c .loop-test .left)) (l .inv .0)
+
+pub more-at-spec : {M : Type 1} → statement M
+more-at-spec =
+    tie.close
+    (tie.spec
+    Inv-loop
+    μ-loop
+    loop-holds
+    shared-slice-read-b
+    cast-b
+    returns
+    returns-2
+    mul-w
+    add-w
+    returns-3
+    add-p
+    loop-less
+    loop-again
+    returns-4)

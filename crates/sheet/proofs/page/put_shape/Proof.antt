@@ -1,0 +1,44 @@
+-- `put_shape` meets its contract: a line is put by putting its word, its fields and its LF.
+use mathlib.Core.Path.{_≡_, refl, sym, ap, _∙_}
+use mathlib.Core.List.{List, [], _∷_, _++_}
+use lib.ListN.{length, take, drop}
+use Rattle.text.specs.Sheet.{shapeWord}
+use Rattle.sheet.proofs.Puts.{put-length}
+use Rattle.sheet.proofs.Pages.{word-room, fields-room, end-room, line-put}
+use Rattle.sheet.proofs.page.put_shape.Statement.{statement}
+use Rattle.sheet.proofs.page.put_shape.Tie as tie
+
+-- the line is put
+whole : tie.Need-returns
+whole c =
+    line-put shapeWord (c .before .before .before .before .before .before .before .before .before .before .before .before .before .before .args .lens) (c .before .before .before .before .before .before .before .before .before .before .before .before .before .before .pre .1) (c .before .before .before .before .before .before .before .before .before .before .put-word .ensures) (c .before .before .before .before .before .before .put-lens .ensures)
+    (c .before .before .put-end .ensures)
+
+slice-aggregate-put-word : tie.Need-slice-aggregate-put-word
+slice-aggregate-put-word c = refl
+
+put-word-requires : tie.Need-put-word-requires
+put-word-requires c κs = word-room shapeWord (c .before .before .before .args .lens) (c .before .before .before .pre .1)
+
+put-lens-requires : tie.Need-put-lens-requires
+put-lens-requires c κs = (c .before .before .before .before .before .before .before .pre .0, fields-room shapeWord (c .before .before .before .before .before .before .before .args .lens) (c .before .before .before .before .before .before .before .pre .1) (c .before .before .before .put-word .ensures))
+
+put-end-requires : tie.Need-put-end-requires
+put-end-requires c κs = end-room shapeWord (c .before .before .before .before .before .before .before .before .before .before .before .args .lens) (c .before .before .before .before .before .before .before .before .before .before .before .pre .1) (c .before .before .before .before .before .before .before .put-word .ensures) (c .before .before .before .put-lens .ensures)
+
+same-length : tie.Need-same-length
+same-length c = put-length (whole c)
+
+returns : tie.Need-returns
+returns c = whole c
+
+pub put-shape-spec : {M : Type 1} → statement M
+put-shape-spec =
+    tie.close
+    (tie.spec
+    slice-aggregate-put-word
+    put-word-requires
+    put-lens-requires
+    put-end-requires
+    same-length
+    returns)

@@ -1,0 +1,5 @@
+pub mod Swaps
+pub mod Place
+pub mod Reader
+pub mod Put
+pub mod Writer

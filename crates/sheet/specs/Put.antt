@@ -1,0 +1,15 @@
+-- What the private functions that put bytes into a buffer promise. Assumes nothing: these are definitions.
+use mathlib.Core.Path.{_≡_}
+use mathlib.Core.List.{List}
+use Prim.Native.Nat.{ℕ, _+_, _≤_}
+use lib.ListN.{length}
+use lib.Seq.{sets}
+
+-- the buffer has room for the text at this place
+pub record Room (out : List ℕ) (at : ℕ) (text : List ℕ) : Type 0 where
+  pub fits : at + length text ≤ length out
+
+-- the text stands at the place, every other byte is as it was, and `next` is the place after the text
+pub record Put (out : List ℕ) (at : ℕ) (text : List ℕ) (next : ℕ) (out′ : List ℕ) : Type 0 where
+  pub place : next ≡ at + length text
+  pub bytes : out′ ≡ sets out at text

@@ -1,0 +1,27 @@
+-- What the reader answers and stores. Assumes nothing: these are definitions.
+use mathlib.Core.Path.{_≡_}
+use mathlib.Core.List.{List, [], _∷_, _++_}
+use Prim.Native.Nat.{ℕ, _-_}
+use lib.ListN.{length, drop, replicate}
+use Rattle.text.specs.Meaning.{Outcome, meaning}
+use Rattle.sheet.specs.Swaps.{padded}
+use Rattle.sheet.specs.declared.Sheet.{Sheet}
+
+-- a refusal's other fields are 0
+abbrev pub refusal : ℕ → ℕ → Sheet
+refusal number place = record { number = number; place = place; lens = replicate 4 0; swaps = replicate 32 0; count = 0 }
+
+-- the answer holds lengths, 32 swap places and the chain's length
+abbrev pub answer : Outcome → Sheet
+answer (Outcome.refused number place) = refusal number place
+answer (Outcome.accepted ds chain words) = record { number = 0; place = 0; lens = ds; swaps = padded chain; count = length chain }
+
+-- the words are stored from the buffer's start only when the whole sheet is right; later words stay
+abbrev pub kept : Outcome → List ℕ → List ℕ
+kept (Outcome.refused number place) buffer = buffer
+kept (Outcome.accepted ds chain words) buffer = words ++ drop (length words) buffer
+
+-- the promise of the reader
+pub record ReadAs (buffer bytes : List ℕ) (answered : Sheet) (buffer′ : List ℕ) : Type 0 where
+  pub answers : answered ≡ answer (meaning buffer bytes)
+  pub words : buffer′ ≡ kept (meaning buffer bytes) buffer

@@ -1,0 +1,108 @@
+// Lines 1 and 2 of a sheet with their checks: private to the library.
+use crate::check;
+use crate::line;
+use crate::values;
+ghost use mathlib.Core.Path.{_≡_};
+ghost use mathlib.Core.List.{List};
+ghost use Prim.Native.Nat.{ℕ, _≤_};
+ghost use lib.ListN.{length, drop};
+ghost use Rattle.text.specs.Meaning.{shapeLine, chainLine};
+ghost use Rattle.sheet.specs.Place.{StepAt, ChainAt};
+
+// Line 1 as it was read: a number and a place, or the lengths and the place after the line.
+pub struct Shape {
+    pub number: u32,
+    pub place: usize,
+    pub lens: [usize; 4],
+    pub next: usize,
+}
+
+// Line 2 as it was read: a number and a place, or the swaps, their count and the place after the line.
+pub struct Chain {
+    pub number: u32,
+    pub place: usize,
+    pub swaps: [usize; 32],
+    pub count: usize,
+    pub next: usize,
+}
+
+fn no_shape(number: u32, place: usize) -> Shape
+    ensures { λ r. ⌜ (r .number ≡ number) × (r .place ≡ place) × (r .next ≡ 0) ⌝ }
+{
+    Shape {
+        number,
+        place,
+        lens: [0; 4],
+        next: 0,
+    }
+}
+
+fn no_chain(number: u32, place: usize) -> Chain
+    ensures { λ r. ⌜ (r .number ≡ number) × (r .place ≡ place) × (r .next ≡ 0) ⌝ }
+{
+    Chain {
+        number,
+        place,
+        swaps: [0; 32],
+        count: 0,
+        next: 0,
+    }
+}
+
+// Line 1, for a word buffer of `room` words.
+pub(crate) fn shape_at(bytes: &[u8], room: usize) -> Shape
+    ensures { λ r. ⌜ ((buffer : List ℕ) → length buffer ≡ room → StepAt (now (bytes .entry)) (shapeLine buffer (now (bytes .entry))) (r .number) (r .place) (r .lens) (r .next)) ⌝ }
+{
+    if 16384 < bytes.len() {
+        return no_shape(9, 0);
+    }
+    let first = line::line_at(bytes, 0, b"shape", 4);
+    if !first.ok {
+        return no_shape(10, 1);
+    }
+    let v = values::values_at(bytes, 5, 4);
+    let lens = [v[0], v[1], v[2], v[3]];
+    if check::bad_length(lens) {
+        return no_shape(1, 0);
+    }
+    let size = check::volume_of(lens);
+    if 1024 < size {
+        return no_shape(11, 0);
+    }
+    if room < size {
+        return no_shape(3, 0);
+    }
+    Shape {
+        number: 0,
+        place: 0,
+        lens,
+        next: first.next,
+    }
+}
+
+// Line 2, at `at`.
+pub(crate) fn chain_at(bytes: &[u8], at: usize) -> Chain
+    requires { ⌜ at ≤ length (now bytes) ⌝ }
+    ensures { λ r. ⌜ ChainAt (now (bytes .entry)) (chainLine (drop at (now (bytes .entry)))) (r .number) (r .place) (r .swaps) (r .count) (r .next) ⌝ }
+{
+    let count = line::tabs_at(bytes, at);
+    let second = line::line_at(bytes, at, b"chain", count);
+    if !second.ok {
+        return no_chain(10, 2);
+    }
+    if 32 < count {
+        return no_chain(5, 0);
+    }
+    let swaps = values::values_at(bytes, at + 5, count);
+    let bad = check::first_bad(swaps, count);
+    if bad < count {
+        return no_chain(6, bad);
+    }
+    Chain {
+        number: 0,
+        place: 0,
+        swaps,
+        count,
+        next: second.next,
+    }
+}

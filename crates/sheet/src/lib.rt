@@ -1,0 +1,128 @@
+mod check;
+mod field;
+mod head;
+mod line;
+mod page;
+mod put;
+mod rows;
+mod values;
+
+ghost use mathlib.Core.Path.{_≡_};
+ghost use lib.ListN.{length};
+ghost use Rattle.text.specs.Sheet.{resultText};
+ghost use Rattle.sheet.specs.Reader.{ReadAs, refusal};
+ghost use Rattle.sheet.specs.Writer.{Measured, WrittenAs};
+
+// What a sheet says: its number and place, its lengths, its swaps (unused ones 0) and how many they are.
+pub struct Sheet {
+    pub number: u32,
+    pub place: usize,
+    pub lens: [usize; 4],
+    pub swaps: [usize; 32],
+    pub count: usize,
+}
+
+// The answer to a sheet that is refused.
+fn refused(number: u32, place: usize) -> Sheet
+    ensures { λ r. ⌜ r ≡ refusal number place ⌝ }
+{
+    Sheet {
+        number,
+        place,
+        lens: [0; 4],
+        swaps: [0; 32],
+        count: 0,
+    }
+}
+
+// Reads a sheet: judges all of it, then stores its words from the start of `words`.
+pub fn read(bytes: &[u8], words: &mut [u32]) -> Sheet
+    ensures { λ r. ⌜ ReadAs (now (words .entry)) (now (bytes .entry)) r (now (words .exit)) ⌝ }
+{
+    let first = head::shape_at(bytes, words.len());
+    if first.number != 0 {
+        return refused(first.number, first.place);
+    }
+    let second = head::chain_at(bytes, first.next);
+    if second.number != 0 {
+        return refused(second.number, second.place);
+    }
+    let lens = first.lens;
+    let count = check::row_count(lens);
+    let n = lens[3];
+    let at = second.next;
+    let judged = rows::rows_at(bytes, at, count, n);
+    if !judged.ok {
+        return refused(10, judged.line);
+    }
+    rows::store_rows(bytes, at, count, n, words);
+    let swaps = second.swaps;
+    Sheet {
+        number: 0,
+        place: 0,
+        lens,
+        swaps,
+        count: second.count,
+    }
+}
+
+// What the writer did: its number, and the count of bytes written.
+pub struct Written {
+    pub number: u32,
+    pub count: usize,
+}
+
+// How many bytes the result sheet has: `size` words in `rows` rows.
+fn result_len(lens: [usize; 4], order: usize, words: &[u32], size: usize, rows: usize) -> usize
+    requires { ⌜ Measured lens order (now words) size rows ⌝ }
+    ensures { λ r. ⌜ r ≡ length (resultText lens order (now (words .entry))) ⌝ }
+{
+    let head = 13 + page::lens_len(lens) + put::digits_of(order);
+    head + 4 * rows + page::words_len(words, size)
+}
+
+// Writes the result sheet: measures it, then puts it at the start of `out`.
+pub fn write(lens: [usize; 4], order: usize, words: &[u32], out: &mut [u8]) -> Written
+    ensures { λ r. ⌜ WrittenAs lens order (now (words .entry)) (now (out .entry)) r (now (out .exit)) ⌝ }
+{
+    if check::bad_length(lens) {
+        return Written {
+            number: 1,
+            count: 0,
+        };
+    }
+    let size = check::volume_of(lens);
+    if 1024 < size {
+        return Written {
+            number: 11,
+            count: 0,
+        };
+    }
+    if words.len() < size {
+        return Written {
+            number: 3,
+            count: 0,
+        };
+    }
+    if 23 < order {
+        return Written {
+            number: 7,
+            count: 0,
+        };
+    }
+    let rows = check::row_count(lens);
+    let need = result_len(lens, order, words, size, rows);
+    if out.len() < need {
+        return Written {
+            number: 24,
+            count: 0,
+        };
+    }
+    let second = page::put_shape(out, 0, lens);
+    let third = page::put_order(out, second, order);
+    let end = page::put_rows(out, third, words, rows, lens[3]);
+    Written {
+        number: 0,
+        count: end,
+    }
+}

@@ -1,0 +1,92 @@
+// Bytes put into a lent buffer at a place, each function giving the place after them: private to the library.
+ghost use mathlib.Core.Path.{_≡_};
+ghost use mathlib.Core.Bool.{false};
+ghost use mathlib.Core.List.{_∷_, []};
+ghost use Prim.Native.Nat.{_+_, _≤_};
+ghost use lib.ListN.{length, take, drop};
+ghost use Rattle.refusals.specs.Conditions.{badLength};
+ghost use Rattle.text.specs.Print.{limit, lineFeed, decimal, field, fields};
+ghost use Rattle.sheet.specs.Put.{Room, Put};
+
+// How many digits v has.
+pub(crate) fn digits_of(v: usize) -> usize
+    requires { ⌜ v ≤ limit ⌝ }
+    ensures { λ r. ⌜ r ≡ length (decimal v) ⌝ }
+{
+    let mut count = 1;
+    let mut left = v;
+    while 9 < left {
+        left = left / 10;
+        count += 1;
+    }
+    count
+}
+
+// The number v in decimal, its last digit first.
+pub(crate) fn put_number(out: &mut [u8], at: usize, v: usize) -> usize
+    requires { ⌜ (v ≤ limit) × Room (now out) at (decimal v) ⌝ }
+    ensures { λ r. ⌜ Put (now (out .entry)) at (decimal v) r (now (out .exit)) ⌝ }
+{
+    let next = at + digits_of(v);
+    let mut left = v;
+    let mut p = next;
+    while at < p {
+        p -= 1;
+        out[p] = (48 + left % 10) as u8;
+        left = left / 10;
+    }
+    next
+}
+
+// A field: a tab and the number v.
+pub(crate) fn put_field(out: &mut [u8], at: usize, v: usize) -> usize
+    requires { ⌜ (v ≤ limit) × Room (now out) at (field v) ⌝ }
+    ensures { λ r. ⌜ Put (now (out .entry)) at (field v) r (now (out .exit)) ⌝ }
+{
+    out[at] = 9;
+    put_number(out, at + 1, v)
+}
+
+// The bytes of a word.
+pub(crate) fn put_word(out: &mut [u8], at: usize, word: &[u8]) -> usize
+    requires { ⌜ Room (now out) at (now word) ⌝ }
+    ensures { λ r. ⌜ Put (now (out .entry)) at (now (word .entry)) r (now (out .exit)) ⌝ }
+{
+    for i in 0..word.len() {
+        out[at + i] = word[i];
+    }
+    at + word.len()
+}
+
+// The LF that closes a line.
+pub(crate) fn put_end(out: &mut [u8], at: usize) -> usize
+    requires { ⌜ Room (now out) at (lineFeed ∷ []) ⌝ }
+    ensures { λ r. ⌜ Put (now (out .entry)) at (lineFeed ∷ []) r (now (out .exit)) ⌝ }
+{
+    out[at] = 10;
+    at + 1
+}
+
+// A field for each of n words from `from` on.
+pub(crate) fn put_words(out: &mut [u8], at: usize, words: &[u32], from: usize, n: usize) -> usize
+    requires { ⌜ (from + n ≤ length (now words)) × Room (now out) at (fields (take n (drop from (now words)))) ⌝ }
+    ensures { λ r. ⌜ Put (now (out .entry)) at (fields (take n (drop from (now (words .entry))))) r (now (out .exit)) ⌝ }
+{
+    let mut p = at;
+    for i in 0..n {
+        p = put_field(out, p, words[from + i] as usize);
+    }
+    p
+}
+
+// A field for each length.
+pub(crate) fn put_lens(out: &mut [u8], at: usize, lens: [usize; 4]) -> usize
+    requires { ⌜ (badLength lens ≡ false) × Room (now out) at (fields lens) ⌝ }
+    ensures { λ r. ⌜ Put (now (out .entry)) at (fields lens) r (now (out .exit)) ⌝ }
+{
+    let mut p = at;
+    for i in 0..4 {
+        p = put_field(out, p, lens[i]);
+    }
+    p
+}

@@ -1,0 +1,82 @@
+-- Rows are read exactly where their text stands, with nothing after them. By induction on the count of rows, each by the law of lines.
+use mathlib.Core.Path.{_≡_, refl, sym, ap, _∙_, subst}
+use mathlib.Core.Bool.{Bool, true, false}
+use mathlib.Core.List.{List, [], _∷_, _++_, append-nil}
+use Prim.Native.Nat.{ℕ, zero, suc, _+_, _-_, _*_, _<_, _≤_}
+use native.Mathlib.Omega.{arith}
+use native.Mathlib.Nat.{mul-one, one-mul, mul-assoc}
+use lib.ListN.{length, take, drop, getD, length-append, length-take, length-drop, take-append-drop}
+use lib.Seq.{take-at, drop-at, length-take-le}
+use Rattle.layout.specs.Layout.{volume}
+use Rattle.text.specs.Print.{limit, line}
+use Rattle.text.specs.Read.{Found, readLine}
+use Rattle.text.specs.Sheet.{rowWord, rowCount, rowWidth, rowsText}
+use Rattle.text.specs.Meaning.{Step, onLine, onward, behind, ended, rowLines}
+use Rattle.text.proofs.Lines.{Small, Held, line-text, text-line}
+use Rattle.text.proofs.Steps.{on-line-go, onward-go, behind-go, ended-go}
+
+pub small-append : {us ws : List ℕ} → Small us → Small ws → Small (us ++ ws)
+small-append Small.none t = t
+small-append (Small.more l s) t = Small.more l (small-append s t)
+
+pub small-take : (n : ℕ) {ws : List ℕ} → Small ws → Small (take n ws)
+small-take zero s = Small.none
+small-take (suc n) Small.none = Small.none
+small-take (suc n) (Small.more l s) = Small.more l (small-take n s)
+
+pub small-drop : (n : ℕ) {ws : List ℕ} → Small ws → Small (drop n ws)
+small-drop zero s = s
+small-drop (suc n) Small.none = Small.none
+small-drop (suc n) (Small.more l s) = small-drop n s
+
+-- the bytes are the rows of these words, all of them, and nothing is left
+pub record AreRows (count n : ℕ) (bs ws rest : List ℕ) : Type 0 where
+  pub bytes : bs ≡ rowsText count n ws
+  pub long : length ws ≡ count * n
+  pub small : Small ws
+  pub nothing : rest ≡ []
+
+pub rows-text : (k count n : ℕ) (bs : List ℕ) {ws rest : List ℕ} → rowLines k count n bs ≡ Step.go ws rest → AreRows count n bs ws rest
+unfolding rowLines rowsText
+rows-text k zero n bs {ws} {rest} e =
+    let h = ended-go k bs e in
+    rw (h .1) (record { bytes = h .0; long = omega arith; small = Small.none; nothing = h .2 })
+rows-text k (suc count) n bs {ws} {rest} e =
+    onward-go (onLine k (readLine rowWord n bs)) (λ (us : List ℕ) (mid : List ℕ). behind us (rowLines (suc k) count n mid)) e
+    (λ us mid e₁ e₂. behind-go us (rowLines (suc k) count n mid) e₂
+    (λ vs e₃ e₄.
+    let h = line-text rowWord n bs (on-line-go k (readLine rowWord n bs) e₁) in
+    let ih = rows-text (suc k) count n mid e₃ in
+    rw e₄
+    (record {
+      bytes =
+          rw (take-at us vs n (h .long), drop-at us vs n (h .long))
+          (h .bytes ∙ ap (λ (l : List ℕ). line rowWord us ++ l) (ih .bytes));
+      long = length-append us vs ∙ omega (arith, h .long, ih .long);
+      small = small-append (h .small) (ih .small);
+      nothing = ih .nothing;
+    })))
+
+pub text-rows : (k count n : ℕ) (ws : List ℕ) → length ws ≡ count * n → Small ws → rowLines k count n (rowsText count n ws) ≡ Step.go ws []
+unfolding rowLines rowsText ended
+text-rows k zero n [] l s = refl
+text-rows k zero n (w ∷ ws) l s = absurd (omega arith)
+text-rows k (suc count) n ws l s =
+    let few : n ≤ length ws = omega arith in
+    let held : Held (line rowWord) n (line rowWord (take n ws) ++ rowsText count n (drop n ws)) (take n ws) (rowsText count n (drop n ws)) =
+    record { bytes = refl; long = length-take-le n ws few; small = small-take n s } in
+    rw (text-line rowWord held, text-rows (suc k) count n (drop n ws) (omega (arith, length-drop n ws)) (small-drop n s))
+    (ap (λ (l : List ℕ). Step.go l []) (take-append-drop n ws))
+
+-- the rows hold the words of the block
+rows-of : (d : ℕ) (ds : List ℕ) → volume (take (length ds) (d ∷ ds)) * getD (d ∷ ds) (length ds) 0 ≡ volume (d ∷ ds)
+unfolding volume
+rows-of d [] = omega arith
+rows-of d (e ∷ ds) =
+    mul-assoc d (volume (take (length ds) (e ∷ ds))) (getD (e ∷ ds) (length ds) 0)
+    ∙ ap (λ (v : ℕ). d * v) (rows-of e ds)
+
+pub rows-volume : (ds : List ℕ) → 0 < length ds → rowCount ds * rowWidth ds ≡ volume ds
+unfolding rowCount rowWidth
+rows-volume [] h = absurd (omega arith)
+rows-volume (d ∷ ds) h = let e : suc (length ds) - 1 ≡ length ds = omega arith in rw e (rows-of d ds)

@@ -1,0 +1,4 @@
+pub mod Print
+pub mod Read
+pub mod Sheet
+pub mod Meaning

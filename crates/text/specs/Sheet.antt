@@ -1,0 +1,43 @@
+-- The text of a sheet and of a result sheet. Assumes nothing: these are definitions.
+use mathlib.Core.List.{List, [], _∷_, _++_}
+use Prim.Native.Nat.{ℕ, zero, suc, _-_}
+use lib.ListN.{length, take, drop, getD}
+use Rattle.layout.specs.Layout.{volume}
+use Rattle.text.specs.Print.{line}
+
+-- the word `shape`
+abbrev pub shapeWord : List ℕ
+shapeWord = 115 ∷ 104 ∷ 97 ∷ 112 ∷ 101 ∷ []
+
+-- the word `chain`
+abbrev pub chainWord : List ℕ
+chainWord = 99 ∷ 104 ∷ 97 ∷ 105 ∷ 110 ∷ []
+
+-- the word `order`
+abbrev pub orderWord : List ℕ
+orderWord = 111 ∷ 114 ∷ 100 ∷ 101 ∷ 114 ∷ []
+
+-- the word `row`
+abbrev pub rowWord : List ℕ
+rowWord = 114 ∷ 111 ∷ 119 ∷ []
+
+-- the words of a row: the last length
+unfoldable pub rowWidth : List ℕ → ℕ
+rowWidth ds = getD ds (length ds - 1) 0
+
+-- the rows of a block: all lengths but the last multiplied
+unfoldable pub rowCount : List ℕ → ℕ
+rowCount ds = volume (take (length ds - 1) ds)
+
+-- lines of n words each, as many as are asked for
+unfoldable pub rowsText : ℕ → ℕ → List ℕ → List ℕ
+rowsText zero n words = []
+rowsText (suc count) n words = line rowWord (take n words) ++ rowsText count n (drop n words)
+
+-- a sheet: line 1 `shape` and the lengths, line 2 `chain` and the swaps, then the rows
+unfoldable pub sheetText : List ℕ → List ℕ → List ℕ → List ℕ
+sheetText ds chain words = line shapeWord ds ++ (line chainWord chain ++ rowsText (rowCount ds) (rowWidth ds) words)
+
+-- a result sheet: line 1 `shape` with the new lengths, line 2 `order` with the order number, then the rows of the new shape
+unfoldable pub resultText : List ℕ → ℕ → List ℕ → List ℕ
+resultText ds order words = line shapeWord ds ++ (line orderWord (order ∷ []) ++ rowsText (rowCount ds) (rowWidth ds) words)

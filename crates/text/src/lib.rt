@@ -1,0 +1,1 @@
+// Lines of text, printed and read: definitions and laws, no function.
