@@ -67,3 +67,66 @@ pub fn cleared(scratch: &[u32], lengths: &[u64]) -> Vec<u32> {
     }
     out
 }
+
+// The 24 orders of four axes, in dictionary order.
+pub fn orders() -> Vec<[usize; 4]> {
+    let mut all = Vec::new();
+    for number in 0..256 {
+        let order = [number / 64, number / 16 % 4, number / 4 % 4, number % 4];
+        if (0..4).all(|axis| order.contains(&axis)) {
+            all.push(order);
+        }
+    }
+    all
+}
+
+pub fn number_of(order: [usize; 4]) -> u64 {
+    orders().iter().position(|&o| o == order).unwrap() as u64
+}
+
+// The order that a chain of right swaps names: it starts at 0123 and exchanges places swap by swap.
+pub fn named(chain: &[u64]) -> [usize; 4] {
+    let mut order = [0, 1, 2, 3];
+    for &k in chain {
+        order.swap(k as usize, k as usize + 1);
+    }
+    order
+}
+
+pub fn reordered(lengths: [u64; 4], order: [usize; 4]) -> [u64; 4] {
+    [lengths[order[0]], lengths[order[1]], lengths[order[2]], lengths[order[3]]]
+}
+
+fn offset(lengths: [u64; 4], x: [u64; 4]) -> usize {
+    (((x[0] * lengths[1] + x[1]) * lengths[2] + x[2]) * lengths[3] + x[3]) as usize
+}
+
+// The word with original coordinates x stands at x under the order, in a block with lengths under the order.
+pub fn laid(words: &[u32], lengths: [u64; 4], order: [usize; 4]) -> Vec<u32> {
+    let mut out = words.to_vec();
+    let new = reordered(lengths, order);
+    for a in 0..lengths[0] {
+        for b in 0..lengths[1] {
+            for c in 0..lengths[2] {
+                for d in 0..lengths[3] {
+                    let x = [a, b, c, d];
+                    out[offset(new, reordered(x, order))] = words[offset(lengths, x)];
+                }
+            }
+        }
+    }
+    out
+}
+
+// The plan of an order by brute force: the chains by rising length, each length in dictionary order.
+pub fn plan(order: [usize; 4]) -> Vec<u64> {
+    for length in 0..=6 {
+        for code in 0..3u64.pow(length) {
+            let chain: Vec<u64> = (0..length).rev().map(|p| code / 3u64.pow(p) % 3).collect();
+            if named(&chain) == order {
+                return chain;
+            }
+        }
+    }
+    unreachable!("six swaps reach every order")
+}
