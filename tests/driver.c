@@ -34,6 +34,11 @@ enum {
     TURN = 1,
     TURN_BACK = 2,
     TURN_HALVES = 3,
+    CHAIN = 4,
+    REQUEST = 5,
+    PLAN = 6,
+    READ_SHEET = 7,
+    WRITE_SHEET = 8,
     /* these touch what they must not, to show that the guards bite */
     WRITE_PAST_END = 100,
     READ_PAST_END = 101,
@@ -77,6 +82,37 @@ static void give(uint64_t v) { answer[answered++] = v; }
 static uint32_t *words(int k) { return (uint32_t *)buffers[k].at; }
 static size_t word_count(int k) { return buffers[k].bytes / sizeof(uint32_t); }
 
+static void give_all(const size_t *from, size_t count) {
+    for (size_t k = 0; k < count; k++) give(from[k]);
+}
+
+static void give_answer(struct zib_answer a) {
+    give(a.number);
+    give(a.place);
+    give_all(a.lengths, 4);
+    give(a.order);
+    give(a.swaps);
+}
+
+static void give_plan(struct zib_planned p) {
+    give(p.number);
+    give_all(p.swaps, 6);
+    give(p.length);
+}
+
+static void give_sheet(struct zib_sheet s) {
+    give(s.number);
+    give(s.place);
+    give_all(s.lengths, 4);
+    give_all(s.swaps, 32);
+    give(s.length);
+}
+
+static void give_written(struct zib_written w) {
+    give(w.number);
+    give(w.bytes);
+}
+
 static void make_rooms(void) {
     size_t page = (size_t)sysconf(_SC_PAGESIZE);
     for (int k = 0; k < MOST_BUFFERS; k++) {
@@ -112,6 +148,7 @@ static void protect(int prot) {
 
 static void run(uint64_t call) {
     volatile unsigned char *at = buffers[0].at;
+    struct zib_shape shape = {{numbers[0], numbers[1], numbers[2], numbers[3]}};
     switch (call) {
     case TURN:
         give(zib_turn(words(0), word_count(0), words(1), word_count(1), numbers[0], numbers[1]));
@@ -121,6 +158,21 @@ static void run(uint64_t call) {
         break;
     case TURN_HALVES:
         give(zib_turn_halves(words(0), word_count(0), numbers[0], numbers[1]));
+        break;
+    case CHAIN:
+        give_answer(zib_chain(words(0), word_count(0), words(1), word_count(1), shape, (size_t *)buffers[2].at, buffers[2].bytes / sizeof(size_t)));
+        break;
+    case REQUEST:
+        give_answer(zib_request(words(0), word_count(0), words(1), word_count(1), shape, numbers[4]));
+        break;
+    case PLAN:
+        give_plan(zib_plan(numbers[0]));
+        break;
+    case READ_SHEET:
+        give_sheet(zib_read_sheet(buffers[0].at, buffers[0].bytes, words(1), word_count(1)));
+        break;
+    case WRITE_SHEET:
+        give_written(zib_write_sheet(shape, numbers[4], words(0), word_count(0), buffers[1].at, buffers[1].bytes));
         break;
     case WRITE_PAST_END:
         at[buffers[0].bytes] = 1;

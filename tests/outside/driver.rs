@@ -5,6 +5,11 @@ use std::process::{Child, ChildStdin, ChildStdout, Command, Stdio};
 pub const TURN: u64 = 1;
 pub const TURN_BACK: u64 = 2;
 pub const TURN_HALVES: u64 = 3;
+pub const CHAIN: u64 = 4;
+pub const REQUEST: u64 = 5;
+pub const PLAN: u64 = 6;
+pub const READ_SHEET: u64 = 7;
+pub const WRITE_SHEET: u64 = 8;
 pub const WRITE_PAST_END: u64 = 100;
 pub const READ_PAST_END: u64 = 101;
 pub const WRITE_BEFORE_START: u64 = 102;
@@ -22,6 +27,11 @@ pub struct Buffer {
 
 pub fn words(from: &[u32]) -> Buffer {
     let bytes = from.iter().flat_map(|w| w.to_le_bytes()).collect();
+    Buffer { bytes, writable: true }
+}
+
+pub fn sizes(from: &[u64]) -> Buffer {
+    let bytes = from.iter().flat_map(|v| v.to_le_bytes()).collect();
     Buffer { bytes, writable: true }
 }
 
