@@ -1,8 +1,8 @@
 -- What makes a call's promise: a refusal that leaves all as it was, and for a request the chain of its plan, which is always accepted on a
 -- sound block and names the order asked for.
 use mathlib.Core.Path.{_≡_, refl, sym, ap, ap₂, _∙_, subst}
-use mathlib.Core.Bool.{Bool, true, false}
-use mathlib.Core.List.{List, [], _∷_, _++_}
+use mathlib.Core.Bool.{false}
+use mathlib.Core.List.{List, [], _∷_}
 use Prim.Native.Nat.{ℕ, _-_, _<_, _≤_, zero-le, suc-le-suc}
 use native.Mathlib.Omega.{arith}
 use lib.ListN.{length, take, replicate, length-append}
@@ -17,12 +17,12 @@ use Rattle.orders.specs.Numbers.{orderOf, numberOf}
 use Rattle.orders.specs.Plans.{planOf}
 use Rattle.orders.proofs.FourAxes.{number-order-4, length-plan-4, plan-is-4, plan-below-4}
 use Rattle.refusals.specs.FirstOf.{check, firstOf}
-use Rattle.refusals.specs.Conditions.{some, noSwap, badSwap, longChain, noOrder}
+use Rattle.refusals.specs.Conditions.{badSwap, longChain}
 use Rattle.refusals.specs.Calls.{passesChecks, chainChecks, requestChecks, planChecks}
 use Rattle.refusals.proofs.FirstOf.{Refusing, Silent, zero-silent}
 use Rattle.axes.specs.declared.Answer.{Answer}
 use Rattle.axes.specs.declared.Planned.{Planned}
-use Rattle.axes.specs.Answers.{accepted, refused, refusedPlace, plannedAs}
+use Rattle.axes.specs.Answers.{accepted, refused, refusedPlace}
 use Rattle.axes.specs.Promises.{ChainPromise, RequestPromise, PlanPromise}
 use Rattle.axes.proofs.Checks.{Sound, sound, block-few, silent-block, accepted-so-far, refused-first, Runs, runs-zero}
 

@@ -1,6 +1,6 @@
 -- The checks of a block and of a chain, as facts: accepted means that none of the six conditions holds. No swap changes what the first
 -- four test, since it changes neither the lengths, but for their places, nor how many words are lent.
-use mathlib.Core.Path.{_≡_, refl, sym, ap, ap₂, _∙_}
+use mathlib.Core.Path.{_≡_, refl, ap, _∙_}
 use mathlib.Core.Bool.{Bool, true, false}
 use mathlib.Core.List.{List, [], _∷_, _++_, reverse, reverse-cons}
 use Prim.Native.Nat.{ℕ, zero, suc, _+_, _<_, _≤_, max, zero-le, suc-le-suc}
@@ -9,10 +9,9 @@ use lib.Dec.{ltb}
 use lib.ListN.{length, length-append}
 use borrow.Author.Tests.{ltb-false, le-ltb}
 use Rattle.lists.specs.Choose.{choose, either}
-use Rattle.layout.specs.Layout.{volume}
 use Rattle.orders.specs.Chains.{exchange, follow}
 use Rattle.orders.proofs.Chains.{volume-follow}
-use Rattle.refusals.specs.FirstOf.{Check, check, firstOf}
+use Rattle.refusals.specs.FirstOf.{Check, firstOf}
 use Rattle.refusals.specs.Conditions.{some, outOfRange, badLength, tooManyWords, shortBuffer, shortScratch, longest, longChain, noSwap, badSwap}
 use Rattle.refusals.specs.Scratch.{need}
 use Rattle.refusals.specs.Calls.{passesChecks, chainChecks, requestChecks}

@@ -1,15 +1,13 @@
 -- What the calls on four axes do together, as theorems over what they promise: chains join, chains that name one order leave the same, a chain
 -- run backwards restores the block, an order number means the same in every call, and a request leaves what the chain of its plan leaves.
 -- The words by the laws of layouts, the lengths by following the chain, scratch because clearing it twice is clearing it once.
-use mathlib.Core.Path.{_≡_, refl, sym, ap, ap₂, _∙_, subst}
-use mathlib.Core.List.{List, [], _∷_, _++_, reverse}
-use mathlib.Core.Logic.{⊎-elim}
+use mathlib.Core.Path.{_≡_, sym, ap, ap₂, _∙_, subst}
+use mathlib.Core.List.{List, _++_, reverse}
 use Prim.Native.Nat.{ℕ, _+_, _<_, _≤_}
 use native.Mathlib.Nat.{le-refl}
 use native.Mathlib.Omega.{arith}
 use lib.ListN.{length, take, drop, replicate, length-append}
-use borrow.Author.Tests.{ltb-false, ne-eqb, le-ltb}
-use Rattle.lists.proofs.Decide.{eq-or-ne}
+use borrow.Author.Tests.{ltb-false, le-ltb}
 use Rattle.layout.specs.Layout.{pick, Laid}
 use Rattle.orders.specs.Chains.{follow, named}
 use Rattle.orders.specs.Numbers.{orderOf, numberOf}
@@ -17,17 +15,17 @@ use Rattle.orders.specs.Plans.{planOf}
 use Rattle.orders.proofs.Chains.{pick-named, follow-append, follow-home, joined, length-follow}
 use Rattle.orders.proofs.Layouts.{chain-joined, chain-home, chain-once}
 use Rattle.orders.proofs.Numbers.{order-number}
-use Rattle.orders.proofs.FourAxes.{number-below-4, number-order-4, length-plan-4}
+use Rattle.orders.proofs.FourAxes.{number-below-4, length-plan-4}
 use Rattle.refusals.specs.FirstOf.{firstOf}
 use Rattle.refusals.specs.Conditions.{longest}
-use Rattle.refusals.specs.Calls.{passesChecks, chainChecks, requestChecks, planChecks}
+use Rattle.refusals.specs.Calls.{chainChecks, planChecks}
 use Rattle.refusals.specs.Scratch.{need, cleared}
 use Rattle.refusals.proofs.FirstOf.{Silent, silent-zero}
 use Rattle.axes.specs.declared.Answer.{Answer}
 use Rattle.axes.specs.declared.Planned.{Planned}
-use Rattle.axes.specs.Answers.{refused, refusedPlace}
+use Rattle.axes.specs.Answers.{refused}
 use Rattle.axes.specs.Promises.{ChainPromise, RequestPromise, PlanPromise}
-use Rattle.axes.proofs.Checks.{longest-follow, Runs, runs, runs-zero, runs-after, runs-joined, runs-back, silent-block, accepted-so-far}
+use Rattle.axes.proofs.Checks.{longest-follow, Runs, runs, runs-zero, runs-joined, runs-back, silent-block, accepted-so-far}
 use Rattle.axes.proofs.Calls.{request-of-chain}
 use Rattle.axes.proofs.Steps.{cleared-length, cleared-past}
 use Rattle.axes.proofs.Outcomes.{one-request}

@@ -3,9 +3,8 @@
 -- after a chain.
 use mathlib.Core.Path.{_≡_, refl, sym, ap, ap₂, _∙_, subst}
 use mathlib.Core.List.{List, [], _∷_, _++_}
-use Prim.Native.Nat.{ℕ, zero, suc, _+_, _*_, _<_, _≤_}
+use Prim.Native.Nat.{ℕ, _+_, _*_}
 use native.Mathlib.Nat.{mul-assoc, add-mul, add-assoc, mul-one, one-mul, zero-mul, zero-add, add-zero}
-use native.Mathlib.Omega.{arith}
 use lib.ListN.{length, getD}
 use Rattle.lists.specs.Tab.{upto}
 use Rattle.layout.specs.Layout.{volume, Within, at, pick, Laid}

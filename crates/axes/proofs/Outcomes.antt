@@ -1,14 +1,12 @@
 -- Each promise leaves one outcome: any two that it allows from the same entry coincide, answer and both slices. Where a call is accepted, two
 -- layouts of one order are equal; where it is refused, all is as it was.
-use mathlib.Core.Path.{_≡_, refl, sym, ap, ap₂, _∙_, subst}
-use mathlib.Core.List.{List, [], _∷_, _++_}
+use mathlib.Core.Path.{_≡_, sym, ap, _∙_, subst}
+use mathlib.Core.List.{List}
 use mathlib.Core.Logic.{⊎-elim}
-use Prim.Native.Nat.{ℕ, _<_, _≤_}
-use native.Mathlib.Omega.{arith}
+use Prim.Native.Nat.{ℕ, _<_}
 use lib.ListN.{length}
 use Rattle.lists.proofs.Decide.{eq-or-ne}
 use Rattle.layout.specs.Layout.{Laid}
-use Rattle.orders.specs.Chains.{named}
 use Rattle.orders.specs.Numbers.{orderOf}
 use Rattle.orders.proofs.Layouts.{chain-once}
 use Rattle.orders.proofs.Numbers.{order-named}

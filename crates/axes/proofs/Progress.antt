@@ -1,14 +1,14 @@
 -- A chain that is followed swap by swap: what stands after i of its swaps, from one swap to the next, and what is promised once all are
 -- made and scratch is cleared.
-use mathlib.Core.Path.{_≡_, refl, sym, ap, ap₂, _∙_, subst, subst₂}
-use mathlib.Core.List.{List, [], _∷_, _++_}
+use mathlib.Core.Path.{_≡_, refl, sym, ap, ap₂, _∙_, subst}
+use mathlib.Core.List.{List, [], _++_}
 use Prim.Native.Nat.{ℕ, _+_, _<_, _≤_}
 use native.Mathlib.Omega.{arith}
-use lib.ListN.{length, getD, take, drop, replicate, length-append, length-replicate}
+use lib.ListN.{length, getD, take, drop, replicate}
 use lib.Seq.{take-length}
 use borrow.Author.Tests.{ltb-false, le-ltb}
 use Rattle.lists.specs.Tab.{upto}
-use Rattle.layout.specs.Layout.{pick, Laid}
+use Rattle.layout.specs.Layout.{Laid}
 use Rattle.orders.specs.Chains.{exchange, follow, named}
 use Rattle.orders.specs.Numbers.{orderOf, numberOf, orders, arrangements, rank}
 use Rattle.orders.proofs.Chains.{follow-more, named-more, pick-named}
@@ -17,7 +17,6 @@ use Rattle.refusals.specs.FirstOf.{firstOf}
 use Rattle.refusals.specs.Conditions.{longest}
 use Rattle.refusals.specs.Calls.{passesChecks}
 use Rattle.refusals.specs.Scratch.{need, cleared}
-use Rattle.axes.specs.declared.Answer.{Answer}
 use Rattle.passes.specs.Promises.{ClearPromise}
 use Rattle.axes.specs.Answers.{accepted}
 use Rattle.axes.specs.Promises.{ChainPromise}

@@ -1,9 +1,9 @@
 -- What the tests of a call say once they have failed: where no length is out of range, each is 1 to 4,096; where no swap is bad, each is
--- 0, 1 or 2. By induction on the list; a test that fails at some entry of none fails at each.
-use mathlib.Core.Path.{_≡_, refl, sym, ap, _∙_, subst}
+-- 0, 1 or 2. By induction on the list: a test that holds at no entry fails at each.
+use mathlib.Core.Path.{_≡_, refl}
 use mathlib.Core.Bool.{Bool, true, false}
-use mathlib.Core.List.{List, [], _∷_, _++_}
-use Prim.Native.Nat.{ℕ, zero, suc, _+_, _<_, _≤_}
+use mathlib.Core.List.{List, [], _∷_}
+use Prim.Native.Nat.{ℕ, zero, suc, _<_, _≤_}
 use native.Mathlib.Nat.{not-suc-le-zero, le-of-suc-le-suc}
 use native.Mathlib.Omega.{arith}
 use lib.Dec.{eqb, ltb}
@@ -11,20 +11,12 @@ use lib.ListN.{length, getD}
 use borrow.Author.Tests.{ltb-false, eqb-false}
 use Rattle.lists.specs.Choose.{choose, either}
 use Rattle.refusals.specs.Conditions.{some, outOfRange, badLength, firstPlace, noSwap, badSwap}
-
--- neither of two tests holds where one of them does not
-neither-left : (a b : Bool) → either a b ≡ false → a ≡ false
-neither-left true b e = e
-neither-left false b e = refl
-
-neither-right : (a b : Bool) → either a b ≡ false → b ≡ false
-neither-right true b e = absurd (let z : _≡_ {A = ℕ} 0 1 = cc in omega arith)
-neither-right false b e = e
+use Rattle.refusals.proofs.Conditions.{either-false}
 
 pub none-at : (f : ℕ → Bool) (l : List ℕ) → some f l ≡ false → (k : ℕ) → k < length l → f (getD l k 0) ≡ false
 none-at f [] e k h = absurd (not-suc-le-zero h)
-none-at f (x ∷ l) e zero h = neither-left (f x) (some f l) e
-none-at f (x ∷ l) e (suc k) h = none-at f l (neither-right (f x) (some f l) e) k (le-of-suc-le-suc h)
+none-at f (x ∷ l) e zero h = either-false (f x) (some f l) e .0
+none-at f (x ∷ l) e (suc k) h = none-at f l (either-false (f x) (some f l) e .1) k (le-of-suc-le-suc h)
 
 -- where the test holds at some entry there is a first, and it is among them
 pub found-place : (f : ℕ → Bool) (l : List ℕ) → firstPlace f l < length l → some f l ≡ true
@@ -49,8 +41,8 @@ pub in-range : (ds : List ℕ) → badLength ds ≡ false → (k : ℕ) → k < 
 in-range ds e k h =
     let d = getD ds k 0 in
     let t : outOfRange d ≡ false = none-at outOfRange ds e k h in
-    let p : d ≡ 0 → ⊥ = eqb-false d 0 (neither-left (eqb d 0) (ltb 4096 d) t) in
-    let q : d ≤ 4096 = ltb-false 4096 d (neither-right (eqb d 0) (ltb 4096 d) t) in
+    let p : d ≡ 0 → ⊥ = eqb-false d 0 (either-false (eqb d 0) (ltb 4096 d) t .0) in
+    let q : d ≤ 4096 = ltb-false 4096 d (either-false (eqb d 0) (ltb 4096 d) t .1) in
     (omega arith, q)
 
 pub good-swap : (c : List ℕ) → badSwap c ≡ false → (k : ℕ) → k < length c → getD c k 0 < 3

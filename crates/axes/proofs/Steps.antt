@@ -1,15 +1,15 @@
 -- One swap of a chain. Of a sound block the two axes, the axes before them and the axes after them are a block that the adjacent swap
 -- accepts, and what it makes of it is the swap of the whole shape; scratch past the longest axis stays as it is. Then one swap more.
 use mathlib.Core.Path.{_≡_, refl, sym, ap, ap₂, _∙_, subst, subst₂}
-use mathlib.Core.Bool.{Bool, true, false}
+use mathlib.Core.Bool.{false}
 use mathlib.Core.List.{List, [], _∷_, _++_}
 use mathlib.Core.Logic.{⊎-elim}
-use Prim.Native.Nat.{ℕ, zero, suc, _+_, _*_, _-_, _<_, _≤_, max, zero-le, suc-le-suc}
+use Prim.Native.Nat.{ℕ, zero, suc, _+_, _*_, _-_, _<_, _≤_, zero-le, suc-le-suc}
 use native.Mathlib.Nat.{not-suc-le-zero, le-of-suc-le-suc, eq-zero-or-pos, zero-mul, mul-zero, mul-pos}
 use native.Mathlib.Numerals.{add-one}
 use native.Mathlib.Omega.{arith}
 use lib.Dec.{eqb, ltb}
-use lib.ListN.{length, getD, take, drop, replicate, length-append, length-replicate, length-drop, length-take}
+use lib.ListN.{length, getD, take, drop, replicate, length-append, length-replicate, length-drop}
 use lib.Seq.{slice, take-all, take-suc, drop-drop, drop-append-add, length-take-le}
 use borrow.Author.Tests.{ltb-false, le-ltb, ne-eqb}
 use Rattle.lists.specs.Tab.{upto}
@@ -21,7 +21,7 @@ use Rattle.orders.specs.Chains.{exchange, follow, named}
 use Rattle.orders.proofs.Chains.{pick-named}
 use Rattle.flat.specs.Turn.{sides}
 use Rattle.refusals.specs.FirstOf.{firstOf}
-use Rattle.refusals.specs.Conditions.{some, outOfRange, badLength, tooManyWords, shortBuffer, shortScratch, longest}
+use Rattle.refusals.specs.Conditions.{outOfRange, badLength, tooManyWords, shortBuffer, shortScratch, longest}
 use Rattle.refusals.specs.Scratch.{need, cleared}
 use Rattle.refusals.proofs.FirstOf.{Silent, silent-zero}
 use Rattle.refusals.proofs.FirstOf.Silent.{none, more}

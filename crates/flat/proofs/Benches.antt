@@ -1,8 +1,7 @@
 -- The benches hold: one computed test over the table, turned into the rule at each row.
-use mathlib.Core.Path.{_≡_}
 use mathlib.Core.Bool.{Bool}
 use Rattle.lists.specs.Choose.{same}
-use Rattle.lists.proofs.Test.{every, at-entry, same→eq}
+use Rattle.lists.proofs.Test.{at-entry, same→eq}
 use Rattle.layout.specs.Layout.{laid, at, pick, coords, places, placeOf, volume}
 use Rattle.numbers.specs.Gcd.{gcdOf, euclid}
 use Rattle.orders.specs.Numbers.{orderOf, orders, arrangements}

@@ -1,19 +1,19 @@
 -- The three passes, one after the other, are the turn; and the computed passes are the passes. The word of row i′ and
 -- column j′ is followed to the cell at offset l = j′·m + i′ by the numbers of Sides.
-use mathlib.Core.Path.{_≡_, refl, sym, ap, ap₂, _∙_, subst}
-use mathlib.Core.List.{List, _++_}
-use Prim.Native.Nat.{ℕ, _+_, _*_, _-_, _/_, _%_, _<_, _≤_}
+use mathlib.Core.Path.{_≡_, sym, ap, ap₂, _∙_}
+use mathlib.Core.List.{List}
+use Prim.Native.Nat.{ℕ, _+_, _*_, _/_, _%_, _<_, _≤_}
 use native.Mathlib.Omega.{arith}
 use native.Mathlib.Nat.{mod-lt, div-add-mod', div-lt-iff-lt-mul, mul-comm}
 use lib.Arith.{digits-div, digits-mod, digits-lt}
-use lib.ListN.{length, getD, drop}
+use lib.ListN.{length, getD}
 use Rattle.lists.specs.Tab.{tab}
-use Rattle.lists.proofs.Tab.{length-tab, getD-tab, overlaid-front}
+use Rattle.lists.proofs.Tab.{length-tab, getD-tab, overlaid-front, overlaid-rest, overlaid-length}
 use Rattle.layout.specs.Layout.{placeOf}
 use Rattle.layout.proofs.Picks.{finds}
-use Rattle.flat.specs.Turn.{Turn}
+use Rattle.flat.specs.Turn.{Turn, turned}
 use Rattle.flat.specs.Passes.{word, row1, column2, row3, Pass1, Pass2, Pass3, cells, passed1, passed2, passed3}
-use Rattle.flat.proofs.Turn.{from-literal}
+use Rattle.flat.proofs.Turn.{from-literal, one-turn, turned-is}
 use Rattle.flat.proofs.Sides.{Sides, sides-are, row3-lt, column2-lt, row-back, column-there, columns-apart}
 
 -- the buffer's length and the words past the block are as they were
@@ -80,3 +80,25 @@ passed2-is m n xs i j hi hj =
     cell m n (λ i j. word n xs i (placeOf j (tab n (λ k. column2 m n i k)))) xs i (f j) hi (column2-lt m n i j (omega arith))
     ∙ ap (λ (z : ℕ). word n xs i z)
     (columns-apart s i (placeOf (f j) (tab n f)) j lt hj (sym (getD-tab n f (placeOf (f j) (tab n f)) 0 lt) ∙ found .1))
+
+-- the computed block keeps the buffer's length and what lies past the block
+cells-keep : (m n : ℕ) (f : ℕ → ℕ → ℕ) (xs : List ℕ) → m * n ≤ length xs → Kept m n xs (cells m n f xs)
+unfolding cells
+cells-keep m n f xs h = record {
+  same = overlaid-length (m * n) (λ p. f (p / n) (p % n)) xs h;
+  tail = overlaid-rest (m * n) (λ p. f (p / n) (p % n)) xs;
+}
+
+kept-on : {m n : ℕ} {xs ys zs : List ℕ} → Kept m n xs ys → Kept m n ys zs → Kept m n xs zs
+kept-on k l = record { same = l .same ∙ k .same; tail = λ p h. l .tail p h ∙ k .tail p h }
+
+-- the computed passes, one after the other, are the computed turn
+pub passed-turned : (m n : ℕ) (xs : List ℕ) → m * n ≤ length xs → passed3 m n (passed2 m n (passed1 m n xs)) ≡ turned m n xs
+unfolding passed1 passed2 passed3
+passed-turned m n xs h =
+    let ys = passed1 m n xs in
+    let zs = passed2 m n ys in
+    let k : Kept m n xs ys = cells-keep m n (λ i j. word n xs (row1 m n i j) j) xs h in
+    let l : Kept m n ys zs = cells-keep m n (λ i j. word n ys i (placeOf j (tab n (λ p. column2 m n i p)))) ys (rw (k .same) h) in
+    let o : Kept m n zs (passed3 m n zs) = cells-keep m n (λ i j. word n zs (row3 m n i j) j) zs (rw (l .same ∙ k .same) h) in
+    one-turn (passes-turn m n xs ys zs (passed3 m n zs) (kept-on (kept-on k l) o) (passed1-is m n xs) (passed2-is m n ys) (passed3-is m n zs)) (turned-is m n xs h)

@@ -2,8 +2,8 @@
 -- Assumes nothing: these are definitions.
 use mathlib.Core.Path.{_≡_}
 use mathlib.Core.List.{List, _++_}
-use Prim.Native.Nat.{ℕ, _+_, _*_, _-_, _/_, _%_, _<_, _≤_}
-use lib.ListN.{length, getD, drop}
+use Prim.Native.Nat.{ℕ, _+_, _*_, _-_, _/_, _%_, _<_}
+use lib.ListN.{getD, drop}
 use Rattle.lists.specs.Tab.{tab}
 use Rattle.layout.specs.Layout.{placeOf}
 use Rattle.numbers.specs.Gcd.{gcdOf}

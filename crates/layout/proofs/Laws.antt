@@ -1,14 +1,12 @@
 -- The laws of a layout, once over the number of axes: layouts compose, an order that is undone brings every word home,
 -- two outcomes of one layout are equal, and the computed layout is one.
-use mathlib.Core.Path.{_≡_, refl, sym, ap, ap₂, _∙_, subst}
-use mathlib.Core.List.{List, [], _∷_, _++_}
+use mathlib.Core.Path.{_≡_, sym, ap, _∙_, subst}
+use mathlib.Core.List.{List}
 use mathlib.Core.Logic.{⊎-elim}
-use Prim.Native.Nat.{ℕ, _+_, _*_, _<_, _≤_}
-use native.Mathlib.Omega.{arith}
+use Prim.Native.Nat.{ℕ, _<_, _≤_}
 use Rattle.lists.proofs.Decide.{lt-or-ge}
-use lib.ListN.{length, getD, drop}
+use lib.ListN.{length, getD}
 use lib.Seq.{ext-getD}
-use Rattle.lists.specs.Tab.{tab, upto}
 use Rattle.lists.proofs.Tab.{overlaid-front, overlaid-rest, overlaid-length}
 use Rattle.layout.specs.Layout.{volume, Within, at, pick, Laid, coords, places, laid}
 use Rattle.layout.proofs.Offsets.{within-length, at-lt, within-coords, at-coords, coords-at}

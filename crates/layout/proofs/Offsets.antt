@@ -1,8 +1,7 @@
 -- Offsets and coordinates correspond one to one below the volume. By induction on the lengths, each axis being one digit.
-use mathlib.Core.Path.{_≡_, refl, sym, ap, ap₂, _∙_, subst}
+use mathlib.Core.Path.{_≡_, refl, sym, ap, ap₂, _∙_}
 use mathlib.Core.List.{List, [], _∷_}
-use Prim.Native.Nat.{ℕ, zero, suc, _+_, _*_, _/_, _%_, _<_, _≤_, zero-le, suc-le-suc}
-use native.Mathlib.Omega.{arith}
+use Prim.Native.Nat.{ℕ, suc, _+_, _*_, _/_, _%_, _<_, zero-le, suc-le-suc}
 use native.Mathlib.Nat.{mod-lt, div-add-mod', div-lt-iff-lt-mul, mul-zero, eq-zero-or-pos, not-suc-le-zero}
 use mathlib.Core.Logic.{⊎-elim}
 use lib.ListN.{length}

@@ -1,13 +1,13 @@
 -- The laws of specs/Tab.antt: what a tabulated list holds, and when two are equal. By induction on the count.
-use mathlib.Core.Path.{_≡_, refl, sym, ap, _∙_}
+use mathlib.Core.Path.{_≡_, refl, ap, _∙_}
 use mathlib.Core.List.{List, [], _∷_, _++_, map}
 use Prim.Native.Nat.{ℕ, zero, suc, _+_, _-_, _<_, _≤_, zero-le, suc-le-suc}
 use native.Mathlib.Nat.{not-suc-le-zero, le-of-suc-le-suc}
 use native.Mathlib.Numerals.{add-one}
 use native.Mathlib.Omega.{arith}
 use lib.ListN.{length, getD, set, drop, List·getD-append, length-append, length-drop}
-use lib.Seq.{getD-append-add, getD-drop, ext-getD}
-use Rattle.lists.specs.Tab.{tab, upto}
+use lib.Seq.{getD-append-add, getD-drop}
+use Rattle.lists.specs.Tab.{tab}
 
 pub length-tab : (n : ℕ) (f : ℕ → ℕ) → length (tab n f) ≡ n
 length-tab zero f = refl

@@ -1,9 +1,9 @@
 -- What the calls' checks tell where none holds, and what the block's turn and the cleared scratch are then.
-use mathlib.Core.Path.{_≡_, refl, sym, ap, ap₂, _∙_, subst}
+use mathlib.Core.Path.{_≡_, sym, ap, _∙_}
 use mathlib.Core.List.{List, [], _∷_, _++_}
 use Prim.Native.Nat.{ℕ, _+_, _*_, _-_, _/_, _%_, _<_, _≤_}
 use native.Mathlib.Omega.{arith}
-use native.Mathlib.Nat.{le-trans, zero-add, one-mul}
+use native.Mathlib.Nat.{le-trans}
 use lib.ListN.{length, getD, drop, replicate, length-drop}
 use lib.Seq.{ext-getD, getD-drop}
 use lib.Arith.{digits-div, digits-mod, digits-lt}
@@ -15,7 +15,7 @@ use Rattle.refusals.proofs.Conditions.{Valid, InRange, valid, enough-scratch}
 use Rattle.refusals.proofs.Conditions.InRange.{none, more}
 use Rattle.flat.specs.Turn.{sides, Turn}
 use Rattle.flat.proofs.Turn.{volume-two, from-literal}
-use Rattle.passes.specs.Lines.{Moved, Lies, Past, TurnedAt}
+use Rattle.passes.specs.Lines.{Lies, Past, TurnedAt}
 use Rattle.passes.proofs.Fits.{side-need}
 
 -- sides and buffers of a flat call that is accepted

@@ -1,20 +1,19 @@
 -- Every line of a block that lies in the buffer fits: its words lie in the buffer, scratch holds it, and its pass pairs its
 -- places one to one (by the numbers of crate flat). And what a line leaves of scratch.
 use mathlib.Core.Path.{_≡_, refl, sym, ap, _∙_, subst}
-use mathlib.Core.List.{List, [], _∷_}
+use mathlib.Core.List.{List}
 use mathlib.Core.Logic.{⊎-elim}
 use Prim.Native.Nat.{ℕ, _+_, _*_, _-_, _<_, _≤_, max, zero-le}
 use native.Mathlib.Omega.{arith}
 use native.Mathlib.Nat.{mul-pos, le-max-left, le-max-right, max-le, le-trans, le-refl, le-antisymm}
-use lib.ListN.{length, getD}
+use lib.ListN.{length}
 use lib.Arith.{digits-lt}
 use Rattle.lists.proofs.Decide.{lt-or-ge}
 use Rattle.refusals.specs.Conditions.{longest}
 use Rattle.refusals.specs.Scratch.{need}
 use Rattle.flat.specs.Turn.{sides}
-use Rattle.flat.specs.Passes.{row1, column2, row3}
 use Rattle.flat.proofs.Sides.{sides-are, row1-lt, column2-lt, row3-lt, rows1-apart, columns-apart, rows3-apart}
-use Rattle.passes.specs.Lines.{column, row, lineAt, posOn, paired, Fits, Lies, Past}
+use Rattle.passes.specs.Lines.{column, row, lineAt, paired, Fits, Lies, Past}
 use Rattle.passes.specs.declared.line.Line.{Line}
 use Rattle.passes.proofs.Strided.{line1, line2, line3, column-at, row-at}
 

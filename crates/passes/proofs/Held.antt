@@ -1,10 +1,9 @@
 -- A line that scratch holds and that goes back to the buffer has moved; and which of gather and scatter a pass wants.
-use mathlib.Core.Path.{_≡_, refl, sym, ap, _∙_, subst}
+use mathlib.Core.Path.{_≡_, sym, _∙_, subst}
 use mathlib.Core.Bool.{Bool, true, false}
 use mathlib.Core.List.{List}
-use Prim.Native.Nat.{ℕ, _<_, _≤_}
+use Prim.Native.Nat.{ℕ, _<_}
 use lib.Dec.{eqb}
-use lib.ListN.{length, getD}
 use Rattle.lists.specs.Choose.{choose}
 use Rattle.passes.specs.Lines.{Moved, Held, Returned, Fits, Past, posOn, paired, toPlace, fromPlace}
 use Rattle.passes.specs.declared.line.Line.{Line}

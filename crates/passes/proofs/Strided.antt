@@ -1,25 +1,22 @@
 -- The lines of a block turn it where it lies: the lines of each pass are a family, so the passes of the block are passes in
 -- the sense of crate flat, and those are the turn.
-use mathlib.Core.Path.{_≡_, refl, sym, ap, ap₂, _∙_, subst, subst₂}
+use mathlib.Core.Path.{_≡_, refl, sym, ap, _∙_, subst, subst₂}
 use mathlib.Core.Bool.{Bool, true, false}
 use mathlib.Core.List.{List}
-use mathlib.Core.Logic.{⊎-elim}
-use Prim.Native.Nat.{ℕ, suc, _+_, _*_, _-_, _/_, _%_, _<_, _≤_}
+use Prim.Native.Nat.{ℕ, _+_, _*_, _/_, _%_, _<_, _≤_}
 use native.Mathlib.Omega.{arith}
 use native.Mathlib.Nat.{mul-comm, mul-assoc, mul-add, eq-of-mul-eq-mul-left, mod-lt, div-add-mod', div-lt-iff-lt-mul, div-one, div-eq-of-lt, add-zero, mod-eq-of-lt}
-use lib.Dec.{ltb, eqb}
+use lib.Dec.{ltb}
 use lib.ListN.{length, getD}
 use lib.Arith.{digits-div, digits-mod, digits-lt}
 use borrow.Author.Tests.{lt-ltb, le-ltb, ltb-false}
-use Rattle.lists.specs.Choose.{choose}
-use Rattle.lists.proofs.Decide.{lt-or-ge}
 use Rattle.numbers.specs.Gcd.{gcdOf}
 use Rattle.flat.specs.Passes.{row1, column2, row3, Pass1, Pass2, Pass3}
-use Rattle.flat.proofs.Sides.{Sides, sides-are, row1-lt, column2-lt, row3-lt, rows1-apart, columns-apart, rows3-apart}
+use Rattle.flat.proofs.Sides.{Sides, sides-are, row1-lt, column2-lt, row3-lt}
 use Rattle.flat.proofs.Passes.{followed}
-use Rattle.passes.specs.Lines.{Moved, paired, column, row, lineAt, skipped, posOn, toPlace, fromPlace, LineMoved, Fits, Lies, TurnedAt}
+use Rattle.passes.specs.Lines.{Moved, column, row, lineAt, skipped, posOn, LineMoved, TurnedAt}
 use Rattle.passes.specs.declared.line.Line.{Line}
-use Rattle.passes.proofs.Family.{Family, Some}
+use Rattle.passes.proofs.Family.{Family}
 use Rattle.passes.proofs.Ran.{Ran, cut, ran-some}
 use Rattle.passes.proofs.Ran.Ran.{done, more}
 

@@ -2,7 +2,7 @@
 -- in the middle.
 use mathlib.Core.Path.{_≡_, refl, sym, ap, ap₂, _∙_, subst}
 use mathlib.Core.List.{List, [], _∷_}
-use Prim.Native.Nat.{ℕ, _+_, _*_, _-_, _/_, _%_, _<_, _≤_}
+use Prim.Native.Nat.{ℕ, _+_, _*_, _/_, _%_, _<_, _≤_}
 use native.Mathlib.Omega.{arith}
 use native.Mathlib.Nat.{mul-comm, mul-assoc, mul-add, add-mul, mul-one, mod-lt, div-add-mod', div-lt-iff-lt-mul, pos-of-ne-zero, le-trans, le-mul-of-pos-right, mul-pos}
 use lib.ListN.{length, getD}

@@ -1,5 +1,5 @@
 -- What a condition that does not hold tells: lengths in range, enough words, enough scratch.
-use mathlib.Core.Path.{_≡_, refl, sym, ap, _∙_}
+use mathlib.Core.Path.{_≡_, refl}
 use mathlib.Core.Bool.{Bool, true, false}
 use mathlib.Core.List.{List, [], _∷_}
 use Prim.Native.Nat.{ℕ, _<_, _≤_}
@@ -11,7 +11,7 @@ use borrow.Author.Tests.{ltb-false, eqb-false}
 use Rattle.lists.specs.Choose.{choose, either}
 use Rattle.layout.specs.Layout.{volume}
 use Rattle.refusals.specs.FirstOf.{Check, check, firstOf}
-use Rattle.refusals.specs.Conditions.{some, outOfRange, badLength, tooManyWords, shortBuffer, shortScratch}
+use Rattle.refusals.specs.Conditions.{outOfRange, badLength, tooManyWords, shortBuffer, shortScratch}
 
 pub either-false : (a b : Bool) → either a b ≡ false → (a ≡ false) × (b ≡ false)
 either-false true b e = let z : _≡_ {A = ℕ} 0 1 = cc in absurd (omega arith)

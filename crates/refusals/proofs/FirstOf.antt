@@ -1,13 +1,12 @@
 -- The laws of `firstOf`: it is 0 exactly when no condition holds, and k exactly when k's condition holds and none before
 -- it does. By induction on the list of checks; numbers of checks are not 0.
-use mathlib.Core.Path.{_≡_, refl, sym, ap, _∙_, subst}
+use mathlib.Core.Path.{_≡_, refl}
 use mathlib.Core.Bool.{Bool, true, false}
-use mathlib.Core.List.{List, [], _∷_, _++_}
+use mathlib.Core.List.{List, [], _∷_}
 use mathlib.Core.Logic.{_↔_}
 use Prim.Native.Nat.{ℕ, _<_}
 use native.Mathlib.Omega.{arith}
-use Rattle.lists.specs.Choose.{choose}
-use Rattle.refusals.specs.FirstOf.{Check, check, firstOf}
+use Rattle.refusals.specs.FirstOf.{Check, firstOf}
 
 -- every number of the list is one that refuses
 pub data Refusing : List Check → Type 0 where

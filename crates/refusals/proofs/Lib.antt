@@ -1,3 +1,4 @@
 pub mod FirstOf
 pub mod Promise
 pub mod Conditions
+pub mod Calls

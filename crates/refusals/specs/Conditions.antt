@@ -1,7 +1,7 @@
 -- The condition of each number. Assumes nothing: these are definitions.
-use mathlib.Core.Bool.{Bool, true, false}
+use mathlib.Core.Bool.{Bool, false}
 use mathlib.Core.List.{List, [], _∷_}
-use Prim.Native.Nat.{ℕ, max}
+use Prim.Native.Nat.{ℕ, suc, max}
 use lib.Dec.{ltb, eqb}
 use lib.ListN.{length}
 use Rattle.lists.specs.Choose.{choose, either}
@@ -54,7 +54,7 @@ badSwap chain = some noSwap chain
 -- the place of the first entry at which the test holds, from 0; the count of entries where there is none
 unfoldable pub firstPlace : (ℕ → Bool) → List ℕ → ℕ
 firstPlace f [] = 0
-firstPlace f (x ∷ xs) = choose (f x) 0 (ℕ.suc (firstPlace f xs))
+firstPlace f (x ∷ xs) = choose (f x) 0 (suc (firstPlace f xs))
 
 -- 7: the order number is above 23
 abbrev pub noOrder : ℕ → Bool

@@ -1,5 +1,5 @@
 -- Scratch. Assumes nothing: these are definitions.
-use mathlib.Core.List.{List, [], _∷_, _++_}
+use mathlib.Core.List.{List, _++_}
 use Prim.Native.Nat.{ℕ}
 use lib.ListN.{drop, replicate}
 use Rattle.refusals.specs.Conditions.{longest}

@@ -13,7 +13,7 @@ use Rattle.refusals.specs.Conditions.{badLength}
 use Rattle.text.specs.Sheet.{resultText}
 use Rattle.sheet.specs.declared.Written.{Written}
 use Rattle.sheet.specs.Put.{Room, Put}
-use Rattle.sheet.specs.Writer.{writerNumber, written, writtenTo, WrittenAs}
+use Rattle.sheet.specs.Writer.{nothingWritten, writerNumber, written, writtenTo, WrittenAs}
 
 module _ (ds : List ℕ) (order : ℕ) (words out : List ℕ) where
   pub number-1 : badLength ds ≡ true → writerNumber ds order words out ≡ 1
@@ -53,8 +53,9 @@ module _ (ds : List ℕ) (order : ℕ) (words out : List ℕ) where
               )
 
   -- refused with a number that is not 0
-  pub write-refused : (k : ℕ) → eqb k 0 ≡ false → writerNumber ds order words out ≡ k → WrittenAs ds order words out (record { number = k; count = 0 }) out
-  write-refused k z e = record { answers = rw (e, z); bytes = rw (e, z) }
+  pub write-refused : (k : ℕ) {answered : Written} → eqb k 0 ≡ false → answered ≡ nothingWritten k → writerNumber ds order words out ≡ k
+      → WrittenAs ds order words out answered out
+  write-refused k z a e = record { answers = a ∙ rw (e, z); bytes = rw (e, z) }
 
   -- accepted, and the text put at the start
   pub write-accepted : (next : ℕ) {out′ : List ℕ} → writerNumber ds order words out ≡ 0 → length (resultText ds order words) ≤ length out

@@ -27,6 +27,10 @@ writerChecks ds order words out =
 abbrev pub writerNumber : List ℕ → ℕ → List ℕ → List ℕ → ℕ
 writerNumber ds order words out = firstOf (writerChecks ds order words out)
 
+-- a refusal's count is 0
+abbrev pub nothingWritten : ℕ → Written
+nothingWritten number = record { number = number; count = 0 }
+
 -- the number, and the count of bytes written, 0 where it refuses
 abbrev pub written : ℕ → List ℕ → Written
 written number text = record { number = number; count = choose (eqb number 0) (length text) 0 }

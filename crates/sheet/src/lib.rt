@@ -11,7 +11,7 @@ ghost use mathlib.Core.Path.{_≡_};
 ghost use lib.ListN.{length};
 ghost use Rattle.text.specs.Sheet.{resultText};
 ghost use Rattle.sheet.specs.Reader.{ReadAs, refusal};
-ghost use Rattle.sheet.specs.Writer.{Measured, WrittenAs};
+ghost use Rattle.sheet.specs.Writer.{Measured, nothingWritten, WrittenAs};
 
 // What a sheet says: its number and place, its lengths, its swaps (unused ones 0) and how many they are.
 pub struct Sheet {
@@ -72,6 +72,13 @@ pub struct Written {
     pub count: usize,
 }
 
+// The answer where the writer refuses.
+fn nothing_written(number: u32) -> Written
+    ensures { λ r. ⌜ r ≡ nothingWritten number ⌝ }
+{
+    Written { number, count: 0 }
+}
+
 // How many bytes the result sheet has: `size` words in `rows` rows.
 fn result_len(lens: [usize; 4], order: usize, words: &[u32], size: usize, rows: usize) -> usize
     requires { ⌜ Measured lens order (now words) size rows ⌝ }
@@ -86,37 +93,22 @@ pub fn write(lens: [usize; 4], order: usize, words: &[u32], out: &mut [u8]) -> W
     ensures { λ r. ⌜ WrittenAs lens order (now (words .entry)) (now (out .entry)) r (now (out .exit)) ⌝ }
 {
     if check::bad_length(lens) {
-        return Written {
-            number: 1,
-            count: 0,
-        };
+        return nothing_written(1);
     }
     let size = check::volume_of(lens);
     if 1024 < size {
-        return Written {
-            number: 11,
-            count: 0,
-        };
+        return nothing_written(11);
     }
     if words.len() < size {
-        return Written {
-            number: 3,
-            count: 0,
-        };
+        return nothing_written(3);
     }
     if 23 < order {
-        return Written {
-            number: 7,
-            count: 0,
-        };
+        return nothing_written(7);
     }
     let rows = check::row_count(lens);
     let need = result_len(lens, order, words, size, rows);
     if out.len() < need {
-        return Written {
-            number: 24,
-            count: 0,
-        };
+        return nothing_written(24);
     }
     let second = page::put_shape(out, 0, lens);
     let third = page::put_order(out, second, order);

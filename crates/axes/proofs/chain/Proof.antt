@@ -1,20 +1,13 @@
 -- `axes::chain` meets its promise: a refusal changes nothing, and what is accepted runs.
-use mathlib.Core.Path.{_≡_, refl, sym, ap, _∙_}
+use mathlib.Core.Path.{_≡_, sym, _∙_}
 use native.Mathlib.Omega.{arith}
 use denote.Ref.{now}
 use borrow.Author.Tests.{ne-eqb}
-use Rattle.refusals.specs.Conditions.{noSwap, firstPlace}
-use Rattle.axes.specs.Answers.{refused, refusedPlace}
+use Rattle.axes.specs.Answers.{refusedPlace}
 use Rattle.axes.proofs.Calls.{chain-refused}
 use borrow.Author.Needs.{needs}
 use Rattle.axes.proofs.chain.Statement.{statement}
 use Rattle.axes.proofs.chain.Tie as tie
-use Rattle.axes.proofs.chain.Reads as reads
-use Rattle.axes.proofs.chain.Lts as lts
-use Rattle.axes.proofs.chains.chain_number.Reads as chain-number-reads
-use Rattle.axes.proofs.chains.first_bad.Reads as first-bad-reads
-use Rattle.axes.proofs.chains.run.Reads as run-reads
-use Rattle.axes.proofs.refusal.Reads as refusal-reads
 
 chain-number-requires : tie.Need-chain-number-requires
 chain-number-requires c κs = tt

@@ -1,9 +1,8 @@
 -- `axes::plan` meets its promise: its tests are the checks 7 and 8, and the swaps computed are the plan's. That 8 is never given is what
 -- `falling-4` says.
 use mathlib.Core.Path.{_≡_, refl, sym, ap, ap₂, _∙_}
-use mathlib.Core.Bool.{Bool, true, false}
 use mathlib.Core.List.{List, _++_}
-use Prim.Native.Nat.{ℕ, _-_, _<_, _≤_}
+use Prim.Native.Nat.{ℕ, _-_, _≤_}
 use native.Mathlib.Omega.{arith}
 use lib.ListN.{length, replicate}
 use borrow.Author.Tests.{lt-ltb, le-ltb}
@@ -11,18 +10,12 @@ use Rattle.orders.specs.Numbers.{orderOf}
 use Rattle.orders.specs.Plans.{falling, planned, planOf}
 use Rattle.orders.proofs.Plans.{length-plan}
 use Rattle.orders.proofs.FourAxes.{falling-4}
-use Rattle.refusals.specs.Conditions.{noOrder, longPlan}
 use Rattle.refusals.specs.Calls.{planChecks}
 use Rattle.refusals.proofs.FirstOf.{First, Silent, first-is, silent-zero}
 use Rattle.axes.specs.declared.Planned.{Planned}
 use borrow.Author.Needs.{needs}
 use Rattle.axes.proofs.plan.Statement.{statement}
 use Rattle.axes.proofs.plan.Tie as tie
-use Rattle.axes.proofs.plan.Reads as reads
-use Rattle.axes.proofs.plan.Lts as lts
-use Rattle.axes.proofs.plans.Order.falling_pairs.Reads as falling-pairs-reads
-use Rattle.axes.proofs.plans.Order.planned_swaps.Reads as planned-swaps-reads
-use Rattle.axes.proofs.tables.order_of.Reads as order-of-reads
 
 returns : tie.Need-returns
 returns c =

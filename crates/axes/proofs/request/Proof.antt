@@ -1,5 +1,5 @@
 -- `axes::request` meets its promise: a refusal changes nothing, and the plan of the order runs.
-use mathlib.Core.Path.{_≡_, refl, sym, ap, _∙_}
+use mathlib.Core.Path.{refl, sym, _∙_}
 use denote.Ref.{now}
 use Rattle.refusals.specs.Calls.{passesChecks, planChecks}
 use Rattle.axes.proofs.Checks.{sound, silent-block, accepted-so-far, refused-first}
@@ -7,12 +7,6 @@ use Rattle.axes.proofs.Calls.{request-refused, plan-holds, plan-count, 
 use borrow.Author.Needs.{needs}
 use Rattle.axes.proofs.request.Statement.{statement}
 use Rattle.axes.proofs.request.Tie as tie
-use Rattle.axes.proofs.request.Reads as reads
-use Rattle.axes.proofs.request.Lts as lts
-use Rattle.axes.proofs.block.block_number.Reads as block-number-reads
-use Rattle.axes.proofs.chains.run.Reads as run-reads
-use Rattle.axes.proofs.plan.Reads as plan-reads
-use Rattle.axes.proofs.refusal.Reads as refusal-reads
 
 block-number-requires : tie.Need-block-number-requires
 block-number-requires c κs = tt

@@ -1,6 +1,5 @@
 -- `swap` meets its contract: refused by its checks, or every block is turned and scratch cleared.
-use mathlib.Core.Path.{_≡_, refl, sym, ap, _∙_}
-use Prim.Native.Nat.{ℕ, _<_, _≤_}
+use mathlib.Core.Path.{sym, _∙_}
 use native.Mathlib.Omega.{arith}
 use Rattle.refusals.proofs.Promise.{refused, accepted}
 use Rattle.passes.proofs.Accepted.{cleared-past}
@@ -8,37 +7,25 @@ use Rattle.passes.proofs.Swaps.{swap-accepted}
 use borrow.Author.Needs.{needs}
 use Rattle.passes.proofs.swap.Statement.{statement}
 use Rattle.passes.proofs.swap.Tie as tie
-use Rattle.passes.proofs.swap.Reads as reads
-use Rattle.passes.proofs.swap.Lts as lts
-use Rattle.passes.proofs.block.sides_of.Reads as sides-of-reads
-use Rattle.passes.proofs.block.turn_all.Reads as turn-all-reads
-use Rattle.passes.proofs.adjacent.number.Reads as number-reads
-use Rattle.passes.proofs.scratch.clear_longest.Reads as clear-longest-reads
 
--- src/lib.rt:49:9
 number-requires : tie.Need-number-requires
 number-requires c κs = search needs
 
--- src/lib.rt:51:9
 same-length : tie.Need-same-length
 same-length c = search needs
 
--- src/lib.rt:51:9
 same-length-2 : tie.Need-same-length-2
 same-length-2 c = search needs
 
--- src/lib.rt:51:9
 returns : tie.Need-returns
 returns c = refused (c .before .number .ensures) (c .if1 .taken)
 
--- src/lib.rt:53:9
 sides-of-requires : tie.Need-sides-of-requires
 sides-of-requires c κs =
     let x = c .before .before .before .before .before .before in
     let a = swap-accepted (x .args .outer) (x .args .m) (x .args .n) (x .args .chunk) (x .args .buf .now) (x .args .scratch .now) (c .before .number .ensures) (omega (arith, c .if1 .left)) in
     (a .0 .m-pos, a .0 .n-pos, a .0 .m-few, a .0 .n-few)
 
--- src/lib.rt:54:5
 turn-all-requires : tie.Need-turn-all-requires
 turn-all-requires c κs =
     let x = c .before .before .before .before .before .before .before .before .before in
@@ -46,22 +33,18 @@ turn-all-requires c κs =
     let s = c .before .before .sides-of .ensures in
     (s .2, rw (s .0, s .1) (a .1))
 
--- src/lib.rt:55:5
 clear-longest-requires : tie.Need-clear-longest-requires
 clear-longest-requires c κs =
     let x = c .before .before .before .before .before .before .before .before .before .before .before .before .before .before .before in
     let a = swap-accepted (x .args .outer) (x .args .m) (x .args .n) (x .args .chunk) (x .args .buf .now) (x .args .scratch .now) (c .before .before .before .before .before .before .before .before .before .before .number .ensures) (omega (arith, c .before .before .before .before .before .before .before .before .before .if1 .left)) in
     rw (c .before .before .before .before .before .turn-all .ensures .1 .same) (a .1 .room)
 
--- src/lib.rt:39:1
 same-length-3 : tie.Need-same-length-3
 same-length-3 c = search needs
 
--- src/lib.rt:39:1
 same-length-4 : tie.Need-same-length-4
 same-length-4 c = search needs
 
--- src/lib.rt:39:1
 returns-2 : tie.Need-returns-2
 returns-2 c =
     let x = c .before .before .before .before .before .before .before .before .before .before .before .before .before .before .before .before .before .before in

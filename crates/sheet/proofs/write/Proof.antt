@@ -61,32 +61,48 @@ all c =
 bad-length-requires : tie.Need-bad-length-requires
 bad-length-requires c κs = search needs
 
+nothing-written-requires : tie.Need-nothing-written-requires
+nothing-written-requires c κs = search needs
+
 returns : tie.Need-returns
 returns c =
-    let a = c .before .before .before .before .args in
-    write-refused (a .t1) (a .order) (a .words .now) (a .out .now) 1 refl
-    (number-1 (a .t1) (a .order) (a .words .now) (a .out .now) (sym (c .before .bad-length .ensures) ∙ c .if1 .taken))
+    let d = c .before in
+    let a = d .before .before .before .before .args in
+    write-refused (a .t1) (a .order) (a .words .now) (a .out .now) 1 refl (c .nothing-written .ensures)
+    (number-1 (a .t1) (a .order) (a .words .now) (a .out .now) (sym (d .before .bad-length .ensures) ∙ d .if1 .taken))
 
 volume-of-requires : tie.Need-volume-of-requires
 volume-of-requires c κs = good c
 
+nothing-written-requires-2 : tie.Need-nothing-written-requires-2
+nothing-written-requires-2 c κs = search needs
+
 returns-2 : tie.Need-returns-2
 returns-2 c =
-    let a = c .before .before .before .before .before .before .args in
-    write-refused (a .t1) (a .order) (a .words .now) (a .out .now) 11 refl
-    (number-11 (a .t1) (a .order) (a .words .now) (a .out .now) (good (c .before .before)) (omega (arith, c .before .volume-of .ensures, c .if2 .taken)))
+    let d = c .before in
+    let a = d .before .before .before .before .before .before .args in
+    write-refused (a .t1) (a .order) (a .words .now) (a .out .now) 11 refl (c .nothing-written2 .ensures)
+    (number-11 (a .t1) (a .order) (a .words .now) (a .out .now) (good (d .before .before)) (omega (arith, d .before .volume-of .ensures, d .if2 .taken)))
+
+nothing-written-requires-3 : tie.Need-nothing-written-requires-3
+nothing-written-requires-3 c κs = search needs
 
 returns-3 : tie.Need-returns-3
 returns-3 c =
-    let a = c .before .before .before .before .before .before .before .args in
-    write-refused (a .t1) (a .order) (a .words .now) (a .out .now) 3 refl
-    (number-3 (a .t1) (a .order) (a .words .now) (a .out .now) (good (c .before .before .before)) (few (c .before)) (omega (arith, c .before .before .volume-of .ensures, c .if3 .taken)))
+    let d = c .before in
+    let a = d .before .before .before .before .before .before .before .args in
+    write-refused (a .t1) (a .order) (a .words .now) (a .out .now) 3 refl (c .nothing-written3 .ensures)
+    (number-3 (a .t1) (a .order) (a .words .now) (a .out .now) (good (d .before .before .before)) (few (d .before)) (omega (arith, d .before .before .volume-of .ensures, d .if3 .taken)))
+
+nothing-written-requires-4 : tie.Need-nothing-written-requires-4
+nothing-written-requires-4 c κs = search needs
 
 returns-4 : tie.Need-returns-4
 returns-4 c =
-    let a = c .before .before .before .before .before .before .before .before .args in
-    write-refused (a .t1) (a .order) (a .words .now) (a .out .now) 7 refl
-    (number-7 (a .t1) (a .order) (a .words .now) (a .out .now) (good (c .before .before .before .before)) (few (c .before .before)) (enough (c .before)) (c .if4 .taken))
+    let d = c .before in
+    let a = d .before .before .before .before .before .before .before .before .args in
+    write-refused (a .t1) (a .order) (a .words .now) (a .out .now) 7 refl (c .nothing-written4 .ensures)
+    (number-7 (a .t1) (a .order) (a .words .now) (a .out .now) (good (d .before .before .before .before)) (few (d .before .before)) (enough (d .before)) (d .if4 .taken))
 
 row-count-requires : tie.Need-row-count-requires
 row-count-requires c κs = good (c .before .before .before .before)
@@ -103,11 +119,15 @@ result-len-requires c κs =
       counted = c .row-count .ensures;
     }
 
+nothing-written-requires-5 : tie.Need-nothing-written-requires-5
+nothing-written-requires-5 c κs = search needs
+
 returns-5 : tie.Need-returns-5
 returns-5 c =
-    let a = c .before .before .before .before .before .before .before .before .before .before .before .args in
-    write-refused (a .t1) (a .order) (a .words .now) (a .out .now) 24 refl
-    (number-24 (a .t1) (a .order) (a .words .now) (a .out .now) (good (c .before .before .before .before .before .before .before)) (few (c .before .before .before .before .before)) (enough (c .before .before .before .before)) (c .before .before .before .if4 .left) (omega (arith, c .before .result-len .ensures, c .if5 .taken)))
+    let d = c .before in
+    let a = d .before .before .before .before .before .before .before .before .before .before .before .args in
+    write-refused (a .t1) (a .order) (a .words .now) (a .out .now) 24 refl (c .nothing-written5 .ensures)
+    (number-24 (a .t1) (a .order) (a .words .now) (a .out .now) (good (d .before .before .before .before .before .before .before)) (few (d .before .before .before .before .before)) (enough (d .before .before .before .before)) (d .before .before .before .if4 .left) (omega (arith, d .before .result-len .ensures, d .if5 .taken)))
 
 put-shape-requires : tie.Need-put-shape-requires
 put-shape-requires c κs =
@@ -147,13 +167,18 @@ write-spec =
     tie.close
     (tie.spec
     bad-length-requires
+    nothing-written-requires
     returns
     volume-of-requires
+    nothing-written-requires-2
     returns-2
+    nothing-written-requires-3
     returns-3
+    nothing-written-requires-4
     returns-4
     row-count-requires
     result-len-requires
+    nothing-written-requires-5
     returns-5
     put-shape-requires
     put-order-requires

@@ -7,8 +7,6 @@ use Rattle.axes.proofs.Front.{held}
 use borrow.Author.Needs.{needs}
 use Rattle.axes.proofs.Shape.swapped.Statement.{statement}
 use Rattle.axes.proofs.Shape.swapped.Tie as tie
-use Rattle.axes.proofs.Shape.swapped.Reads as reads
-use Rattle.axes.proofs.Shape.swapped.Lts as lts
 
 returns : tie.Need-returns
 returns c =

@@ -1,5 +1,5 @@
 -- `axes::block::bad_length` meets its contract. The loop's invariant: no length passed is out of range, so the rest decides.
-use mathlib.Core.Path.{_≡_, refl, sym, ap, _∙_}
+use mathlib.Core.Path.{_≡_, sym, ap, _∙_}
 use Prim.Native.Nat.{_≤_, _-_}
 use native.Mathlib.Omega.{arith}
 use lib.ListN.{drop, length, getD}
@@ -9,8 +9,6 @@ use Rattle.axes.proofs.Front.{some-here, some-past, drop-end}
 use borrow.Author.Needs.{needs}
 use Rattle.axes.proofs.block.bad_length.Statement.{statement}
 use Rattle.axes.proofs.block.bad_length.Tie as tie
-use Rattle.axes.proofs.block.bad_length.Reads as reads
-use Rattle.axes.proofs.block.bad_length.Lts as lts
 
 abbrev Inv-loop : tie.InvT-loop
 Inv-loop lens k₀ k = (k ≤ 4) × (badLength lens ≡ badLength (drop k lens))

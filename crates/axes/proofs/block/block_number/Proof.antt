@@ -1,6 +1,6 @@
 -- `axes::block::block_number` meets its contract: its tests are the checks 1 to 4 in their order.
 use mathlib.Core.Path.{_≡_, refl, sym, ap, _∙_}
-use mathlib.Core.Bool.{Bool, true, false}
+use mathlib.Core.Bool.{true, false}
 use native.Mathlib.Omega.{arith}
 use denote.Ref.{now}
 use lib.ListN.{length}
@@ -15,11 +15,6 @@ use Rattle.axes.proofs.Ranges.{in-range}
 use borrow.Author.Needs.{needs}
 use Rattle.axes.proofs.block.block_number.Statement.{statement}
 use Rattle.axes.proofs.block.block_number.Tie as tie
-use Rattle.axes.proofs.block.block_number.Reads as reads
-use Rattle.axes.proofs.block.block_number.Lts as lts
-use Rattle.axes.proofs.block.bad_length.Reads as bad-length-reads
-use Rattle.axes.proofs.block.longest_axis.Reads as longest-axis-reads
-use Rattle.axes.proofs.block.product.Reads as product-reads
 
 bad-length-requires : tie.Need-bad-length-requires
 bad-length-requires c κs = search needs

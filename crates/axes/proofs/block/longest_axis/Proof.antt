@@ -1,16 +1,14 @@
 -- `axes::block::longest_axis` meets its contract. The loop's invariant: the longest so far and the longest of the rest give the longest.
-use mathlib.Core.Path.{_≡_, refl, sym, ap, _∙_}
+use mathlib.Core.Path.{_≡_, refl, ap, _∙_}
 use mathlib.Core.Logic.{⊎-elim}
-use Prim.Native.Nat.{ℕ, _≤_, _-_, max}
+use Prim.Native.Nat.{_≤_, _-_, max}
 use native.Mathlib.Omega.{arith}
-use lib.ListN.{drop, length, getD}
+use lib.ListN.{drop}
 use Rattle.refusals.specs.Conditions.{longest}
 use Rattle.axes.proofs.Front.{longest-front, drop-end}
 use borrow.Author.Needs.{needs}
 use Rattle.axes.proofs.block.longest_axis.Statement.{statement}
 use Rattle.axes.proofs.block.longest_axis.Tie as tie
-use Rattle.axes.proofs.block.longest_axis.Reads as reads
-use Rattle.axes.proofs.block.longest_axis.Lts as lts
 
 abbrev Inv-loop : tie.InvT-loop
 Inv-loop lens most₀ k₀ most k = (k ≤ 4) × (max most (longest (drop k lens)) ≡ longest lens)

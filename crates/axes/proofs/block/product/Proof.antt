@@ -4,15 +4,13 @@ use mathlib.Core.Path.{_≡_, refl, sym, ap, _∙_}
 use Prim.Native.Nat.{ℕ, _+_, _≤_, _-_, _*_, _^_}
 use native.Mathlib.Nat.{mul-le-mul, mul-assoc, mul-one, one-mul, one-le-pow, pow-suc, pow-le-pow-right}
 use native.Mathlib.Omega.{arith}
-use lib.ListN.{drop, length, getD}
+use lib.ListN.{getD}
 use lib.Seq.{slice, slice-empty}
 use Rattle.layout.specs.Layout.{volume}
 use Rattle.axes.proofs.Front.{volume-front}
 use borrow.Author.Needs.{needs}
 use Rattle.axes.proofs.block.product.Statement.{statement}
 use Rattle.axes.proofs.block.product.Tie as tie
-use Rattle.axes.proofs.block.product.Reads as reads
-use Rattle.axes.proofs.block.product.Lts as lts
 
 abbrev Inv-loop : tie.InvT-loop
 Inv-loop start end lens words₀ k₀ words k = (start ≤ k) × (k ≤ end) × (words ≤ 4096 ^ (k - start)) × (words * volume (slice k end lens) ≡ volume (slice start end lens))

@@ -1,6 +1,5 @@
 -- `axes::chains::chain_number` meets its contract: its tests are the checks 1 to 6 in their order.
-use mathlib.Core.Path.{_≡_, refl, sym, ap, _∙_}
-use mathlib.Core.Bool.{Bool, true, false}
+use mathlib.Core.Path.{refl, sym, _∙_}
 use mathlib.Core.List.{List, [], _∷_}
 use native.Mathlib.Omega.{arith}
 use denote.Ref.{now}
@@ -15,10 +14,6 @@ use Rattle.axes.proofs.Checks.{refused-first, accepted-so-far, sound, s
 use borrow.Author.Needs.{needs}
 use Rattle.axes.proofs.chains.chain_number.Statement.{statement}
 use Rattle.axes.proofs.chains.chain_number.Tie as tie
-use Rattle.axes.proofs.chains.chain_number.Reads as reads
-use Rattle.axes.proofs.chains.chain_number.Lts as lts
-use Rattle.axes.proofs.block.block_number.Reads as block-number-reads
-use Rattle.axes.proofs.chains.first_bad.Reads as first-bad-reads
 
 block-number-requires : tie.Need-block-number-requires
 block-number-requires c κs = search needs

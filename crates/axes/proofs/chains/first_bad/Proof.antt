@@ -1,6 +1,6 @@
 -- `axes::chains::first_bad` meets its contract. The loop's invariant: no swap passed is above 2.
-use mathlib.Core.Path.{_≡_, refl, sym, ap, _∙_}
-use Prim.Native.Nat.{ℕ, _+_, _≤_, _-_}
+use mathlib.Core.Path.{_≡_, refl, ap, _∙_}
+use Prim.Native.Nat.{_+_, _≤_, _-_}
 use native.Mathlib.Omega.{arith}
 use denote.Ref.{now}
 use lib.ListN.{drop, length, getD}
@@ -10,8 +10,6 @@ use Rattle.axes.proofs.Front.{first-here, first-past, drop-end}
 use borrow.Author.Needs.{needs}
 use Rattle.axes.proofs.chains.first_bad.Statement.{statement}
 use Rattle.axes.proofs.chains.first_bad.Tie as tie
-use Rattle.axes.proofs.chains.first_bad.Reads as reads
-use Rattle.axes.proofs.chains.first_bad.Lts as lts
 
 abbrev Inv-loop : tie.InvT-loop
 Inv-loop swaps i₀ i-end i = (i-end ≡ length swaps) × (i ≤ length swaps) × (firstPlace noSwap swaps ≡ i + firstPlace noSwap (drop i swaps))

@@ -1,13 +1,13 @@
 -- `axes::chains::run` meets its promise. The loop's invariant: i swaps of the chain are made.
-use mathlib.Core.Path.{_≡_, refl, sym, ap, _∙_}
-use Prim.Native.Nat.{ℕ, _+_, _<_, _≤_, _-_}
+use mathlib.Core.Path.{_≡_, refl, ap, _∙_}
+use Prim.Native.Nat.{_<_, _≤_, _-_}
 use native.Mathlib.Nat.{le-refl}
 use native.Mathlib.Omega.{arith}
 use borrow.Author.Tests.{ltb-false}
 use Rattle.refusals.specs.Conditions.{longest}
 use Rattle.axes.proofs.Steps.{cleared-length}
 use denote.Ref.{now}
-use lib.ListN.{length, take, drop, getD}
+use lib.ListN.{length, take}
 use Rattle.orders.proofs.FourAxes.{number-below-4}
 use Rattle.axes.proofs.Front.{held}
 use Rattle.axes.proofs.Ranges.{good-swap}
@@ -16,13 +16,6 @@ use Rattle.axes.proofs.Progress.{Progress, begin, still-sound, one-swap
 use borrow.Author.Needs.{needs}
 use Rattle.axes.proofs.chains.run.Statement.{statement}
 use Rattle.axes.proofs.chains.run.Tie as tie
-use Rattle.axes.proofs.chains.run.Reads as reads
-use Rattle.axes.proofs.chains.run.Lts as lts
-use Rattle.axes.proofs.Shape.swapped.Reads as swapped-reads
-use Rattle.axes.proofs.block.longest_axis.Reads as longest-axis-reads
-use Rattle.axes.proofs.chains.swap_at.Reads as swap-at-reads
-use Rattle.passes.proofs.clear.Reads as clear-reads
-use Rattle.axes.proofs.tables.next_order.Reads as next-order-reads
 
 abbrev Inv-loop : tie.InvT-loop
 Inv-loop buf₀ scratch₀ swaps lens stands₀ order₀ i₀ i-end buf scratch stands order i = (i-end ≡ length swaps) × (i ≤ length swaps) × Progress lens swaps buf₀ scratch₀ i buf scratch (stands .lens) order

@@ -1,5 +1,5 @@
 -- `axes::chains::swap_at` meets its contract: the axes before place k, the two axes and the axes after are a block for the adjacent swap.
-use mathlib.Core.Path.{_≡_, refl, sym, ap, _∙_}
+use mathlib.Core.Path.{_≡_}
 use native.Mathlib.Omega.{arith}
 use denote.Ref.{now}
 use lib.ListN.{length}
@@ -10,10 +10,6 @@ use Rattle.axes.proofs.Steps.{swap-leaves}
 use borrow.Author.Needs.{needs}
 use Rattle.axes.proofs.chains.swap_at.Statement.{statement}
 use Rattle.axes.proofs.chains.swap_at.Tie as tie
-use Rattle.axes.proofs.chains.swap_at.Reads as reads
-use Rattle.axes.proofs.chains.swap_at.Lts as lts
-use Rattle.axes.proofs.block.product.Reads as product-reads
-use Rattle.passes.proofs.swap.Reads as swap-reads
 
 product-requires : tie.Need-product-requires
 product-requires c κs =

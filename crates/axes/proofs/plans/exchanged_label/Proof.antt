@@ -1,14 +1,11 @@
 -- `axes::plans::exchanged_label` meets its contract: its tests are those of the definition.
-use mathlib.Core.Path.{_≡_, sym, ap, _∙_}
-use Prim.Native.Nat.{suc}
+use mathlib.Core.Path.{sym, ap, _∙_}
 use native.Mathlib.Numerals.{add-one}
 use Rattle.orders.specs.Plans.{relabelled}
 use Rattle.orders.proofs.Relabels.{relabel-low, relabel-high, relabel-other}
 use borrow.Author.Needs.{needs}
 use Rattle.axes.proofs.plans.exchanged_label.Statement.{statement}
 use Rattle.axes.proofs.plans.exchanged_label.Tie as tie
-use Rattle.axes.proofs.plans.exchanged_label.Reads as reads
-use Rattle.axes.proofs.plans.exchanged_label.Lts as lts
 
 add-result : tie.Need-add-result
 add-result c = search needs

@@ -1,5 +1,5 @@
 -- `axes::tables::next_order` meets its contract: the table has, for each of the orders, the numbers of what its three swaps make of it.
-use mathlib.Core.Path.{_≡_, ap, _∙_}
+use mathlib.Core.Path.{ap, _∙_}
 use mathlib.Core.List.{List}
 use Prim.Native.Nat.{ℕ}
 use lib.ListN.{getD}
@@ -12,8 +12,6 @@ use Rattle.axes.proofs.Rows.{row-at}
 use borrow.Author.Needs.{needs}
 use Rattle.axes.proofs.tables.next_order.Statement.{statement}
 use Rattle.axes.proofs.tables.next_order.Tie as tie
-use Rattle.axes.proofs.tables.next_order.Reads as reads
-use Rattle.axes.proofs.tables.next_order.Lts as lts
 
 mul-result : tie.Need-mul-result
 mul-result c = search needs

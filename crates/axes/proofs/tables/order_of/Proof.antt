@@ -4,8 +4,6 @@ use Rattle.orders.specs.Numbers.{orderOf, orders, arrangements}
 use borrow.Author.Needs.{needs}
 use Rattle.axes.proofs.tables.order_of.Statement.{statement}
 use Rattle.axes.proofs.tables.order_of.Tie as tie
-use Rattle.axes.proofs.tables.order_of.Reads as reads
-use Rattle.axes.proofs.tables.order_of.Lts as lts
 
 mul-axes : tie.Need-mul-axes
 mul-axes c = search needs

@@ -1,46 +1,33 @@
 -- `words_of` meets its contract: each factor is at most the whole product, so a factor that is too large is enough.
-use mathlib.Core.Path.{_≡_, refl, sym, ap, _∙_}
-use mathlib.Core.Bool.{false}
-use Prim.Native.Nat.{ℕ, _*_, _<_, _≤_}
+use Prim.Native.Nat.{_*_}
 use native.Mathlib.Nat.{mul-le-mul, mul-pos, le-mul-of-pos-right, lt-of-lt-of-le, le-trans, mul-comm}
 use native.Mathlib.Omega.{arith}
 use borrow.Author.Tests.{lt-ltb, le-ltb}
-use Rattle.passes.proofs.Swaps.{There, there, swap-volume, capped-over, capped-under}
-use borrow.Author.Needs.{needs}
+use Rattle.passes.proofs.Swaps.{there, swap-volume}
 use Rattle.passes.proofs.adjacent.words_of.Statement.{statement}
 use Rattle.passes.proofs.adjacent.words_of.Tie as tie
-use Rattle.passes.proofs.adjacent.words_of.Reads as reads
-use Rattle.passes.proofs.adjacent.words_of.Lts as lts
 
--- src/checks.rt:70:9
 returns : tie.Need-returns
 returns c = let x = c .before in let h = there (x .args .outer) (x .args .m) (x .args .n) (x .args .chunk) (x .pre) in rw (swap-volume (x .args .outer) (x .args .m) (x .args .n) (x .args .chunk), lt-ltb 1048576 _ (lt-of-lt-of-le (c .if1 .taken) (le-trans (le-mul-of-pos-right (x .args .outer) (h .chunk-pos)) (le-mul-of-pos-right (x .args .outer * x .args .chunk) (mul-pos (h .m-pos) (h .n-pos))))))
 
--- src/checks.rt:73:9
 returns-2 : tie.Need-returns-2
 returns-2 c = let x = c .before .before in let h = there (x .args .outer) (x .args .m) (x .args .n) (x .args .chunk) (x .pre) in rw (swap-volume (x .args .outer) (x .args .m) (x .args .n) (x .args .chunk), lt-ltb 1048576 _ (lt-of-lt-of-le (c .if2 .taken) (le-trans (rw (mul-comm (x .args .outer) (x .args .chunk)) (le-mul-of-pos-right (x .args .chunk) (h .outer-pos))) (le-mul-of-pos-right (x .args .outer * x .args .chunk) (mul-pos (h .m-pos) (h .n-pos))))))
 
--- src/checks.rt:75:18
 mul-around : tie.Need-mul-around
 mul-around c = omega (arith, mul-le-mul (c .before .if1 .left) (c .if2 .left))
 
--- src/checks.rt:77:9
 returns-3 : tie.Need-returns-3
 returns-3 c = let x = c .before .before .before in let h = there (x .args .outer) (x .args .m) (x .args .n) (x .args .chunk) (x .pre) in rw (swap-volume (x .args .outer) (x .args .m) (x .args .n) (x .args .chunk), lt-ltb 1048576 _ (lt-of-lt-of-le (c .if3 .taken) (le-mul-of-pos-right (x .args .outer * x .args .chunk) (mul-pos (h .m-pos) (h .n-pos)))))
 
--- src/checks.rt:79:27
 mul-words : tie.Need-mul-words
 mul-words c = let x = c .before .before .before in let h = there (x .args .outer) (x .args .m) (x .args .n) (x .args .chunk) (x .pre) in omega (arith, mul-le-mul (h .m-few) (h .n-few))
 
--- src/checks.rt:79:17
 mul-words-2 : tie.Need-mul-words-2
 mul-words-2 c = let x = c .before .before .before in let h = there (x .args .outer) (x .args .m) (x .args .n) (x .args .chunk) (x .pre) in omega (arith, mul-le-mul (c .if3 .left) (mul-le-mul (h .m-few) (h .n-few)))
 
--- src/checks.rt:81:9
 returns-4 : tie.Need-returns-4
 returns-4 c = let x = c .before .before .before .before in let h = there (x .args .outer) (x .args .m) (x .args .n) (x .args .chunk) (x .pre) in rw (swap-volume (x .args .outer) (x .args .m) (x .args .n) (x .args .chunk), lt-ltb 1048576 _ (c .if4 .taken))
 
--- src/checks.rt:65:1
 returns-5 : tie.Need-returns-5
 returns-5 c = let x = c .before .before .before .before in let h = there (x .args .outer) (x .args .m) (x .args .n) (x .args .chunk) (x .pre) in rw (swap-volume (x .args .outer) (x .args .m) (x .args .n) (x .args .chunk), le-ltb 1048576 _ (c .if4 .left))
 

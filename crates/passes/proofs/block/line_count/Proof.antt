@@ -4,22 +4,16 @@ use borrow.Author.Needs.{needs}
 use Rattle.passes.proofs.Strided.{skipped-le}
 use Rattle.passes.proofs.block.line_count.Statement.{statement}
 use Rattle.passes.proofs.block.line_count.Tie as tie
-use Rattle.passes.proofs.block.line_count.Reads as reads
-use Rattle.passes.proofs.block.line_count.Lts as lts
 
--- src/block.rt:31:5
 add-result : tie.Need-add-result
 add-result c = search needs
 
--- src/block.rt:31:5
 add-result-2 : tie.Need-add-result-2
 add-result-2 c = search needs
 
--- src/block.rt:31:5
 sub-result : tie.Need-sub-result
 sub-result c = let x = c .before .before .before in omega (arith, x .pre .skipped-is, skipped-le (x .args .s .m) (x .args .s .n))
 
--- src/block.rt:27:1
 returns : tie.Need-returns
 returns c = search needs
 

@@ -1,6 +1,5 @@
 -- `line_of` meets its contract: the three passes by their line numbers; sides of at most 4,096 keep every product small.
-use mathlib.Core.Path.{_≡_, refl, sym, ap, _∙_}
-use Prim.Native.Nat.{ℕ, _+_, _*_, _-_, _<_, _≤_}
+use Prim.Native.Nat.{ℕ, _+_, _*_, _-_, _≤_}
 use native.Mathlib.Nat.{mul-le-mul}
 use native.Mathlib.Omega.{arith}
 use borrow.Author.Tests.{lt-ltb, le-ltb}
@@ -8,8 +7,6 @@ use Rattle.passes.specs.Lines.{lineAt, skipped}
 use borrow.Author.Needs.{needs}
 use Rattle.passes.proofs.block.line_of.Statement.{statement}
 use Rattle.passes.proofs.block.line_of.Tie as tie
-use Rattle.passes.proofs.block.line_of.Reads as reads
-use Rattle.passes.proofs.block.line_of.Lts as lts
 
 -- a number of words times a side, and times a place of the block
 small : {u : ℕ} (k : ℕ) → u ≤ 1048576 → k ≤ 4096 → u * k ≤ 4294967296
@@ -18,69 +15,53 @@ small k h d = mul-le-mul h d
 large : {u n : ℕ} (i : ℕ) → u ≤ 1048576 → i ≤ 4096 → n ≤ 4096 → u * (i * n) ≤ 17592186044416
 large i h d e = mul-le-mul h (mul-le-mul d e)
 
--- src/block.rt:33:13
 add-t : tie.Need-add-t
 add-t c = search needs
 
--- src/block.rt:35:56
 mul-t11 : tie.Need-mul-t11
 mul-t11 c = let x = c .before .before in omega (arith, small (x .args .s .skipped + x .args .l) (x .pre .2) (omega (arith, c .if1 .taken, x .pre .0 .n-few)))
 
--- src/block.rt:35:49
 add-t12 : tie.Need-add-t12
 add-t12 c = let x = c .before .before in omega (arith, small (x .args .s .skipped + x .args .l) (x .pre .2) (omega (arith, c .if1 .taken, x .pre .0 .n-few)))
 
--- src/block.rt:35:75
 mul-t13 : tie.Need-mul-t13
 mul-t13 c = let x = c .before .before in omega (arith, small (x .args .s .n) (x .pre .2) (x .pre .0 .n-few))
 
--- src/block.rt:35:9
 returns : tie.Need-returns
 unfolding lineAt
 returns c = let x = c .before .before in rw (← x .pre .0 .skipped-is) (rw (lt-ltb _ _ (c .if1 .taken)))
 
--- src/block.rt:37:12
 add-if2 : tie.Need-add-if2
 add-if2 c = search needs
 
--- src/block.rt:39:65
 mul-t15 : tie.Need-mul-t15
 mul-t15 c = let x = c .before .before .before in omega (arith, mul-le-mul {n₁ = x .args .s .skipped + x .args .l - x .args .s .n} {n₂ = 4096} (omega (arith, c .if2 .taken, x .pre .0 .m-few)) (x .pre .0 .n-few))
 
--- src/block.rt:39:56
 mul-t16 : tie.Need-mul-t16
 mul-t16 c = let x = c .before .before .before in omega (arith, large (x .args .s .skipped + x .args .l - x .args .s .n) (x .pre .2) (omega (arith, c .if2 .taken, x .pre .0 .m-few)) (x .pre .0 .n-few))
 
--- src/block.rt:39:49
 add-t17 : tie.Need-add-t17
 add-t17 c = let x = c .before .before .before in omega (arith, large (x .args .s .skipped + x .args .l - x .args .s .n) (x .pre .2) (omega (arith, c .if2 .taken, x .pre .0 .m-few)) (x .pre .0 .n-few))
 
--- src/block.rt:39:9
 returns-2 : tie.Need-returns-2
 unfolding lineAt
 returns-2 c = let x = c .before .before .before in rw (← x .pre .0 .skipped-is) (rw (le-ltb _ _ (c .before .if1 .left), lt-ltb _ _ (c .if2 .taken)))
 
--- src/block.rt:41:18
 add-j : tie.Need-add-j
 add-j c = search needs
 
--- src/block.rt:41:13
 sub-j : tie.Need-sub-j
 sub-j c = search needs
 
--- src/block.rt:42:45
 mul-t14 : tie.Need-mul-t14
 mul-t14 c = let x = c .before .before .before in omega (arith, small (x .args .s .skipped + x .args .l - (x .args .s .n + x .args .s .m)) (x .pre .2) (omega (arith, x .pre .3, x .pre .0 .skipped-is, x .pre .0 .n-few)))
 
--- src/block.rt:42:38
 add-t18 : tie.Need-add-t18
 add-t18 c = let x = c .before .before .before in omega (arith, small (x .args .s .skipped + x .args .l - (x .args .s .n + x .args .s .m)) (x .pre .2) (omega (arith, x .pre .3, x .pre .0 .skipped-is, x .pre .0 .n-few)))
 
--- src/block.rt:42:64
 mul-t19 : tie.Need-mul-t19
 mul-t19 c = let x = c .before .before .before in omega (arith, small (x .args .s .n) (x .pre .2) (x .pre .0 .n-few))
 
--- src/block.rt:27:1
 returns-3 : tie.Need-returns-3
 unfolding lineAt
 returns-3 c = let x = c .before .before .before in rw (← x .pre .0 .skipped-is) (rw (le-ltb _ _ (c .before .if1 .left), le-ltb _ _ (c .if2 .left)))

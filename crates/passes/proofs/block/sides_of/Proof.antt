@@ -1,29 +1,22 @@
 -- `sides_of` meets its contract: the quotients by the greatest common divisor, and whether pass 1 is left out.
-use mathlib.Core.Path.{_≡_, refl, sym, ap, _∙_}
-use Prim.Native.Nat.{ℕ, _/_, _<_, _≤_}
+use mathlib.Core.Path.{refl, ap}
+use Prim.Native.Nat.{ℕ, _/_}
 use borrow.Author.Tests.{lt-ltb, le-ltb}
 use Rattle.flat.proofs.Sides.{sides-are}
 use Rattle.passes.specs.Lines.{skipped}
 use borrow.Author.Needs.{needs}
 use Rattle.passes.proofs.block.sides_of.Statement.{statement}
 use Rattle.passes.proofs.block.sides_of.Tie as tie
-use Rattle.passes.proofs.block.sides_of.Reads as reads
-use Rattle.passes.proofs.block.sides_of.Lts as lts
-use Rattle.passes.proofs.gcd.gcd.Reads as gcd-reads
 
--- src/block.rt:17:9
 gcd-requires : tie.Need-gcd-requires
 gcd-requires c κs = search needs
 
--- src/block.rt:18:13
 div-a : tie.Need-div-a
 div-a c = rw (c .gcd .ensures) (sides-are (c .before .args .m) (c .before .args .n) (c .before .pre .0) (c .before .pre .1) .c-pos)
 
--- src/block.rt:19:13
 div-b : tie.Need-div-b
 div-b c = rw (c .gcd .ensures) (sides-are (c .before .args .m) (c .before .args .n) (c .before .pre .0) (c .before .pre .1) .c-pos)
 
--- src/block.rt:21:9
 returns : tie.Need-returns
 unfolding skipped
 returns c =
@@ -42,7 +35,6 @@ returns c =
       },
     )
 
--- src/block.rt:13:1
 returns-2 : tie.Need-returns-2
 unfolding skipped
 returns-2 c =

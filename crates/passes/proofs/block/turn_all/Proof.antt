@@ -1,6 +1,6 @@
 -- `turn_all` meets its contract: after t blocks those before t are turned, the others stand; all of them are the swap.
-use mathlib.Core.Path.{_≡_, refl, sym, ap, _∙_}
-use Prim.Native.Nat.{ℕ, _+_, _*_, _-_, _/_, _%_, _<_, _≤_}
+use mathlib.Core.Path.{_≡_}
+use Prim.Native.Nat.{_*_, _-_, _/_, _%_, _≤_}
 use native.Mathlib.Nat.{mul-le-mul, lt-of-le-of-lt, le-trans, le-refl, le-add-right}
 use lib.Dec.{lit<}
 use native.Mathlib.Omega.{arith}
@@ -13,9 +13,6 @@ use Rattle.passes.proofs.Fits.{past-none, past-more}
 use Rattle.passes.proofs.Swaps.{posOf, toOf, fromOf, blocks, swapped, around-few, words-few, base-few, block-lies}
 use Rattle.passes.proofs.block.turn_all.Statement.{statement}
 use Rattle.passes.proofs.block.turn_all.Tie as tie
-use Rattle.passes.proofs.block.turn_all.Reads as reads
-use Rattle.passes.proofs.block.turn_all.Lts as lts
-use Rattle.passes.proofs.block.turn_at.Reads as turn-at-reads
 
 abbrev Inv-loop : tie.InvT-loop
 Inv-loop buf₀ scratch₀ s outer chunk words count t₀ buf scratch t = (t ≤ outer * chunk) × Some (outer * chunk) (s .m * s .n) (posOf (s .m) (s .n) chunk) (toOf (s .m) (s .n)) fromOf t buf₀ buf × Past (need (sides (s .m) (s .n))) scratch₀ scratch
@@ -23,59 +20,47 @@ Inv-loop buf₀ scratch₀ s outer chunk words count t₀ buf scratch t = (t ≤
 abbrev μ-loop : tie.MeasureT-loop
 μ-loop buf₀ scratch₀ s outer chunk words count t₀ buf scratch t = outer * chunk - t
 
--- src/block.rt:121:17
 mul-words : tie.Need-mul-words Inv-loop μ-loop
 mul-words c = let x = c .before .before .before in record { fits = lt-of-le-of-lt (mul-le-mul (x .pre .0 .m-few) (x .pre .0 .n-few)) (lit< tt) }
 
--- src/block.rt:121:17
 mul-words-2 : tie.Need-mul-words-2 Inv-loop μ-loop
 mul-words-2 c = let x = c .before .before .before in record { fits = lt-of-le-of-lt (words-few (x .pre .0 .m-pos) (x .pre .0 .n-pos) (x .pre .1)) (lit< tt) }
 
--- src/block.rt:122:17
 mul-count : tie.Need-mul-count Inv-loop μ-loop
 mul-count c = let x = c .before .before .before in omega (arith, around-few (x .pre .0 .m-pos) (x .pre .0 .n-pos) (x .pre .1))
 
--- src/block.rt:123:5
 loop-holds : tie.Need-loop-holds Inv-loop μ-loop
 loop-holds c = let x = c .before .before .before in (omega arith, some-none _ _ _ _ _ (x .args .buf .now), past-none _ (x .args .scratch .now))
 
--- src/block.rt:124:20
 div-base : tie.Need-div-base Inv-loop μ-loop
 div-base c = search needs
 
--- src/block.rt:124:20
 mul-base : tie.Need-mul-base Inv-loop μ-loop
 mul-base c =
     let x = c .before .before .before .before .before in
     let t = c .before .loop .t in
     record { fits = lt-of-le-of-lt (le-trans (le-add-right (t / x .args .chunk * (x .args .s .m * x .args .s .n * x .args .chunk)) (t % x .args .chunk)) (base-few (x .pre .0 .m-pos) (x .pre .0 .n-pos) (x .pre .1) t (c .loop-test .taken))) (lit< tt) }
 
--- src/block.rt:124:40
 rem-base : tie.Need-rem-base Inv-loop μ-loop
 rem-base c = search needs
 
--- src/block.rt:124:20
 add-base : tie.Need-add-base Inv-loop μ-loop
 add-base c =
     let x = c .before .before .before .before .before in
     record { fits = lt-of-le-of-lt (base-few (x .pre .0 .m-pos) (x .pre .0 .n-pos) (x .pre .1) (c .before .loop .t) (c .loop-test .taken)) (lit< tt) }
 
--- src/block.rt:125:9
 turn-at-requires : tie.Need-turn-at-requires Inv-loop μ-loop
 turn-at-requires c κs =
     let x = c .before .before .before .before .before .before .before in
     let l = c .before .before .before .loop in
     (x .pre .0, block-lies (x .pre .0 .m-pos) (x .pre .0 .n-pos) (x .pre .1) (l .t) (l .buf) (l .scratch) (c .before .before .loop-test .taken) (l .inv .1 .same) (l .inv .2 .same))
 
--- src/block.rt:123:9
 add-t : tie.Need-add-t Inv-loop μ-loop
 add-t c = let x = c .before .before .before .before .before .before .before .before .before .before .before .before in omega (arith, c .before .before .before .before .before .before .before .loop-test .taken, around-few (x .pre .0 .m-pos) (x .pre .0 .n-pos) (x .pre .1))
 
--- src/block.rt:123:5
 loop-less : tie.Need-loop-less Inv-loop μ-loop
 loop-less c = search needs
 
--- src/block.rt:123:5
 loop-again : tie.Need-loop-again Inv-loop μ-loop
 loop-again c =
     let x = c .before .before .before .before .before .before .before .before .before .before .before .before in
@@ -84,15 +69,12 @@ loop-again c =
     let t = c .before .before .before .before .turn-at .ensures in
     (omega (arith, h), some-more (blocks (x .args .outer) (x .args .s .m) (x .args .s .n) (x .args .chunk) (x .pre .0 .m-pos) (x .pre .0 .n-pos) (x .pre .1 .words)) h (l .inv .1) (t .0), past-more (le-refl _) (l .inv .2) (t .1))
 
--- src/block.rt:117:1
 same-length : tie.Need-same-length Inv-loop μ-loop
 same-length c = c .before .loop .inv .1 .same
 
--- src/block.rt:117:1
 same-length-2 : tie.Need-same-length-2 Inv-loop μ-loop
 same-length-2 c = c .before .loop .inv .2 .same
 
--- src/block.rt:117:1
 returns : tie.Need-returns Inv-loop μ-loop
 returns c =
     let x = c .before .before .before .before .before in

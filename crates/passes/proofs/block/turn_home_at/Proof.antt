@@ -1,17 +1,12 @@
 -- `turn_home_at` meets its contract: with l lines left to undo, the steps from l on lead from the block as it is to the block at entry.
-use mathlib.Core.Path.{_≡_, refl, sym, ap, _∙_}
-use Prim.Native.Nat.{_+_, _-_, _<_, _≤_}
+use mathlib.Core.Path.{_≡_}
+use Prim.Native.Nat.{_+_, _-_, _<_}
 use native.Mathlib.Omega.{arith}
-use Rattle.passes.specs.Lines.{lineCount, lineOf}
+use Rattle.passes.specs.Lines.{lineCount}
 use Rattle.passes.proofs.Going.{Home, going-fits, home-all, home-less, home-none}
 use borrow.Author.Needs.{needs}
 use Rattle.passes.proofs.block.turn_home_at.Statement.{statement}
 use Rattle.passes.proofs.block.turn_home_at.Tie as tie
-use Rattle.passes.proofs.block.turn_home_at.Reads as reads
-use Rattle.passes.proofs.block.turn_home_at.Lts as lts
-use Rattle.passes.proofs.block.line_count.Reads as line-count-reads
-use Rattle.passes.proofs.block.line_of.Reads as line-of-reads
-use Rattle.passes.proofs.line.back.Reads as back-reads
 
 abbrev Inv-loop : tie.InvT-loop
 Inv-loop buf₀ scratch₀ s base chunk l₀ buf scratch l = Home s base chunk buf₀ scratch₀ l buf scratch
@@ -19,23 +14,18 @@ Inv-loop buf₀ scratch₀ s base chunk l₀ buf scratch l = Home s base chunk b
 abbrev μ-loop : tie.MeasureT-loop
 μ-loop buf₀ scratch₀ s base chunk l₀ buf scratch l = l
 
--- src/block.rt:70:9
 line-count-requires : tie.Need-line-count-requires Inv-loop μ-loop
 line-count-requires c κs = search needs
 
--- src/block.rt:71:5
 loop-holds : tie.Need-loop-holds Inv-loop μ-loop
 loop-holds c = let x = c .before .before .before in rw (c .line-count .ensures) (home-all (x .pre .0) (x .pre .1))
 
--- src/block.rt:72:9
 sub-l : tie.Need-sub-l Inv-loop μ-loop
 sub-l c = search needs
 
--- src/block.rt:73:13
 line-of-requires : tie.Need-line-of-requires Inv-loop μ-loop
 line-of-requires c κs = search needs
 
--- src/block.rt:74:9
 back-requires : tie.Need-back-requires Inv-loop μ-loop
 back-requires c κs =
     let x = c .before .before .before .before .before .before .before .before in
@@ -43,11 +33,9 @@ back-requires c κs =
     let h : l .l - 1 < lineCount (x .args .s .m) (x .args .s .n) = omega (arith, l .inv .few, c .before .before .before .loop-test .taken) in
     (x .pre .0, rw (c .before .before .line-of .ensures) (going-fits (x .pre .0) (x .pre .1) (l .l - 1) (l .buf) (l .scratch) h (l .inv .same) (l .inv .past)))
 
--- src/block.rt:71:5
 loop-less : tie.Need-loop-less Inv-loop μ-loop
 loop-less c = search needs
 
--- src/block.rt:71:5
 loop-again : tie.Need-loop-again Inv-loop μ-loop
 loop-again c =
     let x = c .before .before .before .before .before .before .before .before .before .before .before .before .before in
@@ -58,15 +46,12 @@ loop-again c =
     let k : l .l - 1 + 1 ≡ l .l = omega (arith, c .before .before .before .before .before .before .before .before .loop-test .taken) in
     home-less (x .pre .0) (x .pre .1) h (rw k (l .inv)) (rw e at (f .0)) (rw e at (f .1))
 
--- src/block.rt:66:1
 same-length : tie.Need-same-length Inv-loop μ-loop
 same-length c = search needs
 
--- src/block.rt:66:1
 same-length-2 : tie.Need-same-length-2 Inv-loop μ-loop
 same-length-2 c = search needs
 
--- src/block.rt:66:1
 returns : tie.Need-returns Inv-loop μ-loop
 returns c =
     let x = c .before .before .before .before .before in

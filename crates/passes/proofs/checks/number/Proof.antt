@@ -1,54 +1,39 @@
 -- `checks::number` meets its contract: each return answers the first of the checks that holds, by the tests that led there.
-use mathlib.Core.Path.{_≡_, refl, sym, ap, _∙_}
-use Prim.Native.Nat.{ℕ, _≤_, _<_}
 use native.Mathlib.Nat.{mul-le-mul, lt-of-lt-of-le}
 use native.Mathlib.Omega.{arith}
 use borrow.Author.Tests.{eq-eqb, ne-eqb, lt-ltb, le-ltb}
 use Rattle.flat.proofs.Turn.{volume-two}
 use Rattle.passes.proofs.Fits.{side-need, need-le}
-use borrow.Author.Needs.{needs}
 use Rattle.passes.proofs.checks.number.Statement.{statement}
 use Rattle.passes.proofs.checks.number.Tie as tie
-use Rattle.passes.proofs.checks.number.Reads as reads
-use Rattle.passes.proofs.checks.number.Lts as lts
 
--- src/checks.rt:12:9
 returns : tie.Need-returns
 returns c = simp (eq-eqb _ _ (c .if1 .taken))
 
--- src/checks.rt:15:9
 returns-2 : tie.Need-returns-2
 returns-2 c = simp (ne-eqb _ _ (c .before .if1 .left), lt-ltb _ _ (c .if2 .taken))
 
--- src/checks.rt:18:9
 returns-3 : tie.Need-returns-3
 returns-3 c = simp (ne-eqb _ _ (c .before .before .if1 .left), le-ltb _ _ (c .before .if2 .left), eq-eqb _ _ (c .if3 .taken))
 
--- src/checks.rt:21:9
 returns-4 : tie.Need-returns-4
 returns-4 c = simp (ne-eqb _ _ (c .before .before .before .if1 .left), le-ltb _ _ (c .before .before .if2 .left), ne-eqb _ _ (c .before .if3 .left), lt-ltb _ _ (c .if4 .taken))
 
--- src/checks.rt:23:17
 mul-words : tie.Need-mul-words
 mul-words c = let x = c .before .before .before .before in omega (arith, mul-le-mul (c .before .before .if2 .left) (c .if4 .left))
 
--- src/checks.rt:25:9
 returns-5 : tie.Need-returns-5
 returns-5 c = simp (volume-two, ne-eqb _ _ (c .before .before .before .before .if1 .left), le-ltb _ _ (c .before .before .before .if2 .left), ne-eqb _ _ (c .before .before .if3 .left), le-ltb _ _ (c .before .if4 .left), lt-ltb _ _ (c .if5 .taken))
 
--- src/checks.rt:28:9
 returns-6 : tie.Need-returns-6
 returns-6 c = simp (volume-two, ne-eqb _ _ (c .before .before .before .before .before .if1 .left), le-ltb _ _ (c .before .before .before .before .if2 .left), ne-eqb _ _ (c .before .before .before .if3 .left), le-ltb _ _ (c .before .before .if4 .left), le-ltb _ _ (c .before .if5 .left), lt-ltb _ _ (c .if6 .taken))
 
--- src/checks.rt:31:9
 returns-7 : tie.Need-returns-7
 returns-7 c = let x = c .before .before .before .before .before .before .before in simp (volume-two, ne-eqb _ _ (c .before .before .before .before .before .before .if1 .left), le-ltb _ _ (c .before .before .before .before .before .if2 .left), ne-eqb _ _ (c .before .before .before .before .if3 .left), le-ltb _ _ (c .before .before .before .if4 .left), le-ltb _ _ (c .before .before .if5 .left), le-ltb _ _ (c .before .if6 .left), lt-ltb _ _ (lt-of-lt-of-le (c .if7 .taken) (side-need (x .args .m) (x .args .n) .0)))
 
--- src/checks.rt:34:9
 returns-8 : tie.Need-returns-8
 returns-8 c = let x = c .before .before .before .before .before .before .before .before in simp (volume-two, ne-eqb _ _ (c .before .before .before .before .before .before .before .if1 .left), le-ltb _ _ (c .before .before .before .before .before .before .if2 .left), ne-eqb _ _ (c .before .before .before .before .before .if3 .left), le-ltb _ _ (c .before .before .before .before .if4 .left), le-ltb _ _ (c .before .before .before .if5 .left), le-ltb _ _ (c .before .before .if6 .left), lt-ltb _ _ (lt-of-lt-of-le (c .if8 .taken) (side-need (x .args .m) (x .args .n) .1)))
 
--- src/checks.rt:8:1
 returns-9 : tie.Need-returns-9
 returns-9 c = let x = c .before .before .before .before .before .before .before .before in simp (volume-two, ne-eqb _ _ (c .before .before .before .before .before .before .before .if1 .left), le-ltb _ _ (c .before .before .before .before .before .before .if2 .left), ne-eqb _ _ (c .before .before .before .before .before .if3 .left), le-ltb _ _ (c .before .before .before .before .if4 .left), le-ltb _ _ (c .before .before .before .if5 .left), le-ltb _ _ (c .before .before .if6 .left), le-ltb _ _ (need-le (c .before .if7 .left) (c .if8 .left)))
 

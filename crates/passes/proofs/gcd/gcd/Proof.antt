@@ -1,6 +1,5 @@
 -- `gcd` meets its contract: each turn of the loop keeps the greatest common divisor, and the remainder falls.
 use mathlib.Core.Path.{_≡_, refl, sym, ap, _∙_}
-use Prim.Native.Nat.{ℕ}
 use native.Mathlib.Nat.{mod-lt}
 use native.Mathlib.Omega.{arith}
 use borrow.Author.Needs.{needs}

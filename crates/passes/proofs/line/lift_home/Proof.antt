@@ -6,34 +6,24 @@ use Rattle.passes.specs.Lines.{Held, paired}
 use Rattle.passes.proofs.Held.{decided}
 use Rattle.passes.proofs.line.lift_home.Statement.{statement}
 use Rattle.passes.proofs.line.lift_home.Tie as tie
-use Rattle.passes.proofs.line.lift_home.Reads as reads
-use Rattle.passes.proofs.line.lift_home.Lts as lts
-use Rattle.passes.proofs.line.gather.Reads as gather-reads
-use Rattle.passes.proofs.line.scatter.Reads as scatter-reads
 
--- src/line.rt:94:9
 gather-requires : tie.Need-gather-requires
 gather-requires c κs = search needs
 
--- src/line.rt:95:9
 same-length : tie.Need-same-length
 same-length c = search needs
 
--- src/line.rt:95:9
 returns : tie.Need-returns
 returns c =
     let x = c .before .before .before .before .before .before .before .before in
     decided (λ (to from : ℕ → ℕ). Held (x .args .l) from to (x .args .buf .now) (x .args .scratch .now) (c .before .before .gather .last .1 .0)) (paired (x .args .s .m) (x .args .s .n) (x .args .l .pass) (x .args .l .index)) (eq-eqb _ _ (c .before .before .before .before .if1 .taken)) (c .before .before .gather .ensures)
 
--- src/line.rt:97:5
 scatter-requires : tie.Need-scatter-requires
 scatter-requires c κs = search needs
 
--- src/line.rt:89:1
 same-length-2 : tie.Need-same-length-2
 same-length-2 c = search needs
 
--- src/line.rt:89:1
 returns-2 : tie.Need-returns-2
 returns-2 c =
     let x = c .before .before .before .before .before .before .before .before in

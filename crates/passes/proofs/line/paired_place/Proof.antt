@@ -1,6 +1,5 @@
 -- `paired_place` meets its contract: each pass's formula as it stands, sides and places of at most 4,096 keep every product small.
-use mathlib.Core.Path.{_≡_, refl, sym, ap, _∙_}
-use Prim.Native.Nat.{ℕ, _+_, _*_, _/_, _%_, _<_, _≤_}
+use Prim.Native.Nat.{_+_, _/_, _<_}
 use native.Mathlib.Nat.{mul-le-mul, div-le-self, mod-lt, le-mul-of-pos-right}
 use native.Mathlib.Omega.{arith}
 use borrow.Author.Needs.{needs}
@@ -19,75 +18,58 @@ a-pos {s} h = rw (h .a-is) (sides-are (s .m) (s .n) (h .m-pos) (h .n-pos) .a-pos
 b-pos : {s : Sides} → Sound s → 0 < s .b
 b-pos {s} h = rw (h .b-is) (sides-are (s .m) (s .n) (h .m-pos) (h .n-pos) .b-pos)
 
--- src/line.rt:30:21
 div-result : tie.Need-div-result
 div-result c = b-pos (c .before .before .pre .0)
 
--- src/line.rt:30:17
 add-result : tie.Need-add-result
 add-result c = let x = c .before .before in omega (arith, div-le-self (x .args .index) (x .args .s .b))
 
--- src/line.rt:30:16
 rem-result : tie.Need-rem-result
 rem-result c = search needs
 
--- src/line.rt:30:9
 returns : tie.Need-returns
 unfolding row1
 returns c = let x = c .before .before .before in simp (eq-eqb _ _ (c .before .before .if1 .taken)) (rw (x .pre .0 .b-is))
 
--- src/line.rt:33:26
 div-result-2 : tie.Need-div-result-2
 div-result-2 c = b-pos (c .before .before .before .pre .0)
 
--- src/line.rt:33:18
 add-result-2 : tie.Need-add-result-2
 add-result-2 c = let x = c .before .before .before in omega (arith, div-le-self (x .args .k) (x .args .s .b))
 
--- src/line.rt:33:17
 rem-result-2 : tie.Need-rem-result-2
 rem-result-2 c = search needs
 
--- src/line.rt:33:43
 mul-result : tie.Need-mul-result
 mul-result c = let x = c .before .before .before .before .before in omega (arith, mul-le-mul (x .pre .2) (x .pre .0 .m-few))
 
--- src/line.rt:33:17
 add-result-3 : tie.Need-add-result-3
 add-result-3 c = let x = c .before .before .before .before .before in omega (arith, mul-le-mul (x .pre .2) (x .pre .0 .m-few), mod-lt (x .args .index + x .args .k / x .args .s .b) (x .pre .0 .m-pos))
 
--- src/line.rt:33:16
 rem-result-3 : tie.Need-rem-result-3
 rem-result-3 c = search needs
 
--- src/line.rt:33:9
 returns-2 : tie.Need-returns-2
 unfolding column2
 returns-2 c =
     let x = c .before .before .before .before .before .before in
     simp (ne-eqb _ _ (c .before .before .before .before .before .if1 .left), eq-eqb _ _ (c .before .before .before .before .if2 .taken)) (rw (x .pre .0 .b-is))
 
--- src/line.rt:35:14
 mul-result-2 : tie.Need-mul-result-2
 mul-result-2 c = let x = c .before .before .before in omega (arith, mul-le-mul (x .pre .2) (x .pre .0 .n-few))
 
--- src/line.rt:35:6
 add-result-4 : tie.Need-add-result-4
 add-result-4 c = let x = c .before .before .before in omega (arith, mul-le-mul (x .pre .2) (x .pre .0 .n-few))
 
--- src/line.rt:35:24
 div-result-3 : tie.Need-div-result-3
 div-result-3 c = a-pos (c .before .before .before .before .pre .0)
 
--- src/line.rt:35:6
 sub-result : tie.Need-sub-result
 sub-result c = let x = c .before .before .before .before in omega (arith, div-le-self (x .args .k) (x .args .s .a), le-mul-of-pos-right (x .args .k) (x .pre .0 .n-pos))
 
--- src/line.rt:35:5
 rem-result-4 : tie.Need-rem-result-4
 rem-result-4 c = search needs
 
--- src/line.rt:25:1
 returns-3 : tie.Need-returns-3
 unfolding row3
 returns-3 c =

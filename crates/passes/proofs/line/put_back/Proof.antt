@@ -1,17 +1,14 @@
 -- `put_back` meets its contract: the line is filled place by place from scratch.
-use mathlib.Core.Path.{_≡_, refl, sym, ap, _∙_}
+use mathlib.Core.Path.{_≡_}
 use Prim.Native.Nat.{ℕ, _+_, _*_, _-_, _<_, _≤_}
-use native.Mathlib.Numerals.{add-one}
 use native.Mathlib.Nat.{eq-of-mul-eq-mul-left}
 use native.Mathlib.Omega.{arith}
 use borrow.Author.Needs.{needs}
 use lib.ListN.{length, getD}
 use Rattle.passes.specs.Lines.{posOn}
-use Rattle.passes.proofs.Filling.{Filling, filling-none, filling-more}
+use Rattle.passes.proofs.Filling.{Filling, filling-more}
 use Rattle.passes.proofs.line.put_back.Statement.{statement}
 use Rattle.passes.proofs.line.put_back.Tie as tie
-use Rattle.passes.proofs.line.put_back.Reads as reads
-use Rattle.passes.proofs.line.put_back.Lts as lts
 
 abbrev Inv-loop : tie.InvT-loop
 Inv-loop buf₀ scratch start stride k₀ k-end buf k = (k ≤ k-end) × Filling (λ j. start + stride * j) (λ j. getD scratch j 0) k-end k buf₀ buf
@@ -30,39 +27,30 @@ apart start stride h i j e = eq-of-mul-eq-mul-left stride h i j (omega arith)
 loop-holds : tie.Need-loop-holds Inv-loop μ-loop
 loop-holds c = search needs
 
--- src/line.rt:72:35
 mul-buf : tie.Need-mul-buf Inv-loop μ-loop
 mul-buf c = search needs
 
--- src/line.rt:72:35
 shared-slice-read-buf : tie.Need-shared-slice-read-buf Inv-loop μ-loop
 shared-slice-read-buf c = search needs
 
--- src/line.rt:72:21
 mul-buf-2 : tie.Need-mul-buf-2 Inv-loop μ-loop
 mul-buf-2 c = omega (arith, inside (c .before))
 
--- src/line.rt:72:13
 add-buf : tie.Need-add-buf Inv-loop μ-loop
 add-buf c = omega (arith, inside (c .before))
 
--- src/line.rt:72:9
 mul-buf-3 : tie.Need-mul-buf-3 Inv-loop μ-loop
 mul-buf-3 c = omega (arith, inside (c .before))
 
--- src/line.rt:72:9
 slice-write-buf : tie.Need-slice-write-buf Inv-loop μ-loop
 slice-write-buf c = omega (arith, inside (c .before), c .before .before .loop .inv .1 .same)
 
--- src/line.rt:71:9
 add-k : tie.Need-add-k Inv-loop μ-loop
 add-k c = search needs
 
--- src/line.rt:71:5
 loop-less : tie.Need-loop-less Inv-loop μ-loop
 loop-less c = search needs
 
--- src/line.rt:71:5
 loop-again : tie.Need-loop-again Inv-loop μ-loop
 loop-again c =
     let x = c .before .before .before in
@@ -70,11 +58,9 @@ loop-again c =
     let h = c .before .loop-test .taken in
     (omega (arith, h), filling-more (λ i j _ _ e. apart (x .args .l .start) (x .args .l .stride) (x .pre .1) i j e) h (inside (c .before)) (l .inv .1))
 
--- src/line.rt:65:1
 same-length : tie.Need-same-length Inv-loop μ-loop
 same-length c = search needs
 
--- src/line.rt:65:1
 returns : tie.Need-returns Inv-loop μ-loop
 returns c =
     let x = c .before .before in

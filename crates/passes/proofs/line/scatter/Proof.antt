@@ -1,17 +1,13 @@
 -- `scatter` meets its contract: scratch is filled at the paired places, no two of which are one.
-use mathlib.Core.Path.{_≡_, refl, sym, ap, _∙_}
-use Prim.Native.Nat.{ℕ, _+_, _*_, _-_, _<_, _≤_}
-use native.Mathlib.Numerals.{add-one}
+use mathlib.Core.Path.{_≡_}
+use Prim.Native.Nat.{_-_, _<_, _≤_}
 use native.Mathlib.Omega.{arith}
 use borrow.Author.Needs.{needs}
 use lib.ListN.{length, getD}
 use Rattle.passes.specs.Lines.{posOn, paired}
-use Rattle.passes.proofs.Filling.{Filling, filling-none, filling-more}
+use Rattle.passes.proofs.Filling.{Filling, filling-more}
 use Rattle.passes.proofs.line.scatter.Statement.{statement}
 use Rattle.passes.proofs.line.scatter.Tie as tie
-use Rattle.passes.proofs.line.scatter.Reads as reads
-use Rattle.passes.proofs.line.scatter.Lts as lts
-use Rattle.passes.proofs.line.paired_place.Reads as paired-place-reads
 
 abbrev Inv-loop : tie.InvT-loop
 Inv-loop buf scratch₀ s l start stride k₀ k-end scratch k = (k ≤ l .count) × Filling (paired (s .m) (s .n) (l .pass) (l .index)) (λ j. getD buf (posOn l j) 0) (l .count) k scratch₀ scratch
@@ -27,47 +23,36 @@ inside c = c .before .before .before .before .before .pre .1 .inside (c .before 
 on-line : (c : tie.After-paired-place Inv-loop μ-loop) → c .paired-place .result < c .before .before .before .before .before .args .l .count
 on-line c = rw (c .paired-place .ensures) (c .before .before .before .before .before .pre .1 .within (c .before .before .loop .k) (c .before .loop-test .taken))
 
--- src/line.rt:58:5
 loop-holds : tie.Need-loop-holds Inv-loop μ-loop
 loop-holds c = search needs
 
--- src/line.rt:59:13
 paired-place-requires : tie.Need-paired-place-requires Inv-loop μ-loop
 paired-place-requires c κs = search needs
 
--- src/line.rt:60:34
 mul-scratch : tie.Need-mul-scratch Inv-loop μ-loop
 mul-scratch c = omega (arith, inside c)
 
--- src/line.rt:60:26
 add-scratch : tie.Need-add-scratch Inv-loop μ-loop
 add-scratch c = omega (arith, inside c)
 
--- src/line.rt:60:22
 mul-scratch-2 : tie.Need-mul-scratch-2 Inv-loop μ-loop
 mul-scratch-2 c = omega (arith, inside c)
 
--- src/line.rt:60:22
 shared-slice-read-scratch : tie.Need-shared-slice-read-scratch Inv-loop μ-loop
 shared-slice-read-scratch c = inside (c .before)
 
--- src/line.rt:60:9
 mul-scratch-3 : tie.Need-mul-scratch-3 Inv-loop μ-loop
 mul-scratch-3 c = let x = c .before .before .before .before .before .before in omega (arith, on-line (c .before), x .pre .1 .room)
 
--- src/line.rt:60:9
 slice-write-scratch : tie.Need-slice-write-scratch Inv-loop μ-loop
 slice-write-scratch c = let x = c .before .before .before .before .before .before in omega (arith, on-line (c .before), x .pre .1 .room, c .before .before .before .loop .inv .1 .same)
 
--- src/line.rt:58:9
 add-k : tie.Need-add-k Inv-loop μ-loop
 add-k c = search needs
 
--- src/line.rt:58:5
 loop-less : tie.Need-loop-less Inv-loop μ-loop
 loop-less c = search needs
 
--- src/line.rt:58:5
 loop-again : tie.Need-loop-again Inv-loop μ-loop
 loop-again c =
     let x = c .before .before .before .before .before .before in
@@ -76,11 +61,9 @@ loop-again c =
     let w = x .pre .1 .within (l .k) h in
     (omega (arith, h), rw (c .before .paired-place .ensures) (filling-more (x .pre .1 .apart) h (omega (arith, w, x .pre .1 .room)) (l .inv .1)))
 
--- src/line.rt:52:1
 same-length : tie.Need-same-length Inv-loop μ-loop
 same-length c = search needs
 
--- src/line.rt:52:1
 returns : tie.Need-returns Inv-loop μ-loop
 returns c =
     let x = c .before .before .before .before in

@@ -1,6 +1,6 @@
 -- `clear_longest` meets its contract: the longer side is what the call needs of scratch.
-use mathlib.Core.Path.{_≡_, refl, sym, ap, _∙_}
-use Prim.Native.Nat.{ℕ, _<_, _≤_}
+use mathlib.Core.Path.{sym, ap, _∙_}
+use Prim.Native.Nat.{ℕ}
 use native.Mathlib.Omega.{arith}
 use native.Mathlib.Nat.{le-trans}
 use Rattle.refusals.specs.Scratch.{cleared}
@@ -8,31 +8,22 @@ use Rattle.passes.proofs.Fits.{side-need, need-left, need-right}
 use borrow.Author.Needs.{needs}
 use Rattle.passes.proofs.scratch.clear_longest.Statement.{statement}
 use Rattle.passes.proofs.scratch.clear_longest.Tie as tie
-use Rattle.passes.proofs.scratch.clear_longest.Reads as reads
-use Rattle.passes.proofs.scratch.clear_longest.Lts as lts
-use Rattle.passes.proofs.scratch.zero.Reads as zero-reads
 
--- src/scratch.rt:24:9
 zero-requires : tie.Need-zero-requires
 zero-requires c κs = let x = c .before .before .before in le-trans (side-need (x .args .m) (x .args .n) .1) (x .pre)
 
--- src/scratch.rt:25:9
 same-length : tie.Need-same-length
 same-length c = search needs
 
--- src/scratch.rt:25:9
 returns : tie.Need-returns
 returns c = let x = c .before .before .before .before .before .before in c .before .before .zero .ensures ∙ ap (λ (k : ℕ). cleared k (x .args .scratch .now)) (sym (need-right (x .args .m) (x .args .n) (omega (arith, c .before .before .before .before .if1 .taken))))
 
--- src/scratch.rt:27:5
 zero-requires-2 : tie.Need-zero-requires-2
 zero-requires-2 c κs = let x = c .before .before .before in le-trans (side-need (x .args .m) (x .args .n) .0) (x .pre)
 
--- src/scratch.rt:19:1
 same-length-2 : tie.Need-same-length-2
 same-length-2 c = search needs
 
--- src/scratch.rt:19:1
 returns-2 : tie.Need-returns-2
 returns-2 c = let x = c .before .before .before .before .before .before in c .before .before .zero2 .ensures ∙ ap (λ (k : ℕ). cleared k (x .args .scratch .now)) (sym (need-left (x .args .m) (x .args .n) (omega (arith, c .before .before .before .before .if1 .left))))
 

@@ -1,16 +1,13 @@
 -- `zero` meets its contract: after k stores the first k words are zero.
-use mathlib.Core.Path.{_≡_, refl, sym, ap, _∙_}
-use mathlib.Core.List.{List, _++_}
-use Prim.Native.Nat.{ℕ, _≤_, _<_, _-_}
+use mathlib.Core.Path.{_≡_, refl}
+use Prim.Native.Nat.{_≤_, _-_}
 use native.Mathlib.Omega.{arith}
-use borrow.Author.Fill.{fill-none, fill-more}
-use lib.ListN.{length, drop, replicate, length-set}
+use borrow.Author.Fill.{fill-more}
+use lib.ListN.{length, length-set}
 use Rattle.refusals.specs.Scratch.{cleared}
 use borrow.Author.Needs.{needs}
 use Rattle.passes.proofs.scratch.zero.Statement.{statement}
 use Rattle.passes.proofs.scratch.zero.Tie as tie
-use Rattle.passes.proofs.scratch.zero.Reads as reads
-use Rattle.passes.proofs.scratch.zero.Lts as lts
 
 abbrev Inv-loop : tie.InvT-loop
 Inv-loop scratch₀ n k₀ scratch k = (k ≤ n) × (length scratch ≡ length scratch₀) × (scratch ≡ cleared k scratch₀)
@@ -18,38 +15,30 @@ Inv-loop scratch₀ n k₀ scratch k = (k ≤ n) × (length scratch ≡ length s
 abbrev μ-loop : tie.MeasureT-loop
 μ-loop scratch₀ n k₀ scratch k = n - k
 
--- src/scratch.rt:13:5
 loop-holds : tie.Need-loop-holds Inv-loop μ-loop
 loop-holds c = (omega arith, refl, refl)
 
--- src/scratch.rt:14:9
 mul-scratch : tie.Need-mul-scratch Inv-loop μ-loop
 mul-scratch c = search needs
 
--- src/scratch.rt:14:9
 slice-write-scratch : tie.Need-slice-write-scratch Inv-loop μ-loop
 slice-write-scratch c = omega arith
 
--- src/scratch.rt:13:9
 add-k : tie.Need-add-k Inv-loop μ-loop
 add-k c = search needs
 
--- src/scratch.rt:13:5
 loop-less : tie.Need-loop-less Inv-loop μ-loop
 loop-less c = omega arith
 
--- src/scratch.rt:13:5
 loop-again : tie.Need-loop-again Inv-loop μ-loop
 loop-again c =
     let x = c .before .before in
     let l = c .before .loop in
     (omega arith, simp length-set (omega arith), rw (l .inv .2) (fill-more (l .k) 0 (x .args .scratch .now) (omega arith)))
 
--- src/scratch.rt:9:1
 same-length : tie.Need-same-length Inv-loop μ-loop
 same-length c = search needs
 
--- src/scratch.rt:9:1
 returns : tie.Need-returns Inv-loop μ-loop
 returns c = let e : c .before .loop .k ≡ c .before .before .args .n = omega arith in rw (← e) (c .before .loop .inv .2)
 

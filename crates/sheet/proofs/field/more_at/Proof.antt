@@ -10,8 +10,6 @@ use Rattle.sheet.proofs.Places.{at-found, at-none, at-same, more-end, m
 use borrow.Author.Needs.{needs}
 use Rattle.sheet.proofs.field.more_at.Statement.{statement}
 use Rattle.sheet.proofs.field.more_at.Tie as tie
-use Rattle.sheet.proofs.field.more_at.Reads as reads
-use Rattle.sheet.proofs.field.more_at.Lts as lts
 
 abbrev Inv-loop : tie.InvT-loop
 Inv-loop bytes at start value₀ p₀ value p =
@@ -20,19 +18,15 @@ Inv-loop bytes at start value₀ p₀ value p =
 abbrev μ-loop : tie.MeasureT-loop
 μ-loop bytes at start value₀ p₀ value p = length bytes - p
 
--- src/field.rt:22:5
 loop-holds : tie.Need-loop-holds Inv-loop μ-loop
 loop-holds c = search needs
 
--- src/field.rt:23:17
 shared-slice-read-b : tie.Need-shared-slice-read-b Inv-loop μ-loop
 shared-slice-read-b c = search needs
 
--- src/field.rt:23:17
 cast-b : tie.Need-cast-b Inv-loop μ-loop
 cast-b c = omega (arith, c .shared-slice-known .given (c .before .before .loop .p))
 
--- src/field.rt:25:13
 returns : tie.Need-returns Inv-loop μ-loop
 returns c =
     let w = c .before .before in
@@ -41,7 +35,6 @@ returns c =
     (l .inv .2 ∙ more-below (w .before .before .args .bytes .now) (l .p) (w .loop-test .taken) (l .value) (c .if1 .taken))
     (l .inv .0)
 
--- src/field.rt:28:13
 returns-2 : tie.Need-returns-2 Inv-loop μ-loop
 returns-2 c =
     let w = c .before .before .before in
@@ -50,15 +43,12 @@ returns-2 c =
     (l .inv .2 ∙ more-above (w .before .before .args .bytes .now) (l .p) (w .loop-test .taken) (l .value) (c .if2 .taken))
     (l .inv .0)
 
--- src/field.rt:30:17
 mul-w : tie.Need-mul-w Inv-loop μ-loop
 mul-w c = search needs
 
--- src/field.rt:30:17
 add-w : tie.Need-add-w Inv-loop μ-loop
 add-w c = search needs
 
--- src/field.rt:32:13
 returns-3 : tie.Need-returns-3 Inv-loop μ-loop
 returns-3 c =
     let w = c .before .before .before .before in
@@ -68,15 +58,12 @@ returns-3 c =
     ∙ more-over (w .before .before .args .bytes .now) (l .p) (w .loop-test .taken) (l .value) (c .before .before .if1 .left)
     (c .before .if2 .left) (c .if3 .taken))
 
--- src/field.rt:35:9
 add-p : tie.Need-add-p Inv-loop μ-loop
 add-p c = search needs
 
--- src/field.rt:22:5
 loop-less : tie.Need-loop-less Inv-loop μ-loop
 loop-less c = search needs
 
--- src/field.rt:22:5
 loop-again : tie.Need-loop-again Inv-loop μ-loop
 loop-again c =
     let w = c .before .before .before .before in
@@ -88,7 +75,6 @@ loop-again c =
           (c .before .if2 .left) (c .if3 .left),
     )
 
--- src/field.rt:16:1
 returns-4 : tie.Need-returns-4 Inv-loop μ-loop
 returns-4 c =
     let l = c .before .loop in

@@ -1,6 +1,6 @@
 -- `axes::plans::Order::falling_pairs` meets its contract. The loop's invariant: the pairs that begin at a place passed are counted, those of the rest are not.
-use mathlib.Core.Path.{_≡_, refl, sym, ap, _∙_}
-use Prim.Native.Nat.{ℕ, _+_, _*_, _≤_, _-_}
+use mathlib.Core.Path.{_≡_, refl, ap, _∙_}
+use Prim.Native.Nat.{_+_, _*_, _≤_, _-_}
 use native.Mathlib.Omega.{arith}
 use lib.ListN.{drop, length, getD}
 use Rattle.orders.specs.Plans.{falling}
@@ -8,9 +8,6 @@ use Rattle.axes.proofs.Front.{held, falling-front, under-few, drop-end}
 use borrow.Author.Needs.{needs}
 use Rattle.axes.proofs.plans.Order.falling_pairs.Statement.{statement}
 use Rattle.axes.proofs.plans.Order.falling_pairs.Tie as tie
-use Rattle.axes.proofs.plans.Order.falling_pairs.Reads as reads
-use Rattle.axes.proofs.plans.Order.falling_pairs.Lts as lts
-use Rattle.axes.proofs.plans.Order.under_from.Reads as under-from-reads
 
 abbrev Inv-loop : tie.InvT-loop
 Inv-loop self count₀ k₀ count k = (k ≤ 4) × (count ≤ 4 * k) × (count + falling (drop k (self .axes)) ≡ falling (self .axes))

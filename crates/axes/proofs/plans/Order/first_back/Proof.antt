@@ -7,9 +7,6 @@ use Rattle.axes.proofs.Front.{back-here, back-past}
 use borrow.Author.Needs.{needs}
 use Rattle.axes.proofs.plans.Order.first_back.Statement.{statement}
 use Rattle.axes.proofs.plans.Order.first_back.Tie as tie
-use Rattle.axes.proofs.plans.Order.first_back.Reads as reads
-use Rattle.axes.proofs.plans.Order.first_back.Lts as lts
-use Rattle.axes.proofs.plans.Order.place_of.Reads as place-of-reads
 
 abbrev Inv-loop : tie.InvT-loop
 Inv-loop self k₀ k = (k ≤ 4) × (firstBack 4 0 (self .axes) ≡ firstBack (4 - k) k (self .axes))

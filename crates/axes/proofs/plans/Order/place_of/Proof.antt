@@ -1,15 +1,13 @@
 -- `axes::plans::Order::place_of` meets its contract. The loop's invariant: the axis stands at no place passed.
-use mathlib.Core.Path.{_≡_, refl, sym, ap, _∙_}
-use Prim.Native.Nat.{ℕ, _+_, _≤_, _-_}
+use mathlib.Core.Path.{_≡_, refl, ap, _∙_}
+use Prim.Native.Nat.{_+_, _≤_, _-_}
 use native.Mathlib.Omega.{arith}
-use lib.ListN.{drop, length, getD}
+use lib.ListN.{drop, length}
 use Rattle.layout.specs.Layout.{placeOf}
 use Rattle.axes.proofs.Front.{held, place-here, place-past, drop-end}
 use borrow.Author.Needs.{needs}
 use Rattle.axes.proofs.plans.Order.place_of.Statement.{statement}
 use Rattle.axes.proofs.plans.Order.place_of.Tie as tie
-use Rattle.axes.proofs.plans.Order.place_of.Reads as reads
-use Rattle.axes.proofs.plans.Order.place_of.Lts as lts
 
 abbrev Inv-loop : tie.InvT-loop
 Inv-loop axis self k₀ k = (k ≤ 4) × (placeOf axis (self .axes) ≡ k + placeOf axis (drop k (self .axes)))

@@ -14,10 +14,6 @@ use Rattle.axes.proofs.Swaps.{length-planned, back-few, swap-next, swap
 use borrow.Author.Needs.{needs}
 use Rattle.axes.proofs.plans.Order.planned_swaps.Statement.{statement}
 use Rattle.axes.proofs.plans.Order.planned_swaps.Tie as tie
-use Rattle.axes.proofs.plans.Order.planned_swaps.Reads as reads
-use Rattle.axes.proofs.plans.Order.planned_swaps.Lts as lts
-use Rattle.axes.proofs.plans.Order.first_back.Reads as first-back-reads
-use Rattle.axes.proofs.plans.Order.relabel.Reads as relabel-reads
 
 abbrev Inv-loop : tie.InvT-loop
 Inv-loop n swaps₀ rest₀ i₀ swaps rest i =

@@ -11,9 +11,6 @@ use Rattle.axes.proofs.Front.{held, drop-end}
 use borrow.Author.Needs.{needs}
 use Rattle.axes.proofs.plans.Order.relabel.Statement.{statement}
 use Rattle.axes.proofs.plans.Order.relabel.Tie as tie
-use Rattle.axes.proofs.plans.Order.relabel.Reads as reads
-use Rattle.axes.proofs.plans.Order.relabel.Lts as lts
-use Rattle.axes.proofs.plans.exchanged_label.Reads as exchanged-label-reads
 
 abbrev Inv-loop : tie.InvT-loop
 Inv-loop k axes₀ i₀ axes i = (i ≤ 4) × (axes ≡ tab i (λ j. relabelled k (getD axes₀ j 0)) ++ drop i axes₀)

@@ -1,16 +1,14 @@
 -- `axes::plans::Order::under_from` meets its contract. The loop's invariant: the count so far and the count of the rest give the count.
-use mathlib.Core.Path.{_≡_, refl, sym, ap, _∙_}
+use mathlib.Core.Path.{_≡_, refl, ap, _∙_}
 use mathlib.Core.Logic.{⊎-elim}
-use Prim.Native.Nat.{ℕ, _+_, _≤_, _-_}
+use Prim.Native.Nat.{_+_, _≤_, _-_}
 use native.Mathlib.Omega.{arith}
-use lib.ListN.{drop, length, getD}
+use lib.ListN.{drop, length}
 use Rattle.orders.specs.Plans.{under}
 use Rattle.axes.proofs.Front.{held, under-here, under-past, drop-end}
 use borrow.Author.Needs.{needs}
 use Rattle.axes.proofs.plans.Order.under_from.Statement.{statement}
 use Rattle.axes.proofs.plans.Order.under_from.Tie as tie
-use Rattle.axes.proofs.plans.Order.under_from.Reads as reads
-use Rattle.axes.proofs.plans.Order.under_from.Lts as lts
 
 abbrev Inv-loop : tie.InvT-loop
 Inv-loop axis start self count₀ k₀ count k = (start ≤ k) × (k ≤ 4) × (count ≤ k) × (count + under axis (drop k (self .axes)) ≡ under axis (drop start (self .axes)))

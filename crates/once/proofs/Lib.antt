@@ -1,0 +1,4 @@
+pub mod Flat
+pub mod Axes
+pub mod Sheets
+pub mod Methods

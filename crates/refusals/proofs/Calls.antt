@@ -1,0 +1,26 @@
+-- Every list of checks has numbers that refuse, so the laws of `firstOf` hold of every call: 0 exactly when none of its
+-- conditions holds.
+use mathlib.Core.List.{List}
+use mathlib.Core.Logic.{_↔_}
+use mathlib.Core.Path.{_≡_}
+use Prim.Native.Nat.{ℕ}
+use lib.Dec.{lit<}
+use Rattle.refusals.specs.FirstOf.{firstOf}
+use Rattle.refusals.specs.Calls.{passesChecks, recursionChecks, chainChecks, requestChecks, planChecks}
+use Rattle.refusals.proofs.FirstOf.{Silent, accepted-exactly}
+use Rattle.refusals.proofs.FirstOf.Refusing.{none, more}
+
+pub passes-accepted : (ds b s : List ℕ) → (firstOf (passesChecks ds b s) ≡ 0) ↔ Silent (passesChecks ds b s)
+passes-accepted ds b s = accepted-exactly (more (lit< tt) (more (lit< tt) (more (lit< tt) (more (lit< tt) none))))
+
+pub recursion-accepted : (ds b : List ℕ) → (firstOf (recursionChecks ds b) ≡ 0) ↔ Silent (recursionChecks ds b)
+recursion-accepted ds b = accepted-exactly (more (lit< tt) (more (lit< tt) (more (lit< tt) none)))
+
+pub chain-accepted : (ds b s chain : List ℕ) → (firstOf (chainChecks ds b s chain) ≡ 0) ↔ Silent (chainChecks ds b s chain)
+chain-accepted ds b s chain = accepted-exactly (more (lit< tt) (more (lit< tt) (more (lit< tt) (more (lit< tt) (more (lit< tt) (more (lit< tt) none))))))
+
+pub request-accepted : (ds b s : List ℕ) (order : ℕ) → (firstOf (requestChecks ds b s order) ≡ 0) ↔ Silent (requestChecks ds b s order)
+request-accepted ds b s order = accepted-exactly (more (lit< tt) (more (lit< tt) (more (lit< tt) (more (lit< tt) (more (lit< tt) (more (lit< tt) none))))))
+
+pub plan-accepted : (order : ℕ) → (firstOf (planChecks order) ≡ 0) ↔ Silent (planChecks order)
+plan-accepted order = accepted-exactly (more (lit< tt) (more (lit< tt) none))
