@@ -1,0 +1,25 @@
+-- The records of the C interface read as those of the calls below, field by field. Assumes nothing: these are definitions.
+use Rattle.axes.specs.declared.Answer.{Answer as Below-Answer}
+use Rattle.axes.specs.declared.Planned.{Planned as Below-Planned}
+use Rattle.sheet.specs.declared.Sheet.{Sheet as Below-Sheet}
+use Rattle.sheet.specs.declared.Written.{Written as Below-Written}
+use Rattle.exports.specs.declared.Answer.{Answer}
+use Rattle.exports.specs.declared.Planned.{Planned}
+use Rattle.exports.specs.declared.Sheet.{Sheet}
+use Rattle.exports.specs.declared.Written.{Written}
+
+-- what a chain or a direct request answers
+abbrev pub answered : Answer → Below-Answer
+answered r = record { number = r .number; place = r .place; lens = r .lens; order = r .order; swaps = r .swaps }
+
+-- what the plan for an order answers
+abbrev pub planned : Planned → Below-Planned
+planned r = record { number = r .number; swaps = r .swaps; len = r .len }
+
+-- what the sheet reader answers
+abbrev pub sheetRead : Sheet → Below-Sheet
+sheetRead r = record { number = r .number; place = r .place; lens = r .lens; swaps = r .swaps; count = r .count }
+
+-- what the sheet writer answers
+abbrev pub sheetWritten : Written → Below-Written
+sheetWritten r = record { number = r .number; count = r .count }

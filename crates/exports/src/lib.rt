@@ -1,0 +1,165 @@
+// The C interface: each public call under a C name, with the promise of the call below it.
+ghost use Rattle.passes.specs.Promises.{TurnPromise, TurnBackPromise};
+ghost use Rattle.halves.specs.Promise.{TurnPromise as HalvesPromise};
+ghost use Rattle.axes.specs.Promises.{ChainPromise, RequestPromise, PlanPromise};
+ghost use Rattle.sheet.specs.Reader.{ReadAs};
+ghost use Rattle.sheet.specs.Writer.{WrittenAs};
+ghost use Rattle.exports.specs.Records.{answered, planned, sheetRead, sheetWritten};
+
+// The lengths of four axes, last axis fastest.
+#[repr(C)]
+pub struct Shape {
+    pub lens: [usize; 4],
+}
+
+// What a call on a block of four axes answers.
+#[repr(C)]
+pub struct Answer {
+    pub number: u32,
+    pub place: usize,
+    pub lens: [usize; 4],
+    pub order: usize,
+    pub swaps: usize,
+}
+
+// What the plan for an order answers.
+#[repr(C)]
+pub struct Planned {
+    pub number: u32,
+    pub swaps: [usize; 6],
+    pub len: usize,
+}
+
+// What the sheet reader answers.
+#[repr(C)]
+pub struct Sheet {
+    pub number: u32,
+    pub place: usize,
+    pub lens: [usize; 4],
+    pub swaps: [usize; 32],
+    pub count: usize,
+}
+
+// What the sheet writer answers.
+#[repr(C)]
+pub struct Written {
+    pub number: u32,
+    pub count: usize,
+}
+
+// The flat turn of m by n by passes.
+#[no_mangle]
+pub extern "C" fn zib_turn(buf: &mut [u32], scratch: &mut [u32], m: usize, n: usize) -> u32
+    ensures { λ r. ⌜ TurnPromise m n (now (buf .entry)) (now (scratch .entry)) r (now (buf .exit)) (now (scratch .exit)) ⌝ }
+{
+    passes::turn(buf, scratch, m, n)
+}
+
+// The reverse of the flat turn of m by n, by passes.
+#[no_mangle]
+pub extern "C" fn zib_turn_back(buf: &mut [u32], scratch: &mut [u32], m: usize, n: usize) -> u32
+    ensures { λ r. ⌜ TurnBackPromise m n (now (buf .entry)) (now (scratch .entry)) r (now (buf .exit)) (now (scratch .exit)) ⌝ }
+{
+    passes::turn_back(buf, scratch, m, n)
+}
+
+// The flat turn of m by n by recursion, with no scratch.
+#[no_mangle]
+pub extern "C" fn zib_turn_halves(buf: &mut [u32], m: usize, n: usize) -> u32
+    ensures { λ r. ⌜ HalvesPromise m n (now (buf .entry)) r (now (buf .exit)) ⌝ }
+{
+    halves::turn(buf, m, n)
+}
+
+// A chain of swaps on a block of four axes.
+#[no_mangle]
+pub extern "C" fn zib_chain(
+    buf: &mut [u32],
+    scratch: &mut [u32],
+    shape: Shape,
+    swaps: &[usize],
+) -> Answer
+    ensures { λ r. ⌜ ChainPromise (shape .lens) (now (swaps .entry)) (now (buf .entry)) (now (scratch .entry)) (answered r) (now (buf .exit)) (now (scratch .exit)) ⌝ }
+{
+    let entry = shape.lens;
+    let a = axes::chain(buf, scratch, axes::Shape { lens: entry }, swaps);
+    let lens = a.lens;
+    Answer {
+        number: a.number,
+        place: a.place,
+        lens: lens,
+        order: a.order,
+        swaps: a.swaps,
+    }
+}
+
+// The direct request for an order of four axes, by its number.
+#[no_mangle]
+pub extern "C" fn zib_request(
+    buf: &mut [u32],
+    scratch: &mut [u32],
+    shape: Shape,
+    order: usize,
+) -> Answer
+    ensures { λ r. ⌜ RequestPromise (shape .lens) order (now (buf .entry)) (now (scratch .entry)) (answered r) (now (buf .exit)) (now (scratch .exit)) ⌝ }
+{
+    let entry = shape.lens;
+    let a = axes::request(buf, scratch, axes::Shape { lens: entry }, order);
+    let lens = a.lens;
+    Answer {
+        number: a.number,
+        place: a.place,
+        lens: lens,
+        order: a.order,
+        swaps: a.swaps,
+    }
+}
+
+// The plan for an order.
+#[no_mangle]
+pub extern "C" fn zib_plan(order: usize) -> Planned
+    ensures { λ r. ⌜ PlanPromise order (planned r) ⌝ }
+{
+    let p = axes::plan(order);
+    let swaps = p.swaps;
+    Planned {
+        number: p.number,
+        swaps: swaps,
+        len: p.len,
+    }
+}
+
+// Reads a sheet into a word buffer.
+#[no_mangle]
+pub extern "C" fn zib_read_sheet(bytes: &[u8], words: &mut [u32]) -> Sheet
+    ensures { λ r. ⌜ ReadAs (now (words .entry)) (now (bytes .entry)) (sheetRead r) (now (words .exit)) ⌝ }
+{
+    let s = sheet::read(bytes, words);
+    let lens = s.lens;
+    let swaps = s.swaps;
+    Sheet {
+        number: s.number,
+        place: s.place,
+        lens: lens,
+        swaps: swaps,
+        count: s.count,
+    }
+}
+
+// Writes the result sheet of a block into a byte buffer.
+#[no_mangle]
+pub extern "C" fn zib_write_sheet(
+    shape: Shape,
+    order: usize,
+    words: &[u32],
+    out: &mut [u8],
+) -> Written
+    ensures { λ r. ⌜ WrittenAs (shape .lens) order (now (words .entry)) (now (out .entry)) (sheetWritten r) (now (out .exit)) ⌝ }
+{
+    let lens = shape.lens;
+    let w = sheet::write(lens, order, words, out);
+    Written {
+        number: w.number,
+        count: w.count,
+    }
+}

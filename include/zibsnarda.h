@@ -1,0 +1,141 @@
+/*
+ * Zibsnarda: blocks of 32-bit words rearranged within their buffer.
+ *
+ * The archive is for x86-64. Its calls are proved for slices that are there and lie apart, so a caller
+ * sees to three things that no call can test:
+ *   - each pointer is aligned, not null, and leads to as many elements as the length beside it says;
+ *   - buffer and scratch of one call do not overlap, nor does a part that is only read overlap one that is written;
+ *   - nobody else writes to them during the call.
+ * Everything else is tested. A refused call says why by its number and leaves all buffers unchanged.
+ * No call allocates, keeps a pointer, or reads or writes anything besides what it is lent.
+ *
+ * Sides and lengths are 1 to 4,096; a block has at most 1,048,576 words, from the first word of the buffer on.
+ * A buffer may be longer than the block and scratch longer than needed: what lies past them stays unchanged.
+ */
+#ifndef ZIBSNARDA_H
+#define ZIBSNARDA_H
+
+#include <stddef.h>
+#include <stdint.h>
+
+#ifdef __cplusplus
+extern "C" {
+#endif
+
+/* The numbers that come back. */
+enum {
+    ZIB_ACCEPTED = 0,
+    ZIB_BAD_LENGTH = 1,     /* an axis length is 0 or above 4,096 */
+    ZIB_TOO_MANY_WORDS = 2, /* the lengths multiply to more than 1,048,576 */
+    ZIB_SHORT_BUFFER = 3,   /* the buffer has fewer words than the block */
+    ZIB_SHORT_SCRATCH = 4,  /* scratch has fewer words than the longest axis */
+    ZIB_LONG_CHAIN = 5,     /* the chain has more than 32 swaps */
+    ZIB_BAD_SWAP = 6,       /* a swap number is above 2; place is the first such, from 0 */
+    ZIB_BAD_ORDER = 7,      /* the order number is above 23 */
+    ZIB_LONG_PLAN = 8,      /* the plan of the order has more than six swaps; no order of four axes has */
+    ZIB_LONG_SHEET = 9,     /* a sheet has more than 16,384 bytes */
+    ZIB_BAD_LINE = 10,      /* a sheet line is malformed, missing or left over; place is its line number, from 1 */
+    ZIB_LARGE_SHEET = 11,   /* a sheet's lengths multiply to more than 1,024 */
+    ZIB_SHORT_BYTES = 24    /* the byte buffer is shorter than the result sheet */
+};
+
+/*
+ * Turns the block of m rows and n columns: the word at j*m+i is then the one that stood at i*n+j.
+ * Scratch has at least max(m, n) words; that many first words of it are zero afterwards.
+ * Answers 0, or the first of 1, 2, 3, 4 that holds.
+ */
+uint32_t zib_turn(uint32_t *buffer, size_t buffer_words, uint32_t *scratch, size_t scratch_words, size_t m, size_t n);
+
+/*
+ * Undoes zib_turn with the same m and n: the word at i*n+j is then the one that stood at j*m+i.
+ * Scratch and answers are those of zib_turn.
+ */
+uint32_t zib_turn_back(uint32_t *buffer, size_t buffer_words, uint32_t *scratch, size_t scratch_words, size_t m, size_t n);
+
+/*
+ * Leaves the same words as zib_turn, by recursion and without scratch.
+ * Answers 0, or the first of 1, 2, 3 that holds.
+ */
+uint32_t zib_turn_halves(uint32_t *buffer, size_t buffer_words, size_t m, size_t n);
+
+/*
+ * Four axes. A block has axes 0 to 3 with these lengths, the last fastest. Swap k (0, 1 or 2) exchanges the axes at
+ * places k and k+1 of the shape as it then stands. An order lists which original axis stands at each place; orders are
+ * numbered 0 (axes 0123) to 23 (axes 3210) in dictionary order, and count from the shape that the call is given.
+ */
+struct zib_shape {
+    size_t lengths[4];
+};
+
+/* What a chain or a direct request answers. In a refusal all but number and place is 0; place is 0 unless number is 6. */
+struct zib_answer {
+    uint32_t number;
+    size_t place;
+    size_t lengths[4]; /* of the block as it now stands */
+    size_t order;      /* the number of the order in which its axes now stand */
+    size_t swaps;      /* how many were done */
+};
+
+/* A plan: the first `length` of six swap places; unused ones are 0, and so is everything besides the number in a refusal. */
+struct zib_planned {
+    uint32_t number;
+    size_t swaps[6];
+    size_t length;
+};
+
+/*
+ * Runs a chain of at most 32 swaps on a block. The swaps are only read.
+ * Scratch has at least as many words as the longest axis; that many first words of it are zero afterwards, also after
+ * an empty chain. Answers 0, or the first of 1, 2, 3, 4, 5, 6 that holds.
+ */
+struct zib_answer zib_chain(uint32_t *buffer, size_t buffer_words, uint32_t *scratch, size_t scratch_words, struct zib_shape shape,
+                            const size_t *swaps, size_t swap_count);
+
+/*
+ * Brings a block into the order with a number, by that order's plan. Scratch is as for zib_chain.
+ * Answers 0, or the first of 1, 2, 3, 4, 7, 8 that holds.
+ */
+struct zib_answer zib_request(uint32_t *buffer, size_t buffer_words, uint32_t *scratch, size_t scratch_words, struct zib_shape shape,
+                              size_t order);
+
+/* The shortest chain that names an order and, among the shortest, the first in dictionary order. Answers 0, 7 or 8. */
+struct zib_planned zib_plan(size_t order);
+
+/*
+ * Sheets: lines of text, fields parted by one tab, each line closed by one LF. `shape` and four lengths; `chain` and the
+ * swaps; then for each row `row` and its words. A result sheet has `order` and the order's number for its second line.
+ */
+
+/* What the reader answers: lengths, swaps (unused ones 0) and how many they are. In a refusal all but number and place is 0. */
+struct zib_sheet {
+    uint32_t number;
+    size_t place;
+    size_t lengths[4];
+    size_t swaps[32];
+    size_t length;
+};
+
+/* What the writer answers: how many bytes it wrote, 0 in a refusal. */
+struct zib_written {
+    uint32_t number;
+    size_t bytes;
+};
+
+/*
+ * Reads a sheet, which is only read, and stores its words from the start of the word buffer, if the whole sheet is right.
+ * Answers 0, or the first of 9, 10 (line 1), 1, 11, 3, 10 (line 2), 5, 6, 10 (each row, then what is left over).
+ */
+struct zib_sheet zib_read_sheet(const uint8_t *text, size_t text_bytes, uint32_t *words, size_t word_count);
+
+/*
+ * Writes the result sheet of a block with these lengths from the start of the byte buffer; bytes after it stay.
+ * The words are only read. 16,384 bytes always suffice. Answers 0, or the first of 1, 11, 3, 7, 24 that holds.
+ */
+struct zib_written zib_write_sheet(struct zib_shape shape, size_t order, const uint32_t *words, size_t word_count, uint8_t *text,
+                                   size_t text_bytes);
+
+#ifdef __cplusplus
+}
+#endif
+
+#endif

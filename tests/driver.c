@@ -1,0 +1,209 @@
+/*
+ * Calls the archive for the test program: reads requests on standard input, writes answers on standard output.
+ *
+ * A request is 64-bit numbers: call, side, count of numbers, the numbers, count of buffers, then for each buffer its
+ * length in bytes and whether the call may write to it; the buffers' bytes follow, one after another.
+ * The answer is the count of numbers, the numbers, and the bytes of all buffers as the call left them.
+ *
+ * Every buffer lies against a page that nobody may touch: its end (side 0) or its start (side 1). A read or a write
+ * past it kills this program, and so does a write to a buffer that is lent for reading.
+ */
+#define _GNU_SOURCE
+#include <stdio.h>
+#include <stdlib.h>
+#include <string.h>
+#include <sys/mman.h>
+#include <unistd.h>
+
+#include "zibsnarda.h"
+
+/* Under valgrind no byte outside the lent ones may be touched, on either side; see tests/sanitised. */
+#ifdef WATCHED
+#include <valgrind/memcheck.h>
+#define CLOSE_ROOM(k) VALGRIND_MAKE_MEM_NOACCESS(buffers[k].room, ROOM)
+#define OPEN_LENT(k) VALGRIND_MAKE_MEM_UNDEFINED(buffers[k].at, buffers[k].bytes)
+#else
+#define CLOSE_ROOM(k) (void)(k)
+#define OPEN_LENT(k) (void)(k)
+#endif
+
+enum { MOST_BUFFERS = 4, MOST_NUMBERS = 64 };
+enum { ROOM = 5 << 20 }; /* the largest block is 4 MiB; a tail comes on top */
+
+enum {
+    TURN = 1,
+    TURN_BACK = 2,
+    TURN_HALVES = 3,
+    CHAIN = 4,
+    REQUEST = 5,
+    PLAN = 6,
+    READ_SHEET = 7,
+    WRITE_SHEET = 8,
+    /* these touch what they must not, to show that the guards bite */
+    WRITE_PAST_END = 100,
+    READ_PAST_END = 101,
+    WRITE_BEFORE_START = 102,
+    WRITE_TO_LENT = 103
+};
+
+struct buffer {
+    unsigned char *room; /* ROOM bytes between two guard pages */
+    unsigned char *at;   /* where the lent bytes stand */
+    uint64_t bytes;
+    uint64_t writable;
+};
+
+static struct buffer buffers[MOST_BUFFERS];
+static uint64_t numbers[MOST_NUMBERS];
+static uint64_t answer[MOST_NUMBERS];
+static uint64_t answered;
+
+static void fail(const char *why) {
+    fprintf(stderr, "driver: %s\n", why);
+    exit(2);
+}
+
+static void get(void *to, size_t bytes) {
+    if (bytes != 0 && fread(to, 1, bytes, stdin) != bytes) fail("a request ends early");
+}
+
+static void put(const void *from, size_t bytes) {
+    if (bytes != 0 && fwrite(from, 1, bytes, stdout) != bytes) fail("cannot write");
+}
+
+static uint64_t get_number(void) {
+    uint64_t v;
+    get(&v, sizeof v);
+    return v;
+}
+
+static void give(uint64_t v) { answer[answered++] = v; }
+
+static uint32_t *words(int k) { return (uint32_t *)buffers[k].at; }
+static size_t word_count(int k) { return buffers[k].bytes / sizeof(uint32_t); }
+
+static void give_all(const size_t *from, size_t count) {
+    for (size_t k = 0; k < count; k++) give(from[k]);
+}
+
+static void give_answer(struct zib_answer a) {
+    give(a.number);
+    give(a.place);
+    give_all(a.lengths, 4);
+    give(a.order);
+    give(a.swaps);
+}
+
+static void give_plan(struct zib_planned p) {
+    give(p.number);
+    give_all(p.swaps, 6);
+    give(p.length);
+}
+
+static void give_sheet(struct zib_sheet s) {
+    give(s.number);
+    give(s.place);
+    give_all(s.lengths, 4);
+    give_all(s.swaps, 32);
+    give(s.length);
+}
+
+static void give_written(struct zib_written w) {
+    give(w.number);
+    give(w.bytes);
+}
+
+static void make_rooms(void) {
+    size_t page = (size_t)sysconf(_SC_PAGESIZE);
+    for (int k = 0; k < MOST_BUFFERS; k++) {
+        unsigned char *all = mmap(NULL, ROOM + 2 * page, PROT_NONE, MAP_PRIVATE | MAP_ANONYMOUS, -1, 0);
+        if (all == MAP_FAILED) fail("no memory");
+        buffers[k].room = all + page;
+        if (mprotect(buffers[k].room, ROOM, PROT_READ | PROT_WRITE) != 0) fail("mprotect");
+    }
+}
+
+static void read_request(uint64_t side) {
+    uint64_t count = get_number();
+    if (count > MOST_NUMBERS) fail("too many numbers");
+    get(numbers, count * sizeof numbers[0]);
+    count = get_number();
+    if (count > MOST_BUFFERS) fail("too many buffers");
+    for (uint64_t k = 0; k < MOST_BUFFERS; k++) buffers[k].bytes = 0;
+    for (uint64_t k = 0; k < count; k++) {
+        buffers[k].bytes = get_number();
+        buffers[k].writable = get_number();
+        if (buffers[k].bytes > ROOM) fail("a buffer is too large");
+        buffers[k].at = side == 0 ? buffers[k].room + ROOM - buffers[k].bytes : buffers[k].room;
+        CLOSE_ROOM(k);
+        OPEN_LENT(k);
+    }
+    for (uint64_t k = 0; k < count; k++) get(buffers[k].at, buffers[k].bytes);
+}
+
+static void protect(int prot) {
+    for (int k = 0; k < MOST_BUFFERS; k++)
+        if (buffers[k].bytes != 0 && !buffers[k].writable && mprotect(buffers[k].room, ROOM, prot) != 0) fail("mprotect");
+}
+
+static void run(uint64_t call) {
+    volatile unsigned char *at = buffers[0].at;
+    struct zib_shape shape = {{numbers[0], numbers[1], numbers[2], numbers[3]}};
+    switch (call) {
+    case TURN:
+        give(zib_turn(words(0), word_count(0), words(1), word_count(1), numbers[0], numbers[1]));
+        break;
+    case TURN_BACK:
+        give(zib_turn_back(words(0), word_count(0), words(1), word_count(1), numbers[0], numbers[1]));
+        break;
+    case TURN_HALVES:
+        give(zib_turn_halves(words(0), word_count(0), numbers[0], numbers[1]));
+        break;
+    case CHAIN:
+        give_answer(zib_chain(words(0), word_count(0), words(1), word_count(1), shape, (size_t *)buffers[2].at, buffers[2].bytes / sizeof(size_t)));
+        break;
+    case REQUEST:
+        give_answer(zib_request(words(0), word_count(0), words(1), word_count(1), shape, numbers[4]));
+        break;
+    case PLAN:
+        give_plan(zib_plan(numbers[0]));
+        break;
+    case READ_SHEET:
+        give_sheet(zib_read_sheet(buffers[0].at, buffers[0].bytes, words(1), word_count(1)));
+        break;
+    case WRITE_SHEET:
+        give_written(zib_write_sheet(shape, numbers[4], words(0), word_count(0), buffers[1].at, buffers[1].bytes));
+        break;
+    case WRITE_PAST_END:
+        at[buffers[0].bytes] = 1;
+        break;
+    case READ_PAST_END:
+        give(at[buffers[0].bytes]);
+        break;
+    case WRITE_BEFORE_START:
+        at[-1] = 1;
+        break;
+    case WRITE_TO_LENT:
+        at[0] = 1;
+        break;
+    default:
+        fail("no such call");
+    }
+}
+
+int main(void) {
+    uint64_t call;
+    make_rooms();
+    while (fread(&call, sizeof call, 1, stdin) == 1) {
+        read_request(get_number());
+        answered = 0;
+        protect(PROT_READ);
+        run(call);
+        protect(PROT_READ | PROT_WRITE);
+        put(&answered, sizeof answered);
+        put(answer, answered * sizeof answer[0]);
+        for (int k = 0; k < MOST_BUFFERS; k++) put(buffers[k].at, buffers[k].bytes);
+        if (fflush(stdout) != 0) fail("cannot write");
+    }
+    return 0;
+}

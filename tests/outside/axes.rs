@@ -1,0 +1,292 @@
+// Four axes: chains, direct requests and plans.
+use crate::bench::Bench;
+use crate::driver::{sizes, words, Answer, Request, CHAIN, PLAN, REQUEST};
+use crate::random::Random;
+use crate::reference::{cleared, first, laid, longest, named, number_of, orders, plan, reordered, scratch_checks, volume};
+
+type Lengths = [u64; 4];
+
+// What a chain or a direct request answers: number, place, four lengths, order number, swaps done.
+fn answer(number: u64, place: u64, lengths: Lengths, order: u64, swaps: u64) -> Vec<u64> {
+    let mut all = vec![number, place];
+    all.extend(&lengths);
+    all.extend(&[order, swaps]);
+    all
+}
+
+// What stays and what moves: an order where the call is accepted, else nothing.
+fn outcome(numbers: Vec<u64>, lengths: Lengths, order: Option<[usize; 4]>, buffer: &[u32], scratch: &[u32]) -> Answer {
+    let buffers = match order {
+        Some(o) => vec![words(&laid(buffer, lengths, o)), words(&cleared(scratch, &lengths))],
+        None => vec![words(buffer), words(scratch)],
+    };
+    Answer { numbers, buffers }
+}
+
+fn chain_case(lengths: Lengths, chain: &[u64], buffer: &[u32], scratch: &[u32]) -> (Request, Answer) {
+    let mut checks = scratch_checks(&lengths, buffer.len(), scratch.len());
+    let bad = chain.iter().position(|&k| k > 2);
+    checks.push((5, chain.len() > 32));
+    checks.push((6, bad.is_some()));
+    let number = first(&checks);
+    let mut e = if number == 0 {
+        let order = named(chain);
+        let told = answer(0, 0, reordered(lengths, order), number_of(order), chain.len() as u64);
+        outcome(told, lengths, Some(order), buffer, scratch)
+    } else {
+        let place = if number == 6 { bad.unwrap() as u64 } else { 0 };
+        outcome(answer(number, place, [0; 4], 0, 0), lengths, None, buffer, scratch)
+    };
+    let lent = sizes(chain).read_only();
+    e.buffers.push(lent.clone());
+    let q = Request { call: CHAIN, numbers: lengths.to_vec(), buffers: vec![words(buffer), words(scratch), lent] };
+    (q, e)
+}
+
+fn request_case(lengths: Lengths, asked: u64, buffer: &[u32], scratch: &[u32]) -> (Request, Answer) {
+    let mut checks = scratch_checks(&lengths, buffer.len(), scratch.len());
+    checks.push((7, asked > 23));
+    let number = first(&checks);
+    let e = if number == 0 {
+        let order = orders()[asked as usize];
+        let told = answer(0, 0, reordered(lengths, order), asked, plan(order).len() as u64);
+        outcome(told, lengths, Some(order), buffer, scratch)
+    } else {
+        outcome(answer(number, 0, [0; 4], 0, 0), lengths, None, buffer, scratch)
+    };
+    let mut numbers = lengths.to_vec();
+    numbers.push(asked);
+    let q = Request { call: REQUEST, numbers, buffers: vec![words(buffer), words(scratch)] };
+    (q, e)
+}
+
+fn try_chain(t: &mut Bench, lengths: Lengths, chain: &[u64], buffer: &[u32], scratch: &[u32]) {
+    let (q, e) = chain_case(lengths, chain, buffer, scratch);
+    t.expect_both(&q, &e, || {
+        format!("chain {:?} on {:?}, {} words, scratch {}", chain, lengths, buffer.len(), scratch.len())
+    });
+}
+
+fn try_request(t: &mut Bench, lengths: Lengths, asked: u64, buffer: &[u32], scratch: &[u32]) {
+    let (q, e) = request_case(lengths, asked, buffer, scratch);
+    t.expect_both(&q, &e, || {
+        format!("order {} of {:?}, {} words, scratch {}", asked, lengths, buffer.len(), scratch.len())
+    });
+}
+
+// Buffer and scratch for a shape, longer than needed by the tail.
+fn lent(r: &mut Random, lengths: Lengths, tail: u64) -> (Vec<u32>, Vec<u32>) {
+    let buffer = r.words(volume(&lengths) as usize + tail as usize);
+    let scratch = r.words((longest(&lengths) + tail) as usize);
+    (buffer, scratch)
+}
+
+fn random_chain(r: &mut Random, length: u64) -> Vec<u64> {
+    (0..length).map(|_| r.below(3)).collect()
+}
+
+fn random_shape(r: &mut Random, side: u64) -> Lengths {
+    [r.within(1, side), r.within(1, side), r.within(1, side), r.within(1, side)]
+}
+
+// Plans for every number at and around the bound, against brute force.
+fn plans(t: &mut Bench) {
+    let beyond = [24, 25, 255, 256, 1 << 16, 1 << 32, u64::MAX];
+    for asked in (0..24).chain(beyond.iter().copied()) {
+        let chain = if asked < 24 { plan(orders()[asked as usize]) } else { Vec::new() };
+        let mut numbers = vec![if asked < 24 { 0 } else { 7 }];
+        numbers.extend((0..6).map(|k| chain.get(k).copied().unwrap_or(0)));
+        numbers.push(chain.len() as u64);
+        let q = Request { call: PLAN, numbers: vec![asked], buffers: vec![] };
+        t.expect_both(&q, &Answer { numbers, buffers: vec![] }, || format!("plan of {}", asked));
+    }
+    t.group("plans against brute force");
+}
+
+// Every order of every shape with sides up to four, and of larger ones, by request and by its plan's chain.
+fn every_order(t: &mut Bench, r: &mut Random) {
+    let side = if t.short { 2 } else { 4 };
+    let mut shapes: Vec<Lengths> = Vec::new();
+    for code in 0..side * side * side * side {
+        shapes.push([1 + code / (side * side * side), 1 + code / (side * side) % side, 1 + code / side % side, 1 + code % side]);
+    }
+    shapes.extend([[5, 7, 6, 9], [64, 4, 4, 4], [3, 2, 64, 16], [1, 64, 15, 1], [4096, 1, 2, 3], [1, 1, 64, 15]]);
+    if !t.short {
+        shapes.extend([[32, 32, 32, 32], [4096, 1, 1, 256], [2, 1000, 1, 500]]);
+    }
+    for lengths in shapes {
+        let tail = r.below(3);
+        let (buffer, scratch) = lent(r, lengths, tail);
+        for asked in 0..24 {
+            try_request(t, lengths, asked, &buffer, &scratch);
+            let chain = plan(orders()[asked as usize]);
+            try_chain(t, lengths, &chain, &buffer, &scratch);
+        }
+    }
+    t.group("every order of many shapes, by request and by chain");
+}
+
+fn random_chains(t: &mut Bench, r: &mut Random) {
+    for _ in 0..if t.short { 100 } else { 2000 } {
+        let lengths = random_shape(r, 9);
+        let tail = r.below(4);
+        let (buffer, scratch) = lent(r, lengths, tail);
+        let length = r.below(33);
+        let chain = random_chain(r, length);
+        try_chain(t, lengths, &chain, &buffer, &scratch);
+    }
+    t.group("random chains up to 32 swaps");
+}
+
+// One chain after another is their joining, and a chain run backwards brings every word home.
+fn joined(t: &mut Bench, r: &mut Random) {
+    for _ in 0..if t.short { 50 } else { 500 } {
+        let lengths = random_shape(r, 8);
+        let (buffer, scratch) = lent(r, lengths, 2);
+        let lengths_of = [r.below(17), r.below(17)];
+        let one = random_chain(r, lengths_of[0]);
+        let two = random_chain(r, lengths_of[1]);
+        let back: Vec<u64> = one.iter().rev().copied().collect();
+        let both: Vec<u64> = one.iter().chain(&two).copied().collect();
+        let run = |t: &mut Bench, lengths: &[u64], chain: &[u64], lent: Vec<crate::driver::Buffer>| {
+            let mut buffers = lent[..2].to_vec();
+            buffers.push(sizes(chain).read_only());
+            t.driver.ask(0, &Request { call: CHAIN, numbers: lengths.to_vec(), buffers })
+        };
+        let start = vec![words(&buffer), words(&scratch)];
+        let ends = run(t, &lengths, &one, start.clone()).and_then(|a| {
+            let shape = a.numbers[2..6].to_vec();
+            let joined = run(t, &shape, &two, a.buffers.clone())?;
+            let at_once = run(t, &lengths, &both, start.clone())?;
+            let home = run(t, &shape, &back, a.buffers)?;
+            Ok((joined, at_once, home))
+        });
+        let ok = ends.map_or((false, false), |(joined, at_once, home)| {
+            let same = joined.buffers[0] == at_once.buffers[0] && joined.numbers[2..6] == at_once.numbers[2..6];
+            (same, home.buffers[0] == start[0] && home.numbers[2..6] == lengths)
+        });
+        t.verdict(ok.0, || format!("{:?} then {:?} on {:?}", one, two, lengths));
+        t.verdict(ok.1, || format!("{:?} and back on {:?}", one, lengths));
+    }
+    t.group("chains joined and run backwards");
+}
+
+// Every set of the checks 1 to 6, and of 1 to 4 and 7: each alone, each pair, and more.
+fn check_sets(t: &mut Bench, r: &mut Random) {
+    for set in 0..64 {
+        let holds = |k: u32| set & (1 << k) != 0;
+        let shapes: &[Lengths] = match (holds(0), holds(1)) {
+            (false, false) => &[[2, 3, 4, 5], [1, 1, 1, 1]],
+            (false, true) => &[[1024, 1, 1025, 1], [4096, 4096, 4096, 4096], [33, 32, 32, 32]],
+            (true, false) => &[[0, 3, 4, 5], [2, 3, 4, 0], [1, 4097, 1, 1], [2, 0, 4097, 1]],
+            (true, true) => &[[4097, 4096, 1, 1], [u64::MAX, u64::MAX, u64::MAX, u64::MAX], [1 << 32, 1 << 32, 1, 1]],
+        };
+        for &lengths in shapes {
+            let block = volume(&lengths).min(1_060_000) as usize;
+            let side = longest(&lengths).min(5000) as usize;
+            if holds(2) && block == 0 {
+                continue;
+            }
+            let buffer = r.words(if holds(2) { block - 1 } else { block });
+            let scratch = r.words(if holds(3) { side - 1 } else { side });
+            let mut chain = random_chain(r, if holds(4) { 33 } else { 32 });
+            if holds(5) {
+                let place = r.below(32) as usize;
+                chain[place] = r.pick(&[3, 4, 255, 256, 65_536, 1 << 32, u64::MAX]);
+            }
+            try_chain(t, lengths, &chain, &buffer, &scratch);
+            try_request(t, lengths, if holds(5) { 24 } else { 23 }, &buffer, &scratch);
+        }
+    }
+    t.group("four-axis refusals: each check alone, each pair and every larger set");
+}
+
+// Buffers and scratch short by one, exact and longer; chains of 0, 31, 32, 33; one bad swap at every place.
+fn bounds(t: &mut Bench, r: &mut Random) {
+    for &lengths in &[[1, 1, 1, 1], [2, 3, 4, 5], [1, 1, 1, 4096], [4096, 1, 1, 1], [4096, 1, 1, 1 + 1]] {
+        let (block, side) = (volume(&lengths) as usize, longest(&lengths) as usize);
+        for &b in &[0, block - 1, block, block + 1] {
+            for &s in &[0, side - 1, side, side + 1] {
+                let (buffer, scratch) = (r.words(b), r.words(s));
+                for &length in &[0, 1, 31, 32, 33, 40] {
+                    let chain = random_chain(r, length);
+                    try_chain(t, lengths, &chain, &buffer, &scratch);
+                }
+                for &asked in &[0, 1, 23, 24, u64::MAX] {
+                    try_request(t, lengths, asked, &buffer, &scratch);
+                }
+            }
+        }
+    }
+    let lengths = [2, 3, 4, 5];
+    let (buffer, scratch) = lent(r, lengths, 0);
+    for place in 0..33 {
+        for &bad in &[3, 256, 65_536, 1 << 32, u64::MAX] {
+            let mut chain = random_chain(r, if place == 32 { 33 } else { 32 });
+            chain[place] = bad;
+            try_chain(t, lengths, &chain, &buffer, &scratch);
+        }
+    }
+    for &side in &[0, 1, 4096, 4097, 1 << 32, u64::MAX] {
+        for place in 0..4 {
+            let mut lengths = [1, 1, 1, 1];
+            lengths[place] = side;
+            let (buffer, scratch) = (r.words(4096), r.words(4096));
+            try_chain(t, lengths, &[place as u64 % 3], &buffer, &scratch);
+            try_request(t, lengths, 23, &buffer, &scratch);
+        }
+    }
+    t.group("four-axis bounds: sides, buffers, scratch, chains");
+}
+
+// The whole limit, and one past it, over four axes.
+fn largest(t: &mut Bench, r: &mut Random) {
+    let buffer = r.words(1_048_576);
+    let scratch = r.words(4096);
+    for &lengths in &[[1024, 4, 16, 16], [32, 32, 32, 32], [4096, 1, 1, 256], [1024, 1, 1025, 1], [32, 32, 32, 33]] {
+        try_chain(t, lengths, &[0, 2, 1], &buffer, &scratch);
+        try_request(t, lengths, 9, &buffer, &scratch);
+        try_request(t, lengths, 18, &buffer, &scratch);
+    }
+    t.group("four axes at the largest block and just above");
+}
+
+// The benches of document 01 about chains and plans, with their values written out.
+fn benches(t: &mut Bench, r: &mut Random) {
+    let plans: [(u64, &[u64]); 5] = [(0, &[]), (9, &[0, 1, 2]), (18, &[2, 1, 0]), (16, &[1, 0, 2, 1]), (23, &[0, 1, 0, 2, 1, 0])];
+    for &(order, chain) in &plans {
+        t.verdict(plan(orders()[order as usize]) == chain, || format!("the reference plans order {} otherwise", order));
+    }
+    let listed: [(u64, [usize; 4]); 8] = [
+        (0, [0, 1, 2, 3]), (1, [0, 1, 3, 2]), (2, [0, 2, 1, 3]), (6, [1, 0, 2, 3]),
+        (9, [1, 2, 3, 0]), (16, [2, 3, 0, 1]), (18, [3, 0, 1, 2]), (23, [3, 2, 1, 0]),
+    ];
+    for &(number, order) in &listed {
+        t.verdict(number_of(order) == number, || format!("the reference numbers {:?} otherwise", order));
+    }
+    let lengths = [2, 3, 2, 3];
+    let (buffer, scratch) = lent(r, lengths, 1);
+    try_chain(t, lengths, &[], &buffer, &scratch);
+    try_chain(t, lengths, &[1; 32], &buffer, &scratch);
+    try_chain(t, lengths, &[1; 33], &buffer, &scratch);
+    let mut with_three = [1; 33];
+    with_three[4] = 3;
+    try_chain(t, lengths, &with_three, &buffer, &scratch);
+    // equal lengths remain different axes
+    try_chain(t, [3, 3, 3, 3], &[0, 1, 2], &r.words(81), &r.words(3));
+    t.group("the four-axis benches of document 01");
+}
+
+pub fn all(t: &mut Bench, seed: u64) {
+    let mut r = Random::new(seed);
+    benches(t, &mut r);
+    plans(t);
+    every_order(t, &mut r);
+    random_chains(t, &mut r);
+    joined(t, &mut r);
+    check_sets(t, &mut r);
+    bounds(t, &mut r);
+    if !t.short {
+        largest(t, &mut r);
+    }
+}

@@ -1,0 +1,126 @@
+// Sheets as document 01 describes them, read and written by copying text.
+use crate::reference::{bad_length, first, reordered, volume};
+
+type Lengths = [u64; 4];
+
+pub const MOST_BYTES: usize = 16_384;
+pub const MOST_WORDS: u128 = 1024;
+
+#[derive(Clone, Debug, PartialEq)]
+pub struct Sheet {
+    pub lengths: Lengths,
+    pub chain: Vec<u64>,
+    pub words: Vec<u32>,
+}
+
+// A refusal: its number and its place.
+pub type Refusal = (u64, u64);
+
+// A number: digits alone, no leading zero, at most 4,294,967,295.
+fn number(field: &[u8]) -> Option<u64> {
+    let text = std::str::from_utf8(field).ok()?;
+    let digits = !text.is_empty() && text.bytes().all(|b| b.is_ascii_digit());
+    if !digits || (text.len() > 1 && text.starts_with('0')) || text.len() > 10 {
+        return None;
+    }
+    text.parse().ok().filter(|&v| v <= u32::MAX as u64)
+}
+
+// The numbers of a closed line that begins with a word.
+fn record(line: Option<&[u8]>, word: &str) -> Option<Vec<u64>> {
+    let line = line?;
+    let (&last, inner) = line.split_last()?;
+    if last != b'\n' {
+        return None;
+    }
+    let mut fields = inner.split(|&b| b == b'\t');
+    if fields.next()? != word.as_bytes() {
+        return None;
+    }
+    fields.map(number).collect()
+}
+
+pub fn read(text: &[u8], room: usize) -> Result<Sheet, Refusal> {
+    if text.len() > MOST_BYTES {
+        return Err((9, 0));
+    }
+    let mut lines = text.split_inclusive(|&b| b == b'\n');
+    let shape = record(lines.next(), "shape").filter(|v| v.len() == 4).ok_or((10, 1))?;
+    let lengths = [shape[0], shape[1], shape[2], shape[3]];
+    let number = first(&[
+        (1, bad_length(&lengths)),
+        (11, volume(&lengths) > MOST_WORDS),
+        (3, (room as u128) < volume(&lengths)),
+    ]);
+    if number != 0 {
+        return Err((number, 0));
+    }
+    let chain = record(lines.next(), "chain").ok_or((10, 2))?;
+    if chain.len() > 32 {
+        return Err((5, 0));
+    }
+    if let Some(place) = chain.iter().position(|&k| k > 2) {
+        return Err((6, place as u64));
+    }
+    let rows = lengths[0] * lengths[1] * lengths[2];
+    let mut words = Vec::new();
+    for row in 0..rows {
+        let line = record(lines.next(), "row").filter(|v| v.len() as u64 == lengths[3]).ok_or((10, 3 + row))?;
+        words.extend(line.iter().map(|&v| v as u32));
+    }
+    match lines.next() {
+        Some(_) => Err((10, 3 + rows)),
+        None => Ok(Sheet { lengths, chain, words }),
+    }
+}
+
+fn line(word: &str, values: impl Iterator<Item = u64>) -> String {
+    let mut text = word.to_string();
+    for v in values {
+        text += &format!("\t{}", v);
+    }
+    text + "\n"
+}
+
+fn rows(lengths: Lengths, words: &[u32]) -> String {
+    words.chunks(lengths[3] as usize).map(|row| line("row", row.iter().map(|&w| w as u64))).collect()
+}
+
+// The text of a sheet.
+pub fn sheet(s: &Sheet) -> Vec<u8> {
+    let head = line("shape", s.lengths.iter().copied()) + &line("chain", s.chain.iter().copied());
+    (head + &rows(s.lengths, &s.words)).into_bytes()
+}
+
+// The text of a result sheet.
+pub fn result(lengths: Lengths, order: u64, words: &[u32]) -> Vec<u8> {
+    let head = line("shape", lengths.iter().copied()) + &line("order", std::iter::once(order));
+    (head + &rows(lengths, &words[..volume(&lengths) as usize])).into_bytes()
+}
+
+// What the writer answers for a byte buffer of this length.
+pub fn write(lengths: Lengths, order: u64, words: &[u32], bytes: usize) -> Result<Vec<u8>, u64> {
+    let number = first(&[
+        (1, bad_length(&lengths)),
+        (11, volume(&lengths) > MOST_WORDS),
+        (3, (words.len() as u128) < volume(&lengths)),
+        (7, order > 23),
+    ]);
+    if number != 0 {
+        return Err(number);
+    }
+    let text = result(lengths, order, words);
+    if bytes < text.len() {
+        Err(24)
+    } else {
+        Ok(text)
+    }
+}
+
+// What a sheet comes to: read, run through its chain, written.
+pub fn job(text: &[u8]) -> Result<Vec<u8>, Refusal> {
+    let s = read(text, MOST_WORDS as usize)?;
+    let order = crate::reference::named(&s.chain);
+    let words = crate::reference::laid(&s.words, s.lengths, order);
+    Ok(result(reordered(s.lengths, order), crate::reference::number_of(order), &words))
+}
