@@ -134,6 +134,14 @@ struct zib_sheet zib_read_sheet(const uint8_t *text, size_t text_bytes, uint32_t
 struct zib_written zib_write_sheet(struct zib_shape shape, size_t order, const uint32_t *words, size_t word_count, uint8_t *text,
                                    size_t text_bytes);
 
+/*
+ * The whole job on a sheet, which is only read: its words, run through its chain, stand in `words` afterwards, and the
+ * text of the result sheet from the start of `out`. A refused sheet leaves words and scratch unchanged and writes one
+ * line: `refused`, number, place. `words` and `scratch` have 1,024 words each and `out` 16,384 bytes.
+ * Answers how many bytes the text has; bytes after it stay.
+ */
+size_t zib_job(const uint8_t *text, size_t text_bytes, uint32_t *words, uint32_t *scratch, uint8_t *out);
+
 #ifdef __cplusplus
 }
 #endif

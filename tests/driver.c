@@ -39,6 +39,7 @@ enum {
     PLAN = 6,
     READ_SHEET = 7,
     WRITE_SHEET = 8,
+    JOB = 9,
     /* these touch what they must not, to show that the guards bite */
     WRITE_PAST_END = 100,
     READ_PAST_END = 101,
@@ -173,6 +174,9 @@ static void run(uint64_t call) {
         break;
     case WRITE_SHEET:
         give_written(zib_write_sheet(shape, numbers[4], words(0), word_count(0), buffers[1].at, buffers[1].bytes));
+        break;
+    case JOB:
+        give(zib_job(buffers[0].at, buffers[0].bytes, words(1), words(2), buffers[3].at));
         break;
     case WRITE_PAST_END:
         at[buffers[0].bytes] = 1;

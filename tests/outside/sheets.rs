@@ -1,6 +1,6 @@
-// The sheet reader and the sheet writer, on right sheets and on damaged ones.
+// The sheet reader, the sheet writer and the whole job, on right sheets and on damaged ones.
 use crate::bench::Bench;
-use crate::driver::{bytes, sizes, words, Answer, Request, CHAIN, READ_SHEET, WRITE_SHEET};
+use crate::driver::{bytes, sizes, words, Answer, Request, CHAIN, JOB, READ_SHEET, WRITE_SHEET};
 use crate::random::Random;
 use crate::reference::{longest, volume};
 use crate::text::{job, read, result, sheet, write, Sheet, MOST_BYTES};
@@ -268,19 +268,46 @@ fn writes(t: &mut Bench, r: &mut Random) {
     t.group("writer refusals: each check alone, each pair and every larger set");
 }
 
-// A sheet read, run through its chain and written, call after call, gives the result sheet.
+fn try_job(t: &mut Bench, r: &mut Random, text: &[u8]) {
+    let (buffer, scratch, out) = (r.words(1024), r.words(1024), r.bytes(MOST_BYTES));
+    let (told, words_left, scratch_left) = job(text, &buffer, &scratch);
+    let mut left = out.clone();
+    left[..told.len()].copy_from_slice(&told);
+    let lent = bytes(text).read_only();
+    let q = Request { call: JOB, numbers: vec![], buffers: vec![lent.clone(), words(&buffer), words(&scratch), bytes(&out)] };
+    let e = Answer {
+        numbers: vec![told.len() as u64],
+        buffers: vec![lent, words(&words_left), words(&scratch_left), bytes(&left)],
+    };
+    t.expect_both(&q, &e, || format!("the job of {:?}", String::from_utf8_lossy(text)));
+}
+
+// The whole job in one call, on right sheets and on damaged ones.
 fn whole_jobs(t: &mut Bench, r: &mut Random) {
-    let example = b"shape\t1\t1\t2\t3\nchain\t2\nrow\t1\t2\t3\nrow\t4\t5\t6\n".to_vec();
-    let printed = b"shape\t1\t1\t3\t2\norder\t1\nrow\t1\t4\nrow\t2\t5\nrow\t3\t6\n".to_vec();
-    t.verdict(job(&example) == Ok(printed), || "the reference does the example of document 01 otherwise".to_string());
-    let mut texts = vec![example];
-    for _ in 0..if t.short { 30 } else { 500 } {
-        texts.push(sheet(&random_sheet(r, 6)));
+    let example = b"shape\t1\t1\t2\t3\nchain\t2\nrow\t1\t2\t3\nrow\t4\t5\t6\n";
+    let printed = b"shape\t1\t1\t3\t2\norder\t1\nrow\t1\t4\nrow\t2\t5\nrow\t3\t6\n";
+    let told = job(example, &[0; 1024], &[0; 1024]).0;
+    t.verdict(told == printed, || "the reference does the example of document 01 otherwise".to_string());
+    try_job(t, r, example);
+    try_job(t, r, b"shape\t1\t1\t2\t3\nchain\t3\nrow\t1\t2\t3\nrow\t4\t5\t6\n");
+    try_job(t, r, &vec![b'0'; MOST_BYTES + 1]);
+    for k in 0..if t.short { 60 } else { 1500 } {
+        let mut text = sheet(&random_sheet(r, [3, 6, 40][k % 3]));
+        if k % 2 == 1 {
+            damage(r, &mut text);
+        }
+        try_job(t, r, &text);
     }
-    for text in texts {
+    t.group("whole jobs on right and on damaged sheets");
+}
+
+// A sheet read, run through its chain and written, call after call, gives what the whole job gives.
+fn jobs_by_calls(t: &mut Bench, r: &mut Random) {
+    for _ in 0..if t.short { 30 } else { 300 } {
+        let text = sheet(&random_sheet(r, 6));
+        let told = job(&text, &[0; 1024], &[0; 1024]).0;
         let outcome = by_calls(t, &text);
-        let expected = job(&text).map_err(|e| format!("{:?}", e));
-        t.verdict(outcome == expected, || format!("the job of {:?}", String::from_utf8_lossy(&text)));
+        t.verdict(outcome == Ok(told), || format!("three calls on {:?}", String::from_utf8_lossy(&text)));
     }
     t.group("whole jobs by three calls");
 }
@@ -305,4 +332,5 @@ pub fn all(t: &mut Bench, seed: u64) {
     longest_sheets(t, &mut r);
     writes(t, &mut r);
     whole_jobs(t, &mut r);
+    jobs_by_calls(t, &mut r);
 }

@@ -1,5 +1,5 @@
 // Sheets as document 01 describes them, read and written by copying text.
-use crate::reference::{bad_length, first, reordered, volume};
+use crate::reference::{bad_length, cleared, first, laid, named, number_of, reordered, volume};
 
 type Lengths = [u64; 4];
 
@@ -117,10 +117,16 @@ pub fn write(lengths: Lengths, order: u64, words: &[u32], bytes: usize) -> Resul
     }
 }
 
-// What a sheet comes to: read, run through its chain, written.
-pub fn job(text: &[u8]) -> Result<Vec<u8>, Refusal> {
-    let s = read(text, MOST_WORDS as usize)?;
-    let order = crate::reference::named(&s.chain);
-    let words = crate::reference::laid(&s.words, s.lengths, order);
-    Ok(result(reordered(s.lengths, order), crate::reference::number_of(order), &words))
+// What the whole job leaves: the text, the words and the scratch.
+pub fn job(text: &[u8], words: &[u32], scratch: &[u32]) -> (Vec<u8>, Vec<u32>, Vec<u32>) {
+    match read(text, words.len()) {
+        Err((number, place)) => (format!("refused\t{}\t{}\n", number, place).into_bytes(), words.to_vec(), scratch.to_vec()),
+        Ok(s) => {
+            let order = named(&s.chain);
+            let mut left = words.to_vec();
+            left[..s.words.len()].copy_from_slice(&laid(&s.words, s.lengths, order));
+            let told = result(reordered(s.lengths, order), number_of(order), &left);
+            (told, left, cleared(scratch, &s.lengths))
+        }
+    }
 }

@@ -4,6 +4,7 @@ ghost use Rattle.halves.specs.Promise.{TurnPromise as HalvesPromise};
 ghost use Rattle.axes.specs.Promises.{ChainPromise, RequestPromise, PlanPromise};
 ghost use Rattle.sheet.specs.Reader.{ReadAs};
 ghost use Rattle.sheet.specs.Writer.{WrittenAs};
+ghost use Rattle.job.specs.Job.{Done};
 ghost use Rattle.exports.specs.Records.{answered, planned, sheetRead, sheetWritten};
 
 // The lengths of four axes, last axis fastest.
@@ -162,4 +163,17 @@ pub extern "C" fn zib_write_sheet(
         number: w.number,
         count: w.count,
     }
+}
+
+// The whole job on a sheet: read, run through its chain, its result sheet or its refusal written.
+#[no_mangle]
+pub extern "C" fn zib_job(
+    bytes: &[u8],
+    words: &mut [u32; 1024],
+    scratch: &mut [u32; 1024],
+    out: &mut [u8; 16384],
+) -> usize
+    ensures { λ r. ⌜ Done (now (bytes .entry)) (now (words .entry)) (now (scratch .entry)) (now (out .entry)) r (now (words .exit)) (now (scratch .exit)) (now (out .exit)) ⌝ }
+{
+    job::job(bytes, words, scratch, out)
 }
