@@ -1,5 +1,5 @@
 -- The sheets and the whole job: any two outcomes that a contract allows from one entry coincide, answer and every lent slice.
-use mathlib.Core.Path.{_≡_, refl, sym, ap, _∙_}
+use mathlib.Core.Path.{_≡_}
 use Prim.Native.Nat.{ℕ}
 use contract.Lifetimes.{Lfts}
 use denote.Triple.Clauses.{AtExit}
