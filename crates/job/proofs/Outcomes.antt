@@ -1,16 +1,16 @@
 -- The promise of the whole job. A refused sheet: its line always fits. A right sheet: neither the chain nor the writer can refuse it, since
 -- the block has at most 1,024 words, no axis is longer than that, and 16,384 bytes suffice for its result sheet; the words are the
 -- computed layout, since two layouts of one order are equal. And two outcomes of the job coincide.
-use mathlib.Core.Path.{_≡_, refl, sym, ap, ap₂, _∙_, subst}
-use mathlib.Core.Bool.{true, false}
-use mathlib.Core.List.{List, [], _∷_, _++_}
-use Prim.Native.Nat.{ℕ, _+_, _<_, _≤_}
+use mathlib.Core.Path.{_≡_, refl, sym, ap, _∙_}
+use mathlib.Core.Bool.{false}
+use mathlib.Core.List.{List, _++_}
+use Prim.Native.Nat.{ℕ, _≤_}
 use native.Mathlib.Omega.{arith}
 use lib.ListN.{length, drop, length-append, length-drop}
 use borrow.Author.Tests.{le-ltb}
 use Rattle.layout.specs.Layout.{volume, pick, Laid, laid}
 use Rattle.layout.proofs.Picks.{length-pick}
-use Rattle.orders.specs.Chains.{named, follow}
+use Rattle.orders.specs.Chains.{named}
 use Rattle.orders.specs.Numbers.{numberOf}
 use Rattle.orders.proofs.Chains.{pick-named, length-named}
 use Rattle.orders.proofs.Layouts.{chain-volume, chain-once, chain-laid}
@@ -18,18 +18,17 @@ use Rattle.orders.proofs.FourAxes.{number-below-4}
 use Rattle.refusals.specs.Conditions.{badLength, longest}
 use Rattle.axes.specs.declared.Answer.{Answer}
 use Rattle.axes.specs.Promises.{ChainPromise}
-use Rattle.axes.proofs.Checks.{Sound, Runs, runs-zero, runs-after}
+use Rattle.axes.proofs.Checks.{Runs, runs-zero, runs-after}
 use Rattle.text.specs.Sheet.{refusalText, resultText}
 use Rattle.text.specs.Meaning.{Outcome, meaning}
 use Rattle.text.proofs.Length.{decimal-few, result-fits}
 use Rattle.sheet.specs.declared.Sheet.{Sheet}
 use Rattle.sheet.specs.declared.Written.{Written}
-use Rattle.sheet.specs.Reader.{ReadAs}
 use Rattle.sheet.specs.Writer.{writerNumber, written, writtenTo, WrittenAs}
 use Rattle.sheet.specs.RefusalWriter.{refusalNumber, RefusalWrittenAs}
 use Rattle.sheet.proofs.Writes.{number-0}
 use Rattle.sheet.proofs.Refusals.{length-refusal}
-use Rattle.job.specs.Job.{jobWords, jobScratch, jobText, Done}
+use Rattle.job.specs.Job.{jobWords, jobText, Done}
 use Rattle.job.proofs.Readings.{swapsOf, Turned-away, Taken}
 use Rattle.job.proofs.Sizes.{longest-le-volume}
 

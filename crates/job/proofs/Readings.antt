@@ -1,10 +1,10 @@
 -- What the reader's answer says of the sheet's meaning: a number that is not 0 is the refusal itself, within bounds; 0 says that the
 -- sheet is right, with the answered lengths and the first swaps. By cases on the meaning.
-use mathlib.Core.Path.{_≡_, refl, sym, ap, ap₂, _∙_, subst}
-use mathlib.Core.List.{List, [], _∷_, _++_}
-use Prim.Native.Nat.{ℕ, _+_, _-_, _<_, _≤_}
+use mathlib.Core.Path.{_≡_, refl, sym, ap, ap₂, _∙_}
+use mathlib.Core.List.{List}
+use Prim.Native.Nat.{ℕ, _-_, _≤_}
 use native.Mathlib.Omega.{arith}
-use lib.ListN.{length, take, drop, replicate, length-append}
+use lib.ListN.{length, take, replicate, length-append}
 use lib.Seq.{take-at}
 use Rattle.text.specs.Meaning.{Outcome, meaning}
 use Rattle.text.proofs.Accepted.{Right, accepted-right}

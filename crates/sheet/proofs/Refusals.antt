@@ -1,6 +1,6 @@
 -- The line of a refusal: its length, its parts put one behind the other, and what its writer then promises. From the laws of lines
 -- and of texts put one behind the other.
-use mathlib.Core.Path.{_≡_, refl, sym, ap, _∙_}
+use mathlib.Core.Path.{_≡_, sym, ap, _∙_}
 use mathlib.Core.List.{List, [], _∷_, _++_, append-nil, append-assoc}
 use Prim.Native.Nat.{ℕ, _+_, _<_, _≤_}
 use native.Mathlib.Omega.{arith}
@@ -14,7 +14,6 @@ use Rattle.sheet.specs.declared.Written.{Written}
 use Rattle.sheet.specs.Put.{Room, Put}
 use Rattle.sheet.specs.RefusalWriter.{refusalNumber, RefusalWrittenAs}
 use Rattle.sheet.proofs.Puts.{Leads, leads-start, leads-room, leads-step, leads-end, leads-same}
-use Rattle.sheet.proofs.Pages.{fields-one}
 
 -- two fields, one after the other
 fields-two : (a b : ℕ) → fields (a ∷ b ∷ []) ≡ field a ++ field b

@@ -2,7 +2,6 @@
 -- what is left of the buffer: a piece that is not empty makes it fall.
 use mathlib.Core.Path.{_≡_}
 use Prim.Native.Nat.{_≤_, _-_}
-use native.Mathlib.Omega.{arith}
 use lib.ListN.{length}
 use borrow.Author.Needs.{needs}
 use Rattle.turn.proofs.read_input.Statement.{statement}
