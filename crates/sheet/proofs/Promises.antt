@@ -9,7 +9,7 @@ use lib.ListN.{length, drop, take}
 use lib.Seq.{take-at}
 use Rattle.text.specs.Meaning.{Outcome, meaning}
 use Rattle.text.proofs.Accepted.{Right, accepted-right, right-accepted}
-use Rattle.text.proofs.Refused.{Sound, meaning-sound}
+use Rattle.text.proofs.Bounds.{Within, meaning-within}
 use Rattle.sheet.specs.declared.Sheet.{Sheet}
 use Rattle.sheet.specs.declared.Written.{Written}
 use Rattle.sheet.specs.Swaps.{padded}
@@ -53,11 +53,11 @@ right-is-read p h = accepted-answer p (right-accepted h)
 -- a sheet that is accepted is right
 pub read-is-right : {buffer bytes : List ℕ} {r : Sheet} {w : List ℕ} {C : Type 0} → ReadAs buffer bytes r w → r .number ≡ 0
     → ((ds chain words : List ℕ) → Right buffer bytes ds chain words → Answers buffer r w ds chain words → C) → C
-read-is-right {buffer} {bytes} {r} {w} {C} p z k = by (meaning buffer bytes) refl (meaning-sound buffer bytes)
+read-is-right {buffer} {bytes} {r} {w} {C} p z k = by (meaning buffer bytes) refl (meaning-within buffer bytes)
   where
-    by : (o : Outcome) → meaning buffer bytes ≡ o → Sound o → C
-    by (Outcome.refused number place) m (Sound.refused h) =
+    by : (o : Outcome) → meaning buffer bytes ≡ o → Within o → C
+    by (Outcome.refused number place) m (Within.refused h) =
         let e : r .number ≡ number = ap (λ (s : Sheet). s .number) (p .answers ∙ ap answer m) in
-        absurd (omega arith)
-    by (Outcome.accepted ds chain words) m Sound.accepted =
+        absurd (omega (arith, h .given))
+    by (Outcome.accepted ds chain words) m Within.accepted =
         k ds chain words (accepted-right buffer bytes ds chain words m) (accepted-answer p m .1)

@@ -5,5 +5,4 @@ pub mod Steps
 pub mod Rows
 pub mod Accepted
 pub mod Length
-pub mod Refused
 pub mod Bounds
