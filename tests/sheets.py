@@ -5,8 +5,8 @@ usage: sheets.py make            write tests/sheets/NAME.in and NAME.out afresh
        sheets.py check PROGRAM   run PROGRAM on each NAME.in, as a file and through a pipe in small pieces
 
 The answers are computed here from document 01: the sheet is split into lines and fields, every word is copied to its new
-coordinates. Nothing is moved in place and no code is shared with the library. `check` compares all bytes with NAME.out and
-ends with a line `N passed, M failed`. The program is for x86-64; on another processor it is run by qemu-x86_64 of Debian.
+coordinates. Nothing is moved in place and no code is shared with the library. `check` compares all bytes with NAME.out, tries
+input that cannot be read and output that cannot be written, and ends with a line `N passed, M failed`. The program is for x86-64; on another processor it is run by qemu-x86_64 of Debian.
 """
 import array
 import fcntl
@@ -369,6 +369,17 @@ def run_in_pieces(words, path):
     return child.returncode, out, err
 
 
+def faults(words):
+    """Input that cannot be read and output that cannot be written: nothing is printed but a line on standard error."""
+    with open(os.path.join(FOLDER, "example.in"), "rb") as given, open("/dev/full", "wb") as full:
+        folder = os.open(FOLDER, os.O_RDONLY)
+        unread = subprocess.run(words, stdin=folder, stdout=subprocess.PIPE, stderr=subprocess.PIPE, timeout=60)
+        os.close(folder)
+        unwritten = subprocess.run(words, stdin=given, stdout=full, stderr=subprocess.PIPE, timeout=60)
+    yield "input that cannot be read", unread.stdout == b"" and re.fullmatch(rb"read: [^\n]+\n", unread.stderr)
+    yield "output that cannot be written", re.fullmatch(rb"write: [^\n]+\n", unwritten.stderr)
+
+
 def check(program):
     words = command(os.path.abspath(program))
     passed = failed = 0
@@ -384,6 +395,10 @@ def check(program):
             else:
                 failed += 1
                 print("%s, %s: status %d, %d bytes for %d, %r for %r, %r" % (name, way, status, len(out), len(expected), out[:60], expected[:60], err[:200]))
+    for fault, told in faults(words):
+        passed, failed = (passed + 1, failed) if told else (passed, failed + 1)
+        if not told:
+            print(fault + ": not told on standard error")
     print("%d sheets, each as a file and in pieces" % len(names))
     print("%d passed, %d failed" % (passed, failed))
     return 0 if passed and not failed else 1

@@ -2,3 +2,4 @@ pub mod Flat
 pub mod Axes
 pub mod Sheets
 pub mod Methods
+pub mod Exports
