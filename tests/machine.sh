@@ -40,7 +40,7 @@ need_x86_64() {
 
 # A Rust compiler for this machine; rustc links by cc.
 need_rust() {
-    if [ -x "${CARGO_HOME:-$HOME/.cargo}/bin/rustc" ]; then PATH=$PATH:${CARGO_HOME:-$HOME/.cargo}/bin; fi
+    PATH=$PATH:${CARGO_HOME:-${HOME:-}/.cargo}/bin
     need rustc rustc
     need cc gcc libc6-dev
 }
