@@ -13,7 +13,8 @@ use Rattle.lists.specs.Choose.{choose, either}
 use Rattle.layout.specs.Layout.{volume}
 use Rattle.refusals.specs.Conditions.{some, outOfRange, badLength, noSwap, badSwap, firstPlace}
 use Rattle.text.specs.Sheet.{rowCount, rowWidth}
-use Rattle.text.proofs.Numbers.{decided, either-false}
+use Rattle.refusals.proofs.Conditions.{either-false}
+use Rattle.text.proofs.Numbers.{decided}
 use Rattle.text.proofs.Length.{none-at}
 use Rattle.sheet.proofs.Places.{drop-next}
 

@@ -9,7 +9,7 @@ use native.Mathlib.Omega.{arith}
 use lib.Dec.{ltb, leb, eqb}
 use lib.ListN.{length, length-append}
 use borrow.Author.Tests.{ltb-true, ltb-false, leb-true, leb-false, eqb-true, eqb-false, lt-ltb, le-ltb, le-leb, lt-leb, eq-eqb, ne-eqb}
-use Rattle.lists.specs.Choose.{choose, both, either}
+use Rattle.lists.specs.Choose.{choose, both}
 use Rattle.lists.proofs.Decide.{lt-or-ge}
 use Rattle.text.specs.Print.{limit, digits, decimal}
 use Rattle.text.specs.Read.{Found, isDigit, readMore, readNumber, tabs}
@@ -23,10 +23,6 @@ pub data Stops : List ℕ → Type 0 where
 pub decided : {A : Type 0} (t : Bool) → (t ≡ true → A) → (t ≡ false → A) → A
 decided true held quiet = held refl
 decided false held quiet = quiet refl
-
-pub either-false : (a b : Bool) → either a b ≡ false → (a ≡ false) × (b ≡ false)
-either-false true b e = let n : _≡_ {A = ℕ} 0 1 = cc in absurd (omega arith)
-either-false false b e = (refl, e)
 
 pub both-true : (a b : Bool) → a ≡ true → b ≡ true → both a b ≡ true
 both-true a b p q = rw p q
