@@ -34,21 +34,21 @@ module _ {r : Answer} {number place : ℕ} (e : r ≡ refused number place) (n :
   never : r .number ≡ 0 → ⊥
   never z = n (sym number-is ∙ z)
 
-  pub chain-refused : (ds chain xs ss : List ℕ) → number ≡ firstOf (chainChecks ds xs ss chain) → place ≡ refusedPlace number chain → ChainPromise ds chain xs ss r xs ss
+  pub chain-refused : (ds chain xs ss : List ℕ) → number ≡ firstOf (chainChecks 4 ds xs ss chain) → place ≡ refusedPlace number chain → ChainPromise ds chain xs ss r xs ss
   chain-refused ds chain xs ss f p = record {
     block = record { number-is = number-is ∙ f; words = λ z. absurd (never z); zeroed = λ z. absurd (never z); kept = λ _. (refl, refl) };
     given = λ z. absurd (never z);
     refusal = λ _. e ∙ ap₂ refused (sym number-is) (p ∙ ap (λ (k : ℕ). refusedPlace k chain) (sym number-is));
   }
 
-  pub request-refused : (ds : List ℕ) (order : ℕ) (xs ss : List ℕ) → number ≡ firstOf (requestChecks ds xs ss order) → place ≡ 0 → RequestPromise ds order xs ss r xs ss
+  pub request-refused : (ds : List ℕ) (order : ℕ) (xs ss : List ℕ) → number ≡ firstOf (requestChecks 4 ds xs ss order) → place ≡ 0 → RequestPromise ds order xs ss r xs ss
   request-refused ds order xs ss f p = record {
     block = record { number-is = number-is ∙ f; words = λ z. absurd (never z); zeroed = λ z. absurd (never z); kept = λ _. (refl, refl) };
     given = λ z. absurd (never z);
     refusal = λ _. e ∙ ap₂ refused (sym number-is) p;
   }
 
-below-good : {c : List ℕ} → Below 3 c → badSwap c ≡ false
+below-good : {c : List ℕ} → Below 3 c → badSwap 4 c ≡ false
 below-good Below.empty = refl
 below-good (Below.next {a} {o} h b) = rw (le-ltb 2 a (omega arith)) (below-good b)
 
@@ -61,7 +61,7 @@ module _ {order : ℕ} {q : Planned} (p : PlanPromise order q) (z : q .number �
   low =
       go (zero-silent (Refusing.more (suc-le-suc zero-le) (Refusing.more (suc-le-suc zero-le) Refusing.none)) (sym (p .number-is) ∙ z))
     where
-      go : Silent (planChecks order) → order < 24
+      go : Silent (planChecks 4 order) → order < 24
       go (Silent.more h s) = let k : order ≤ 23 = ltb-false 23 order h in omega arith
 
   pub plan-length : q .len ≡ length (planOf (orderOf 4 order))
@@ -94,8 +94,8 @@ module _ {order : ℕ} {q : Planned} (p : PlanPromise order q) (z : q .number �
   }
 
   -- a sound block accepts it
-  pub plan-accepted : {ds xs ss : List ℕ} → Sound ds xs ss → firstOf (chainChecks ds xs ss (take (q .len) (q .swaps))) ≡ 0
-  plan-accepted {ds} {xs} {ss} s = ap (λ (c : List ℕ). firstOf (chainChecks ds xs ss c)) plan-swaps ∙ runs-zero (plan-runs s)
+  pub plan-accepted : {ds xs ss : List ℕ} → Sound ds xs ss → firstOf (chainChecks 4 ds xs ss (take (q .len) (q .swaps))) ≡ 0
+  plan-accepted {ds} {xs} {ss} s = ap (λ (c : List ℕ). firstOf (chainChecks 4 ds xs ss c)) plan-swaps ∙ runs-zero (plan-runs s)
 
   -- and its chain is what was asked for
   pub request-met : {ds xs ss ys ts : List ℕ} {r : Answer} → Sound ds xs ss → ChainPromise ds (take (q .len) (q .swaps)) xs ss r ys ts
@@ -105,7 +105,7 @@ module _ {order : ℕ} {q : Planned} (p : PlanPromise order q) (z : q .number �
       let c : ChainPromise ds (planOf o) xs ss r ys ts = subst (λ (t : List ℕ). ChainPromise ds t xs ss r ys ts) plan-swaps c′ in
       let zero-is : r .number ≡ 0 = c .block .number-is ∙ runs-zero (plan-runs s) in
       let names : named 4 (planOf o) ≡ o = plan-is-4 order low .names in
-      let asked : firstOf (requestChecks ds xs ss order) ≡ 0 = accepted-so-far (planChecks order) (silent-block s) ∙ sym (p .number-is) ∙ z in
+      let asked : firstOf (requestChecks 4 ds xs ss order) ≡ 0 = accepted-so-far (planChecks 4 order) (silent-block s) ∙ sym (p .number-is) ∙ z in
       record {
         block = record {
           number-is = zero-is ∙ sym asked;
@@ -130,12 +130,12 @@ module _ {order : ℕ} {q : Planned} (p : PlanPromise order q) (z : q .number �
       (λ (n : firstOf (passesChecks ds xs ss) ≡ 0 → ⊥).
       let chain = take (q .len) (q .swaps) in
       let first : r .number ≡ firstOf (passesChecks ds xs ss) =
-      c .block .number-is ∙ refused-first (passesChecks ds xs ss) (check 5 (longChain chain) ∷ check 6 (badSwap chain) ∷ []) n in
+      c .block .number-is ∙ refused-first (passesChecks ds xs ss) (check 5 (longChain chain) ∷ check 6 (badSwap 4 chain) ∷ []) n in
       let left : r .number ≡ 0 → ⊥ = λ e. n (sym first ∙ e) in
       let nowhere : refusedPlace (r .number) chain ≡ 0 = rw (ne-eqb (r .number) 6 (λ e. omega (arith, first, block-few ds xs ss))) in
       let kept = c .block .kept left in
       rw (kept .0, kept .1)
       (request-refused (c .refusal left ∙ ap (refused (r .number)) nowhere) left ds order xs ss
-      (first ∙ sym (refused-first (passesChecks ds xs ss) (planChecks order) n))
+      (first ∙ sym (refused-first (passesChecks ds xs ss) (planChecks 4 order) n))
       refl))
       (eq-or-ne (firstOf (passesChecks ds xs ss)) 0)

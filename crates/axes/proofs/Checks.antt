@@ -1,14 +1,13 @@
 -- The checks of a block and of a chain, as facts: accepted means that none of the six conditions holds. No swap changes what the first
 -- four test, since it changes neither the lengths, but for their places, nor how many words are lent.
 use mathlib.Core.Path.{_≡_, refl, ap, _∙_}
-use mathlib.Core.Bool.{Bool, true, false}
+use mathlib.Core.Bool.{Bool, true, false, cond, _||_}
 use mathlib.Core.List.{List, [], _∷_, _++_, reverse, reverse-cons}
 use Prim.Native.Nat.{ℕ, zero, suc, _+_, _<_, _≤_, max, zero-le, suc-le-suc}
 use native.Mathlib.Omega.{arith}
 use lib.Dec.{ltb}
 use lib.ListN.{length, length-append}
 use borrow.Author.Tests.{ltb-false, le-ltb}
-use Rattle.lists.specs.Choose.{choose, either}
 use Rattle.orders.specs.Chains.{exchange, follow}
 use Rattle.orders.proofs.Chains.{volume-follow}
 use Rattle.refusals.specs.FirstOf.{Check, firstOf}
@@ -18,7 +17,7 @@ use Rattle.refusals.specs.Calls.{passesChecks, chainChecks, requestChecks}
 use Rattle.refusals.proofs.FirstOf.{Refusing, Silent, zero-silent, silent-zero}
 use Rattle.refusals.proofs.FirstOf.Silent.{none, more}
 
-either-swap : (a b c : Bool) → either a (either b c) ≡ either b (either a c)
+either-swap : (a b c : Bool) → (a || (b || c)) ≡ (b || (a || c))
 either-swap true true c = refl
 either-swap true false c = refl
 either-swap false b c = refl
@@ -28,7 +27,7 @@ unfolding exchange
 some-exchange f k [] = refl
 some-exchange f zero (a ∷ []) = refl
 some-exchange f zero (a ∷ b ∷ l) = either-swap (f b) (f a) (some f l)
-some-exchange f (suc k) (a ∷ l) = ap (either (f a)) (some-exchange f k l)
+some-exchange f (suc k) (a ∷ l) = ap (λ (t : Bool). f a || t) (some-exchange f k l)
 
 some-follow : (f : ℕ → Bool) (l c : List ℕ) → some f (follow l c) ≡ some f l
 unfolding follow
@@ -57,8 +56,8 @@ pub refused-first : (cs ds : List Check) → (firstOf cs ≡ 0 → ⊥) → firs
 refused-first [] ds n = absurd (n refl)
 refused-first (c ∷ cs) ds n = go (c .holds) n (refused-first cs ds)
   where
-    go : (t : Bool) → (choose t (c .number) (firstOf cs) ≡ 0 → ⊥) → ((firstOf cs ≡ 0 → ⊥) → firstOf (cs ++ ds) ≡ firstOf cs)
-        → choose t (c .number) (firstOf (cs ++ ds)) ≡ choose t (c .number) (firstOf cs)
+    go : (t : Bool) → (cond t (c .number) (firstOf cs) ≡ 0 → ⊥) → ((firstOf cs ≡ 0 → ⊥) → firstOf (cs ++ ds) ≡ firstOf cs)
+        → cond t (c .number) (firstOf (cs ++ ds)) ≡ cond t (c .number) (firstOf cs)
     go true n ih = refl
     go false n ih = ih n
 
@@ -93,7 +92,7 @@ sound-zero s = silent-zero (silent-block s)
 pub block-few : (ds xs ss : List ℕ) → firstOf (passesChecks ds xs ss) ≤ 4
 block-few ds xs ss = go (badLength ds) (tooManyWords ds) (shortBuffer ds xs) (shortScratch (need ds) ss)
   where
-    go : (a b c d : Bool) → choose a 1 (choose b 2 (choose c 3 (choose d 4 0))) ≤ 4
+    go : (a b c d : Bool) → cond a 1 (cond b 2 (cond c 3 (cond d 4 0))) ≤ 4
     go true b c d = omega arith
     go false true c d = omega arith
     go false false true d = omega arith
@@ -104,9 +103,9 @@ block-few ds xs ss = go (badLength ds) (tooManyWords ds) (shortBuffer ds xs) (sh
 pub record Runs (ds xs ss chain : List ℕ) : Type 0 where
   pub block : Sound ds xs ss
   pub short : longChain chain ≡ false
-  pub swaps : badSwap chain ≡ false
+  pub swaps : badSwap 4 chain ≡ false
 
-pub runs : (ds xs ss chain : List ℕ) → firstOf (chainChecks ds xs ss chain) ≡ 0 → Runs ds xs ss chain
+pub runs : (ds xs ss chain : List ℕ) → firstOf (chainChecks 4 ds xs ss chain) ≡ 0 → Runs ds xs ss chain
 runs ds xs ss chain e =
     go
     (zero-silent
@@ -115,17 +114,17 @@ runs ds xs ss chain e =
     (Refusing.more positive (Refusing.more positive (Refusing.more positive (Refusing.more positive Refusing.none))))))
     e)
   where
-    go : Silent (chainChecks ds xs ss chain) → Runs ds xs ss chain
+    go : Silent (chainChecks 4 ds xs ss chain) → Runs ds xs ss chain
     go (more a (more b (more c (more d (more f (more g none)))))) = record {
       block = record { lengths = a; words = b; buffer = c; scratch = d };
       short = f;
       swaps = g;
     }
 
-pub runs-zero : {ds xs ss chain : List ℕ} → Runs ds xs ss chain → firstOf (chainChecks ds xs ss chain) ≡ 0
+pub runs-zero : {ds xs ss chain : List ℕ} → Runs ds xs ss chain → firstOf (chainChecks 4 ds xs ss chain) ≡ 0
 runs-zero {ds} {xs} {ss} {chain} r =
     let b = r .block in
-    let silent : Silent (chainChecks ds xs ss chain) =
+    let silent : Silent (chainChecks 4 ds xs ss chain) =
     more (b .lengths) (more (b .words) (more (b .buffer) (more (b .scratch) (more (r .short) (more (r .swaps) none))))) in
     silent-zero silent
 
@@ -134,7 +133,7 @@ some-append : (f : ℕ → Bool) (s t : List ℕ) → some f s ≡ false → som
 some-append f [] t e = refl
 some-append f (x ∷ s) t e = go (f x) e (some-append f s t)
   where
-    go : (b : Bool) → either b (some f s) ≡ false → (some f s ≡ false → some f (s ++ t) ≡ some f t) → either b (some f (s ++ t)) ≡ some f t
+    go : (b : Bool) → (b || some f s) ≡ false → (some f s ≡ false → some f (s ++ t) ≡ some f t) → (b || some f (s ++ t)) ≡ some f t
     go true e ih = absurd (let z : _≡_ {A = ℕ} 0 1 = cc in omega arith)
     go false e ih = ih e
 
@@ -142,7 +141,7 @@ some-reverse : (f : ℕ → Bool) (c : List ℕ) → some f c ≡ false → some
 some-reverse f [] e = refl
 some-reverse f (x ∷ c) e = go (f x) refl e (some-reverse f c)
   where
-    go : (b : Bool) → f x ≡ b → either b (some f c) ≡ false → (some f c ≡ false → some f (reverse c) ≡ false) → some f (reverse (x ∷ c)) ≡ false
+    go : (b : Bool) → f x ≡ b → (b || some f c) ≡ false → (some f c ≡ false → some f (reverse c) ≡ false) → some f (reverse (x ∷ c)) ≡ false
     go true q e ih = absurd (let z : _≡_ {A = ℕ} 0 1 = cc in omega arith)
     go false q e ih = ap (some f) (reverse-cons x c) ∙ some-append f (reverse c) (x ∷ []) (ih e) ∙ rw q
 
@@ -160,18 +159,18 @@ module _ {ds xs ss s : List ℕ} (p : Runs ds xs ss s) where
   runs-joined {t = t} q h = record {
     block = p .block;
     short = le-ltb 32 (length (s ++ t)) h;
-    swaps = some-append noSwap s t (p .swaps) ∙ q .swaps;
+    swaps = some-append (noSwap 4) s t (p .swaps) ∙ q .swaps;
   }
 
   pub runs-back : (ys ts : List ℕ) → length ys ≡ length xs → length ts ≡ length ss → Runs (follow ds s) ys ts (reverse s)
   runs-back ys ts e d = record {
     block = runs-after ys ts e d;
     short = ap (ltb 32) (length-backwards s) ∙ p .short;
-    swaps = some-reverse noSwap s (p .swaps);
+    swaps = some-reverse (noSwap 4) s (p .swaps);
   }
 
 -- a request that is accepted asks for one of the 24 orders
-pub request-order : (ds xs ss : List ℕ) (order : ℕ) → firstOf (requestChecks ds xs ss order) ≡ 0 → order < 24
+pub request-order : (ds xs ss : List ℕ) (order : ℕ) → firstOf (requestChecks 4 ds xs ss order) ≡ 0 → order < 24
 request-order ds xs ss order e =
     go
     (zero-silent
@@ -180,5 +179,5 @@ request-order ds xs ss order e =
     (Refusing.more positive (Refusing.more positive (Refusing.more positive (Refusing.more positive Refusing.none))))))
     e)
   where
-    go : Silent (requestChecks ds xs ss order) → order < 24
+    go : Silent (requestChecks 4 ds xs ss order) → order < 24
     go (more a (more b (more c (more d (more f g))))) = let k : order ≤ 23 = ltb-false 23 order f in omega arith

@@ -134,7 +134,7 @@ module _ {ds c xs ss : List ℕ} {r r′ : Answer} {ys ts zs us : List ℕ} (axe
   back-accepted : r′ .number ≡ 0
   back-accepted =
       q .block .number-is
-      ∙ ap (λ (l : List ℕ). firstOf (chainChecks l ys ts (reverse c))) (new-lengths axes p e)
+      ∙ ap (λ (l : List ℕ). firstOf (chainChecks 4 l ys ts (reverse c))) (new-lengths axes p e)
       ∙ runs-zero (runs-back (ran axes p e) ys ts (laid-out axes p e .same) (same-room axes p e))
 
   pub backwards : Restored ds xs ts r′ zs us
@@ -157,10 +157,10 @@ module _ {ds c xs ss : List ℕ} {r r′ : Answer} {ys ts zs us : List ℕ} (axe
 
   asked-accepted : r′ .number ≡ 0
   asked-accepted =
-      let few : Silent (planChecks (r .order)) =
+      let few : Silent (planChecks 4 (r .order)) =
       Silent.more (le-ltb 23 (r .order) (omega (arith, low)))
       (Silent.more (le-ltb 6 (length (planOf (orderOf 4 (r .order)))) (length-plan-4 (r .order) low)) Silent.none) in
-      q .block .number-is ∙ accepted-so-far (planChecks (r .order)) (silent-block (ran axes p e .block)) ∙ silent-zero few
+      q .block .number-is ∙ accepted-so-far (planChecks 4 (r .order)) (silent-block (ran axes p e .block)) ∙ silent-zero few
 
   pub one-meaning : (r′ .number ≡ 0) × Alike r r′ ys ts zs us
   one-meaning = (

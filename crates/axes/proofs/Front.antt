@@ -1,7 +1,7 @@
 -- Loops over a list from the front: what a fold says of the list from place k on, from what it says one place later.
 -- Each is the fold's own equation at the entry in place k.
 use mathlib.Core.Path.{_≡_, sym, ap, _∙_}
-use mathlib.Core.Bool.{Bool, true, false}
+use mathlib.Core.Bool.{Bool, true, false, cond}
 use mathlib.Core.List.{List, [], _∷_, map}
 use Prim.Native.Nat.{ℕ, zero, suc, _+_, _-_, _*_, _<_, _≤_, max, zero-le}
 use native.Mathlib.Nat.{sub-zero, zero-sub, suc-sub-suc}
@@ -12,7 +12,6 @@ use lib.ListN.{length, getD, drop, replicate, length-map, length-drop}
 use lib.Seq.{drop-cons, drop-length, slice, slice-cons, take-all}
 use borrow.Author.Tests.{eq-eqb, ne-eqb, lt-ltb, le-ltb}
 use Rattle.lists.specs.Tab.{tab}
-use Rattle.lists.specs.Choose.{choose}
 use Rattle.lists.proofs.Tab.{tab-getD}
 use Rattle.layout.specs.Layout.{volume, placeOf}
 use Rattle.refusals.specs.Conditions.{some, firstPlace, longest}
@@ -45,7 +44,7 @@ unfolding under
 under-length a [] = zero-le
 under-length a (x ∷ l) = go (ltb x a) (under-length a l)
   where
-    go : (t : Bool) → under a l ≤ length l → choose t 1 0 + under a l ≤ suc (length l)
+    go : (t : Bool) → under a l ≤ length l → cond t 1 0 + under a l ≤ suc (length l)
     go true h = omega arith
     go false h = omega arith
 

@@ -1,7 +1,7 @@
 -- One swap of a chain. Of a sound block the two axes, the axes before them and the axes after them are a block that the adjacent swap
 -- accepts, and what it makes of it is the swap of the whole shape; scratch past the longest axis stays as it is. Then one swap more.
 use mathlib.Core.Path.{_≡_, refl, sym, ap, ap₂, _∙_, subst, subst₂}
-use mathlib.Core.Bool.{false}
+use mathlib.Core.Bool.{false, _||_}
 use mathlib.Core.List.{List, [], _∷_, _++_}
 use mathlib.Core.Logic.{⊎-elim}
 use Prim.Native.Nat.{ℕ, zero, suc, _+_, _*_, _-_, _<_, _≤_, zero-le, suc-le-suc}
@@ -13,7 +13,6 @@ use lib.ListN.{length, getD, take, drop, replicate, length-append, length-replic
 use lib.Seq.{slice, take-all, take-suc, drop-drop, drop-append-add, length-take-le}
 use borrow.Author.Tests.{ltb-false, le-ltb, ne-eqb}
 use Rattle.lists.specs.Tab.{upto}
-use Rattle.lists.specs.Choose.{either}
 use Rattle.layout.specs.Layout.{volume, pick, Laid}
 use Rattle.layout.proofs.Offsets.{within-length}
 use Rattle.layout.proofs.Picks.{pick-upto}
@@ -118,7 +117,7 @@ module _ {r : ℕ} (ds : List ℕ) (axes : length ds ≡ r) (k : ℕ) (h : k + 1
   swap-accepted : firstOf (swapChecks outer m n chunk xs ss) ≡ 0
   unfolding outer chunk m n
   swap-accepted =
-      let lengths : either (badLength (sides m n)) (either (eqb outer 0) (eqb chunk 0)) ≡ false =
+      let lengths : (badLength (sides m n) || (eqb outer 0 || eqb chunk 0)) ≡ false =
       rw (
         none-at outOfRange ds (s .lengths) k (omega arith),
         none-at outOfRange ds (s .lengths) (k + 1) (omega arith),

@@ -1,13 +1,12 @@
 -- The plan swap by swap: what the swaps from place i on are, and that the labels a swap exchanges are among the axes. By the definition's own equations.
 use mathlib.Core.Path.{_≡_, refl, sym, ap, _∙_}
-use mathlib.Core.Bool.{Bool, true, false}
+use mathlib.Core.Bool.{Bool, true, false, cond}
 use mathlib.Core.List.{List, _∷_, map}
 use Prim.Native.Nat.{ℕ, zero, suc, _+_, _-_, _<_, _≤_}
 use native.Mathlib.Omega.{arith}
 use lib.Dec.{ltb}
 use lib.ListN.{length, getD, drop}
 use lib.Seq.{getD-drop, drop-drop}
-use Rattle.lists.specs.Choose.{choose}
 use Rattle.layout.specs.Layout.{placeOf}
 use Rattle.orders.specs.Plans.{relabelled, firstBack, planned}
 
@@ -21,7 +20,7 @@ unfolding firstBack
 back-few zero k o = omega arith
 back-few (suc n) k o = go (ltb (placeOf (suc k) o) (placeOf k o)) (back-few n (suc k) o)
   where
-    go : (t : Bool) → firstBack n (suc k) o ≤ suc k + n → choose t k (firstBack n (suc k) o) ≤ k + suc n
+    go : (t : Bool) → firstBack n (suc k) o ≤ suc k + n → cond t k (firstBack n (suc k) o) ≤ k + suc n
     go true h = omega arith
     go false h = omega arith
 

@@ -1,9 +1,9 @@
 -- What the calls answer. Assumes nothing: these are definitions.
+use mathlib.Core.Bool.{cond}
 use mathlib.Core.List.{List, _++_}
 use Prim.Native.Nat.{ℕ, _-_}
 use lib.Dec.{eqb}
 use lib.ListN.{length, replicate}
-use Rattle.lists.specs.Choose.{choose}
 use Rattle.refusals.specs.Conditions.{noSwap, firstPlace}
 use Rattle.axes.specs.declared.Answer.{Answer}
 use Rattle.axes.specs.declared.Planned.{Planned}
@@ -18,7 +18,7 @@ refused number place = record { number = number; place = place; lens = replicate
 
 -- the place of a refused chain: for 6 that of the first swap above 2, elsewhere 0
 abbrev pub refusedPlace : ℕ → List ℕ → ℕ
-refusedPlace number chain = choose (eqb number 6) (firstPlace noSwap chain) 0
+refusedPlace number chain = cond (eqb number 6) (firstPlace (noSwap 4) chain) 0
 
 -- a plan comes back as six swap places, unused ones 0, and a length
 abbrev pub plannedAs : List ℕ → Planned

@@ -17,7 +17,7 @@ ghost use Rattle.axes.specs.Promises.{ChainPromise};
 
 // The place of the first swap above 2; the chain's length where there is none.
 pub(crate) fn first_bad(swaps: &[usize]) -> usize
-    ensures { λ r. ⌜ r ≡ firstPlace noSwap (now (swaps .entry)) ⌝ }
+    ensures { λ r. ⌜ r ≡ firstPlace (noSwap 4) (now (swaps .entry)) ⌝ }
 {
     for i in 0..swaps.len() {
         if swaps[i] > 2 {
@@ -29,7 +29,7 @@ pub(crate) fn first_bad(swaps: &[usize]) -> usize
 
 // The first of the checks 1 to 6.
 pub(crate) fn chain_number(buf: &[u32], scratch: &[u32], lens: [usize; 4], swaps: &[usize]) -> u32
-    ensures { λ r. ⌜ r ≡ firstOf (chainChecks lens (now (buf .entry)) (now (scratch .entry)) (now (swaps .entry))) ⌝ }
+    ensures { λ r. ⌜ r ≡ firstOf (chainChecks 4 lens (now (buf .entry)) (now (scratch .entry)) (now (swaps .entry))) ⌝ }
 {
     let number = block::block_number(buf, scratch, lens);
     if number != 0 {
@@ -63,7 +63,7 @@ fn swap_at(buf: &mut [u32], scratch: &mut [u32], shape: Shape, k: usize)
 
 // An accepted chain, swap by swap; then scratch is cleared.
 pub(crate) fn run(buf: &mut [u32], scratch: &mut [u32], shape: Shape, swaps: &[usize]) -> Answer
-    requires { ⌜ firstOf (chainChecks (shape .lens) (now buf) (now scratch) (now swaps)) ≡ 0 ⌝ }
+    requires { ⌜ firstOf (chainChecks 4 (shape .lens) (now buf) (now scratch) (now swaps)) ≡ 0 ⌝ }
     ensures { λ r. ⌜ ChainPromise (shape .lens) (now (swaps .entry)) (now (buf .entry)) (now (scratch .entry)) r (now (buf .exit)) (now (scratch .exit)) ⌝ }
 {
     let lens = shape.lens;

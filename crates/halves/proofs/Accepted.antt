@@ -1,7 +1,7 @@
 -- Where no check of the recursion holds, the sides are 1 to 4,096, the block has at most 1,048,576 words and the buffer has the block.
 -- And a block at the start of a buffer, turned by itself: the words past it stand.
 use mathlib.Core.Path.{_≡_, refl, sym, ap, _∙_}
-use mathlib.Core.Bool.{Bool, true, false}
+use mathlib.Core.Bool.{Bool, true, false, _||_}
 use mathlib.Core.List.{List, _++_}
 use Prim.Native.Nat.{ℕ, _+_, _-_, _*_, _≤_, _<_}
 use native.Mathlib.Omega.{arith}
@@ -11,7 +11,6 @@ use lib.Arith.{digits-lt}
 use lib.ListN.{length, getD, take, drop}
 use lib.Seq.{length-take-le, length-front, getD-take, getD-drop}
 use borrow.Author.Tests.{eqb-false, ltb-false}
-use Rattle.lists.specs.Choose.{either}
 use Rattle.layout.specs.Layout.{volume}
 use Rattle.refusals.specs.FirstOf.{firstOf}
 use Rattle.refusals.specs.Conditions.{outOfRange}
@@ -28,7 +27,7 @@ pub record Accepted (m n : ℕ) (xs : List ℕ) : Type 0 where
   pub few : m * n ≤ 1048576
   pub room : m * n ≤ length xs
 
-neither : (a b : Bool) → either a b ≡ false → (a ≡ false) × (b ≡ false)
+neither : (a b : Bool) → (a || b) ≡ false → (a ≡ false) × (b ≡ false)
 neither true b e = absurd (let z : _≡_ {A = ℕ} 0 1 = cc in omega arith)
 neither false b e = (refl, e)
 
@@ -43,7 +42,7 @@ accepted m n xs e = from-silent (zero-silent (refusing m n xs) e)
   where
     from-silent : Silent (recursionChecks (sides m n) xs) → Accepted m n xs
     from-silent (Silent.more one (Silent.more two (Silent.more three Silent.none))) =
-        let ends = neither (outOfRange m) (either (outOfRange n) false) one in
+        let ends = neither (outOfRange m) (outOfRange n || false) one in
         record {
           rows = some-side m (ends .0);
           columns = some-side n (neither (outOfRange n) false (ends .1) .0);

@@ -1,3 +1,4 @@
 pub mod Tab
 pub mod Test
 pub mod Decide
+pub mod Via

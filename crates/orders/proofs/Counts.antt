@@ -1,5 +1,6 @@
 -- How often a label stands in a list, and how often one stands before another. Chains keep the counts, so in an order that a
 -- chain names each label below r stands once, and of two labels exactly one stands before the other.
+use mathlib.Core.Bool.{cond}
 use mathlib.Core.Path.{_≡_, refl, sym, ap, _∙_}
 use mathlib.Core.List.{List, [], _∷_, map}
 use Prim.Native.Nat.{ℕ, zero, suc, _+_, _*_, _<_, _≤_}
@@ -9,7 +10,6 @@ use native.Mathlib.Omega.{arith}
 use lib.Dec.{eqb, eqb·suc-suc}
 use borrow.Author.Tests.{eq-eqb, ne-eqb}
 use Rattle.lists.specs.Tab.{upto}
-use Rattle.lists.specs.Choose.{choose}
 use Rattle.lists.proofs.Tab.{map-tab}
 use Rattle.lists.proofs.Decide.{eq-or-ne}
 use Rattle.layout.specs.Layout.{placeOf}
@@ -17,7 +17,7 @@ use Rattle.orders.specs.Chains.{exchange, follow, named}
 
 -- 1 where two labels are the same, else 0
 pub equal : ℕ → ℕ → ℕ
-equal a b = choose (eqb a b) 1 0
+equal a b = cond (eqb a b) 1 0
 
 pub equal-one : (a b : ℕ) → a ≡ b → equal a b ≡ 1
 unfolding equal

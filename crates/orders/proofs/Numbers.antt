@@ -9,7 +9,7 @@ use Prim.Native.Nat.{ℕ, zero, suc, _<_, zero-le, suc-le-suc}
 use native.Mathlib.Nat.{not-suc-le-zero, le-of-suc-le-suc}
 use lib.Dec.{T}
 use lib.ListN.{length, getD}
-use Rattle.lists.specs.Choose.{same}
+use Rattle.lists.specs.Same.{same}
 use Rattle.lists.proofs.Test.{same→eq, eq→same}
 use Rattle.orders.specs.Chains.{exchange, named}
 use Rattle.orders.specs.Numbers.{orders, orderOf, rank, numberOf}

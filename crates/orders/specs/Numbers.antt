@@ -1,9 +1,10 @@
 -- Orders by number. Assumes nothing: these are definitions.
+use mathlib.Core.Bool.{cond}
 use mathlib.Core.List.{List, [], _∷_, _++_, map}
 use Prim.Native.Nat.{ℕ, zero, suc}
 use lib.ListN.{getD}
 use Rattle.lists.specs.Tab.{upto}
-use Rattle.lists.specs.Choose.{choose, same}
+use Rattle.lists.specs.Same.{same}
 
 -- the arrangements of n of the axes in dictionary order: those that begin with the first axis left, then those with the next, ..;
 -- `passed` holds the axes left that were already tried first, in their order
@@ -24,7 +25,7 @@ orderOf r k = getD (orders r) k []
 -- the first place of an order in a list of orders
 unfoldable pub rank : List ℕ → List (List ℕ) → ℕ
 rank o [] = 0
-rank o (p ∷ ps) = choose (same o p) 0 (suc (rank o ps))
+rank o (p ∷ ps) = cond (same o p) 0 (suc (rank o ps))
 
 -- the number of an order of r axes
 unfoldable pub numberOf : ℕ → List ℕ → ℕ

@@ -1,17 +1,16 @@
 -- A line that scratch holds and that goes back to the buffer has moved; and which of gather and scatter a pass wants.
 use mathlib.Core.Path.{_≡_, sym, _∙_, subst}
-use mathlib.Core.Bool.{Bool, true, false}
+use mathlib.Core.Bool.{Bool, true, false, cond}
 use mathlib.Core.List.{List}
 use Prim.Native.Nat.{ℕ, _<_}
 use lib.Dec.{eqb}
-use Rattle.lists.specs.Choose.{choose}
 use Rattle.passes.specs.Lines.{Moved, Held, Returned, Fits, Past, posOn, paired, toPlace, fromPlace}
 use Rattle.passes.specs.declared.line.Line.{Line}
 
 -- the test of the pass decided, in what holds of the places that a line's words go to and come from
 pub decided : (F : (ℕ → ℕ) → (ℕ → ℕ) → Type 0) (p : ℕ → ℕ) {t b : Bool} → t ≡ b
-    → F (λ k. choose b (p k) k) (λ k. choose b k (p k)) → F (λ k. choose t (p k) k) (λ k. choose t k (p k))
-decided F p e f = subst (λ (t : Bool). F (λ k. choose t (p k) k) (λ k. choose t k (p k))) (sym e) f
+    → F (λ k. cond b (p k) k) (λ k. cond b k (p k)) → F (λ k. cond t (p k) k) (λ k. cond t k (p k))
+decided F p e f = subst (λ (t : Bool). F (λ k. cond t (p k) k) (λ k. cond t k (p k))) (sym e) f
 
 -- held, then returned: where the places that words go to are places of the line, the line has moved
 pub moved-through : {l : Line} {to from : ℕ → ℕ} {xs scratch held ys : List ℕ} → ((k : ℕ) → k < l .count → to k < l .count)
@@ -34,13 +33,13 @@ module _ {m n : ℕ} {l : Line} {xs scratch : List ℕ} (f : Fits m n l xs scrat
   pub to-within : (k : ℕ) → k < l .count → toPlace m n l k < l .count
   to-within k h = go (eqb (l .pass) 2)
     where
-      go : (t : Bool) → choose t (paired m n (l .pass) (l .index) k) k < l .count
+      go : (t : Bool) → cond t (paired m n (l .pass) (l .index) k) k < l .count
       go true = f .within k h
       go false = h
 
   pub from-within : (k : ℕ) → k < l .count → fromPlace m n l k < l .count
   from-within k h = go (eqb (l .pass) 2)
     where
-      go : (t : Bool) → choose t k (paired m n (l .pass) (l .index) k) < l .count
+      go : (t : Bool) → cond t k (paired m n (l .pass) (l .index) k) < l .count
       go true = h
       go false = f .within k h

@@ -7,10 +7,9 @@ use native.Mathlib.Omega.{arith}
 use native.Mathlib.Nat.{mul-comm, mul-assoc, mul-add, add-mul, mul-one, mod-lt, div-add-mod', div-lt-iff-lt-mul, pos-of-ne-zero, le-trans, le-mul-of-pos-right, mul-pos}
 use lib.ListN.{length, getD}
 use lib.Arith.{digits-div, digits-mod, digits-lt}
-use mathlib.Core.Bool.{Bool, true, false}
+use mathlib.Core.Bool.{Bool, true, false, _||_}
 use lib.Dec.{ltb, eqb, lit<}
 use borrow.Author.Tests.{ltb-true, ltb-false, eqb-false}
-use Rattle.lists.specs.Choose.{either}
 use Rattle.refusals.specs.FirstOf.{check, firstOf}
 use Rattle.refusals.specs.Conditions.{badLength, tooManyWords, shortBuffer, shortScratch}
 use Rattle.refusals.specs.Scratch.{need}
@@ -151,8 +150,8 @@ pub record There (outer m n chunk : ℕ) : Type 0 where
 pub there : (outer m n chunk : ℕ) → noBlock outer m n chunk ≡ false → There outer m n chunk
 there outer m n chunk e = go (in-range (sides m n) (p .0))
   where
-    p : (badLength (sides m n) ≡ false) × (either (eqb outer 0) (eqb chunk 0) ≡ false)
-    p = either-false (badLength (sides m n)) (either (eqb outer 0) (eqb chunk 0)) e
+    p : (badLength (sides m n) ≡ false) × ((eqb outer 0 || eqb chunk 0) ≡ false)
+    p = either-false (badLength (sides m n)) (eqb outer 0 || eqb chunk 0) e
 
     q : (eqb outer 0 ≡ false) × (eqb chunk 0 ≡ false)
     q = either-false (eqb outer 0) (eqb chunk 0) (p .1)

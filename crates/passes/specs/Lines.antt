@@ -1,11 +1,11 @@
 -- Lines of a block: rows in pass 2, columns in passes 1 and 3, numbered across the passes. The word in row i and column j of
 -- an m by n block stands at base + chunk · (i·n + j) of the buffer. Assumes nothing: these are definitions.
+use mathlib.Core.Bool.{cond}
 use mathlib.Core.Path.{_≡_}
 use mathlib.Core.List.{List}
 use Prim.Native.Nat.{ℕ, _+_, _*_, _-_, _/_, _%_, _<_, _≤_}
 use lib.Dec.{ltb, eqb}
 use lib.ListN.{length, getD}
-use Rattle.lists.specs.Choose.{choose}
 use Rattle.refusals.specs.Scratch.{need}
 use Rattle.numbers.specs.Gcd.{gcdOf}
 use Rattle.flat.specs.Turn.{sides}
@@ -21,7 +21,7 @@ pub record Moved (count : ℕ) (pos to from : ℕ → ℕ) (xs ys : List ℕ) : 
 
 -- the place with which pass p pairs place k of its line t: the row that row k receives from in passes 1 and 3, the column that column k goes to in pass 2
 abbrev pub paired : ℕ → ℕ → ℕ → ℕ → ℕ → ℕ
-paired m n p t k = choose (eqb p 1) (row1 m n k t) (choose (eqb p 2) (column2 m n t k) (row3 m n k t))
+paired m n p t k = cond (eqb p 1) (row1 m n k t) (cond (eqb p 2) (column2 m n t k) (row3 m n k t))
 
 -- column j in pass p
 abbrev pub column : ℕ → ℕ → ℕ → ℕ → ℕ → ℕ → Line
@@ -34,12 +34,12 @@ row n base chunk i = record { pass = 2; index = i; start = base + chunk * (i * n
 -- line t where no pass is left out: the n columns of pass 1, then the m rows of pass 2, then the n columns of pass 3
 unfoldable pub lineAt : ℕ → ℕ → ℕ → ℕ → ℕ → Line
 lineAt m n base chunk t =
-    choose (ltb t n) (column m n base chunk 1 t)
-    (choose (ltb t (n + m)) (row n base chunk (t - n)) (column m n base chunk 3 (t - (n + m))))
+    cond (ltb t n) (column m n base chunk 1 t)
+    (cond (ltb t (n + m)) (row n base chunk (t - n)) (column m n base chunk 3 (t - (n + m))))
 
 -- how many columns of pass 1 are left out: all of them where the sides share no factor
 unfoldable pub skipped : ℕ → ℕ → ℕ
-skipped m n = choose (ltb 1 (gcdOf m n)) 0 n
+skipped m n = cond (ltb 1 (gcdOf m n)) 0 n
 
 -- sides from 1 to 4,096, with a = m / c and b = n / c for their greatest common divisor c
 pub record Sound (s : Sides) : Type 0 where
@@ -65,10 +65,10 @@ posOn l k = l .start + l .stride * k
 
 -- in which place of the line a word ends, and from which it comes: passes 1 and 3 gather, pass 2 scatters
 abbrev pub toPlace : ℕ → ℕ → Line → ℕ → ℕ
-toPlace m n l k = choose (eqb (l .pass) 2) (paired m n (l .pass) (l .index) k) k
+toPlace m n l k = cond (eqb (l .pass) 2) (paired m n (l .pass) (l .index) k) k
 
 abbrev pub fromPlace : ℕ → ℕ → Line → ℕ → ℕ
-fromPlace m n l k = choose (eqb (l .pass) 2) k (paired m n (l .pass) (l .index) k)
+fromPlace m n l k = cond (eqb (l .pass) 2) k (paired m n (l .pass) (l .index) k)
 
 -- the line has moved as its pass says
 abbrev pub LineMoved : ℕ → ℕ → Line → List ℕ → List ℕ → Type 0

@@ -1,6 +1,6 @@
 -- What a condition that does not hold tells: lengths in range, enough words, enough scratch.
 use mathlib.Core.Path.{_≡_, refl}
-use mathlib.Core.Bool.{Bool, true, false}
+use mathlib.Core.Bool.{Bool, true, false, cond, _||_}
 use mathlib.Core.List.{List, [], _∷_}
 use Prim.Native.Nat.{ℕ, _<_, _≤_}
 use native.Mathlib.Nat.{pos-of-ne-zero}
@@ -8,12 +8,11 @@ use native.Mathlib.Omega.{arith}
 use lib.Dec.{ltb, eqb, lit<}
 use lib.ListN.{length}
 use borrow.Author.Tests.{ltb-false, eqb-false}
-use Rattle.lists.specs.Choose.{choose, either}
 use Rattle.layout.specs.Layout.{volume}
 use Rattle.refusals.specs.FirstOf.{Check, check, firstOf}
 use Rattle.refusals.specs.Conditions.{outOfRange, badLength, tooManyWords, shortBuffer, shortScratch}
 
-pub either-false : (a b : Bool) → either a b ≡ false → (a ≡ false) × (b ≡ false)
+pub either-false : (a b : Bool) → (a || b) ≡ false → (a ≡ false) × (b ≡ false)
 either-false true b e = let z : _≡_ {A = ℕ} 0 1 = cc in absurd (omega arith)
 either-false false b e = (refl, e)
 
@@ -36,7 +35,7 @@ pub record Valid (ds buffer : List ℕ) : Type 0 where
   pub enough : volume ds ≤ length buffer
 
 -- a check that was passed, and what follows it
-pub passed : (t : Bool) (k r : ℕ) → 0 < k → choose t k r ≡ 0 → (t ≡ false) × (r ≡ 0)
+pub passed : (t : Bool) (k r : ℕ) → 0 < k → cond t k r ≡ 0 → (t ≡ false) × (r ≡ 0)
 passed true k r h e = absurd (omega arith)
 passed false k r h e = (refl, e)
 

@@ -85,10 +85,10 @@ module _ (bs : List ℕ) {chain rest : List ℕ} (e : readLine chainWord (tabs b
   unfolding chainLine
   chain-long h = rw (e, lt-ltb 32 (length chain) h)
 
-  pub chain-bad : length chain ≤ 32 → badSwap chain ≡ true → chainLine bs ≡ Step.refuse 6 (firstPlace noSwap chain)
+  pub chain-bad : length chain ≤ 32 → badSwap 4 chain ≡ true → chainLine bs ≡ Step.refuse 6 (firstPlace (noSwap 4) chain)
   unfolding chainLine
   chain-bad h b = rw (e, le-ltb 32 (length chain) h, b)
 
-  pub chain-right : length chain ≤ 32 → badSwap chain ≡ false → chainLine bs ≡ Step.go chain rest
+  pub chain-right : length chain ≤ 32 → badSwap 4 chain ≡ false → chainLine bs ≡ Step.go chain rest
   unfolding chainLine
   chain-right h b = rw (e, le-ltb 32 (length chain) h, b)

@@ -1,6 +1,6 @@
 -- Words, tabs and lines at a place of the bytes: what the byte at the place says of what is read there. From the definitions.
 use mathlib.Core.Path.{_≡_, refl, sym, ap, _∙_}
-use mathlib.Core.Bool.{Bool, true, false}
+use mathlib.Core.Bool.{Bool, true, false, cond, _&&_}
 use mathlib.Core.List.{List, [], _∷_, _++_}
 use mathlib.Core.Logic.{⊎-elim}
 use Prim.Native.Nat.{ℕ, zero, suc, _+_, _-_, _<_, _≤_}
@@ -9,7 +9,7 @@ use lib.Dec.{T, eqb}
 use lib.ListN.{length, take, drop, getD, length-take, length-drop, drop-of-length-le, List·getD-eq-default}
 use lib.Seq.{drop-drop, drop-length}
 use borrow.Author.Tests.{eq-eqb, ne-eqb}
-use Rattle.lists.specs.Choose.{choose, both, same}
+use Rattle.lists.specs.Same.{same}
 use Rattle.lists.proofs.Test.{same→eq}
 use Rattle.lists.proofs.Decide.{lt-or-ge}
 use Rattle.text.specs.Print.{tabByte, lineFeed}
@@ -36,7 +36,7 @@ module _ (bytes : List ℕ) (at : ℕ) (word : List ℕ) where
   word-end = let a : length word - length word ≡ 0 = omega arith in rw (a, drop-length word)
 
   word-next : (i : ℕ) → i < length word → at + i < length bytes
-      → agrees i ≡ both (eqb (getD bytes (at + i) 0) (getD word i 0)) (agrees (i + 1))
+      → agrees i ≡ (eqb (getD bytes (at + i) 0) (getD word i 0) && agrees (i + 1))
   word-next i h k =
       let a : length word - i ≡ suc (length word - (i + 1)) = omega arith in
       let b : at + i + 1 ≡ at + (i + 1) = omega arith in

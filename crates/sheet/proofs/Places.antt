@@ -1,7 +1,7 @@
 -- Reading at a place of the bytes: one byte more of a number, and what is read at a place by the byte that stands there.
 -- From the definitions, the bytes dropped to a place being the byte there and the bytes dropped to the next.
 use mathlib.Core.Path.{_≡_, refl, sym, ap, _∙_}
-use mathlib.Core.Bool.{Bool, true, false}
+use mathlib.Core.Bool.{Bool, true, false, cond, _&&_}
 use mathlib.Core.List.{List, [], _∷_, _++_}
 use Prim.Native.Nat.{ℕ, zero, suc, _+_, _-_, _*_, _<_, _≤_}
 use native.Mathlib.Omega.{arith}
@@ -10,7 +10,6 @@ use lib.Dec.{ltb, leb, eqb}
 use lib.ListN.{length, drop, getD, drop-of-length-le}
 use lib.Seq.{drop-cons}
 use borrow.Author.Tests.{le-ltb, lt-ltb, le-leb, lt-leb, eq-eqb, ne-eqb}
-use Rattle.lists.specs.Choose.{choose, both}
 use Rattle.text.specs.Print.{limit, tabByte, lineFeed}
 use Rattle.text.specs.Read.{Found, isDigit, readMore, readNumber, readField}
 use Rattle.text.proofs.Numbers.{both-true}

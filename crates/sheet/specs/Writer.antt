@@ -1,11 +1,10 @@
 -- What the writer answers and writes. Assumes nothing: these are definitions.
 use mathlib.Core.Path.{_≡_}
-use mathlib.Core.Bool.{Bool, false}
+use mathlib.Core.Bool.{Bool, false, cond}
 use mathlib.Core.List.{List, [], _∷_, _++_}
 use Prim.Native.Nat.{ℕ, _≤_}
 use lib.Dec.{ltb, eqb}
 use lib.ListN.{length, drop}
-use Rattle.lists.specs.Choose.{choose}
 use Rattle.layout.specs.Layout.{volume}
 use Rattle.refusals.specs.FirstOf.{Check, check, firstOf}
 use Rattle.refusals.specs.Conditions.{badLength, shortBuffer, noOrder}
@@ -20,7 +19,7 @@ shortBytes text out = ltb (length out) (length text)
 -- sheet writer: 1, 11, 3, 7, 24
 abbrev pub writerChecks : List ℕ → ℕ → List ℕ → List ℕ → List Check
 writerChecks ds order words out =
-    check 1 (badLength ds) ∷ check 11 (bigSheet ds) ∷ check 3 (shortBuffer ds words) ∷ check 7 (noOrder order)
+    check 1 (badLength ds) ∷ check 11 (bigSheet ds) ∷ check 3 (shortBuffer ds words) ∷ check 7 (noOrder 4 order)
     ∷ check 24 (shortBytes (resultText ds order words) out) ∷ []
 
 -- the number that the writer answers
@@ -33,11 +32,11 @@ nothingWritten number = record { number = number; count = 0 }
 
 -- the number, and the count of bytes written, 0 where it refuses
 abbrev pub written : ℕ → List ℕ → Written
-written number text = record { number = number; count = choose (eqb number 0) (length text) 0 }
+written number text = record { number = number; count = cond (eqb number 0) (length text) 0 }
 
 -- the text stands at the buffer's start and bytes after it stay; where it refuses, not one byte is written
 abbrev pub writtenTo : ℕ → List ℕ → List ℕ → List ℕ
-writtenTo number text out = choose (eqb number 0) (text ++ drop (length text) out) out
+writtenTo number text out = cond (eqb number 0) (text ++ drop (length text) out) out
 
 -- the promise of the writer
 pub record WrittenAs (ds : List ℕ) (order : ℕ) (words out : List ℕ) (answered : Written) (out′ : List ℕ) : Type 0 where

@@ -44,7 +44,7 @@ pub(crate) fn row_count(lens: [usize; 4]) -> usize
 // The place of the first swap above 2, n where there is none.
 pub(crate) fn first_bad(swaps: [usize; 32], n: usize) -> usize
     requires { ⌜ n ≤ 32 ⌝ }
-    ensures { λ r. ⌜ r ≡ firstPlace noSwap (take n swaps) ⌝ }
+    ensures { λ r. ⌜ r ≡ firstPlace (noSwap 4) (take n swaps) ⌝ }
 {
     for i in 0..n {
         if 2 < swaps[i] {

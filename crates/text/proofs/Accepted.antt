@@ -1,7 +1,7 @@
 -- A sheet is accepted exactly when its bytes are the text of lengths, chain and words that pass the checks, and those are the
 -- ones answered. Each step of the meaning is taken apart by the laws of steps, each line by the law of lines.
 use mathlib.Core.Path.{_≡_, refl, sym, ap, _∙_}
-use mathlib.Core.Bool.{Bool, true, false}
+use mathlib.Core.Bool.{Bool, true, false, cond, _||_}
 use mathlib.Core.List.{List, [], _∷_, _++_}
 use mathlib.Core.Logic.{_↔_}
 use Prim.Native.Nat.{ℕ, zero, suc, _+_, _*_, _<_, _≤_}
@@ -9,7 +9,6 @@ use native.Mathlib.Omega.{arith}
 use lib.Dec.{ltb, eqb}
 use lib.ListN.{length}
 use borrow.Author.Tests.{ltb-false, le-ltb}
-use Rattle.lists.specs.Choose.{choose, either}
 use Rattle.layout.specs.Layout.{volume}
 use Rattle.refusals.specs.Conditions.{some, outOfRange, badLength, shortBuffer, longChain, noSwap, badSwap, firstPlace}
 use Rattle.text.specs.Print.{limit, lineFeed, fields, line}
@@ -30,7 +29,7 @@ pub record Right (buffer bytes ds chain words : List ℕ) : Type 0 where
   pub few-words : volume ds ≤ 1024
   pub room : volume ds ≤ length buffer
   pub few-swaps : length chain ≤ 32
-  pub swaps : badSwap chain ≡ false
+  pub swaps : badSwap 4 chain ≡ false
   pub block : length words ≡ volume ds
   pub small : Small words
 
@@ -44,7 +43,7 @@ none-small f under (v ∷ vs) e =
 in-range : (d : ℕ) → outOfRange d ≡ false → d ≤ limit
 in-range d e = omega (arith, ltb-false 4096 d (either-false (eqb d 0) (ltb 4096 d) e .1))
 
-a-swap : (k : ℕ) → noSwap k ≡ false → k ≤ limit
+a-swap : (k : ℕ) → (noSwap 4) k ≡ false → k ≤ limit
 a-swap k e = omega (arith, ltb-false 2 k e)
 
 -- what line 1 and its checks let through
@@ -93,17 +92,17 @@ read-shape {buffer} {bytes} {ds} {rest} h =
 pub record ChainRead (bytes chain rest : List ℕ) : Type 0 where
   pub held : Held (line chainWord) (tabs bytes) bytes chain rest
   pub few-swaps : length chain ≤ 32
-  pub swaps : badSwap chain ≡ false
+  pub swaps : badSwap 4 chain ≡ false
 
 pub chain-read : (bytes : List ℕ) {chain rest : List ℕ} → chainLine bytes ≡ Step.go chain rest → ChainRead bytes chain rest
 unfolding chainLine
 chain-read bytes {chain} {rest} e =
     let checked : List ℕ → List ℕ → Step = λ c mid.
-    refuseIf (longChain c) 5 0 (refuseIf (badSwap c) 6 (firstPlace noSwap c) (Step.go c mid)) in
+    refuseIf (longChain c) 5 0 (refuseIf (badSwap 4 c) 6 (firstPlace (noSwap 4) c) (Step.go c mid)) in
     onward-go (onLine 2 (readLine chainWord (tabs bytes) bytes)) checked e
     (λ c mid e₁ e₂.
-    let f₁ = refuse-go (longChain c) 5 0 (refuseIf (badSwap c) 6 (firstPlace noSwap c) (Step.go c mid)) e₂ in
-    let f₂ = refuse-go (badSwap c) 6 (firstPlace noSwap c) (Step.go c mid) (f₁ .1) in
+    let f₁ = refuse-go (longChain c) 5 0 (refuseIf (badSwap 4 c) 6 (firstPlace (noSwap 4) c) (Step.go c mid)) e₂ in
+    let f₂ = refuse-go (badSwap 4 c) 6 (firstPlace (noSwap 4) c) (Step.go c mid) (f₁ .1) in
     let f₃ : Step.go c mid ≡ Step.go chain rest = f₂ .1 in
     let a : c ≡ chain = cc in
     let b : mid ≡ rest = cc in
@@ -173,7 +172,7 @@ right-accepted {buffer} {bytes} {ds} {chain} {words} h =
     } in
     let second : ChainRead (line chainWord chain ++ rows) chain rows =
     record {
-      held = record { bytes = refl; long = chain-tabs chain rows; small = none-small noSwap a-swap chain (h .swaps) };
+      held = record { bytes = refl; long = chain-tabs chain rows; small = none-small (noSwap 4) a-swap chain (h .swaps) };
       few-swaps = h .few-swaps;
       swaps = h .swaps;
     } in

@@ -1,13 +1,12 @@
 -- A refusal's number is 1 to 24 and its place fits a number of a sheet, so that its line can be written. The places are 0, a line
 -- number, at most the rows and 3, or the place of a swap in a chain of at most 32.
 use mathlib.Core.Path.{_≡_, refl}
-use mathlib.Core.Bool.{Bool, true, false}
+use mathlib.Core.Bool.{Bool, true, false, cond}
 use mathlib.Core.List.{List, [], _∷_}
 use Prim.Native.Nat.{ℕ, zero, suc, _+_, _<_, _≤_}
 use native.Mathlib.Omega.{arith}
 use lib.ListN.{length}
 use borrow.Author.Tests.{ltb-false}
-use Rattle.lists.specs.Choose.{choose}
 use Rattle.refusals.specs.Conditions.{badLength, shortBuffer, longChain, badSwap, noSwap, firstPlace}
 use Rattle.text.specs.Print.{limit}
 use Rattle.text.specs.Read.{Found, readLine, tabs}
@@ -56,7 +55,7 @@ unfolding firstPlace
 first-inside f [] = omega arith
 first-inside f (v ∷ vs) = by (f v) (first-inside f vs)
   where
-    by : (t : Bool) → firstPlace f vs ≤ length vs → choose t 0 (suc (firstPlace f vs)) ≤ suc (length vs)
+    by : (t : Bool) → firstPlace f vs ≤ length vs → cond t 0 (suc (firstPlace f vs)) ≤ suc (length vs)
     by true h = omega arith
     by false h = omega arith
 
@@ -73,11 +72,11 @@ shape-kept buffer bytes =
 chain-kept : (bytes : List ℕ) → Kept (chainLine bytes)
 unfolding chainLine
 chain-kept bytes =
-    onwards (λ (chain : List ℕ) (rest : List ℕ). refuseIf (longChain chain) 5 0 (refuseIf (badSwap chain) 6 (firstPlace noSwap chain) (Step.go chain rest)))
+    onwards (λ (chain : List ℕ) (rest : List ℕ). refuseIf (longChain chain) 5 0 (refuseIf (badSwap 4 chain) 6 (firstPlace (noSwap 4) chain) (Step.go chain rest)))
     (form 2 (readLine chainWord (tabs bytes) bytes) (omega arith))
     (λ chain rest. condition (longChain chain) 5 0 (λ _. bounds 5 0 (omega arith) (omega arith) (omega arith))
-    (λ short. condition (badSwap chain) 6 (firstPlace noSwap chain)
-    (λ _. bounds 6 (firstPlace noSwap chain) (omega arith) (omega arith) (omega (arith, ltb-false 32 (length chain) short, first-inside noSwap chain)))
+    (λ short. condition (badSwap 4 chain) 6 (firstPlace (noSwap 4) chain)
+    (λ _. bounds 6 (firstPlace (noSwap 4) chain) (omega arith) (omega arith) (omega (arith, ltb-false 32 (length chain) short, first-inside (noSwap 4) chain)))
     (λ _. goes)))
 
 rows-kept : (k count n : ℕ) (bytes : List ℕ) → k + count ≤ limit → Kept (rowLines k count n bytes)

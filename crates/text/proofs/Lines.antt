@@ -1,7 +1,7 @@
 -- A line is read exactly where its text stands: reading it gives vs and the rest exactly when the bytes are the line of vs
 -- followed by the rest. Fields by induction on their count, each by the law of numbers.
 use mathlib.Core.Path.{_≡_, refl, sym, ap, _∙_}
-use mathlib.Core.Bool.{Bool, true, false}
+use mathlib.Core.Bool.{Bool, true, false, cond}
 use mathlib.Core.List.{List, [], _∷_, _++_, append-assoc}
 use mathlib.Core.Logic.{_↔_, ⊎-elim}
 use Prim.Native.Nat.{ℕ, zero, suc, _+_, _*_, _/_, _%_, _<_, _≤_}
@@ -11,7 +11,7 @@ use lib.Dec.{T, ltb, eqb}
 use lib.ListN.{length, take, drop, length-append, take-append-drop}
 use lib.Seq.{take-append-seam, drop-append-seam}
 use borrow.Author.Tests.{lt-ltb, le-ltb, eqb-true, eq-eqb, ne-eqb}
-use Rattle.lists.specs.Choose.{choose, same}
+use Rattle.lists.specs.Same.{same}
 use Rattle.lists.proofs.Test.{same→eq, eq→same}
 use Rattle.lists.proofs.Decide.{lt-or-ge}
 use Rattle.text.specs.Print.{limit, tabByte, lineFeed, digits, decimal, field, fields, line}

@@ -1,7 +1,7 @@
 -- A number is read exactly where its decimal stands. Printing goes by the last digit and reading by the first, so both are
 -- taken to one law: the decimal of v * 10 + d is that of v and the digit d. By induction on the digits and on the bytes.
 use mathlib.Core.Path.{_≡_, refl, sym, ap, _∙_}
-use mathlib.Core.Bool.{Bool, true, false}
+use mathlib.Core.Bool.{Bool, true, false, cond, _&&_}
 use mathlib.Core.List.{List, [], _∷_, _++_, append-assoc}
 use mathlib.Core.Logic.{⊎-elim}
 use Prim.Native.Nat.{ℕ, zero, suc, _+_, _-_, _*_, _/_, _%_, _^_, _<_, _≤_}
@@ -9,7 +9,6 @@ use native.Mathlib.Omega.{arith}
 use lib.Dec.{ltb, leb, eqb}
 use lib.ListN.{length, length-append}
 use borrow.Author.Tests.{ltb-true, ltb-false, leb-true, leb-false, eqb-true, eqb-false, lt-ltb, le-ltb, le-leb, lt-leb, eq-eqb, ne-eqb}
-use Rattle.lists.specs.Choose.{choose, both}
 use Rattle.lists.proofs.Decide.{lt-or-ge}
 use Rattle.text.specs.Print.{limit, digits, decimal}
 use Rattle.text.specs.Read.{Found, isDigit, readMore, readNumber, tabs}
@@ -24,7 +23,7 @@ pub decided : {A : Type 0} (t : Bool) → (t ≡ true → A) → (t ≡ false �
 decided true held quiet = held refl
 decided false held quiet = quiet refl
 
-pub both-true : (a b : Bool) → a ≡ true → b ≡ true → both a b ≡ true
+pub both-true : (a b : Bool) → a ≡ true → b ≡ true → (a && b) ≡ true
 both-true a b p q = rw p q
 
 pub digit-from : (b : ℕ) → isDigit b ≡ true → 48 ≤ b
@@ -41,7 +40,7 @@ digits-enough : (n v : ℕ) → v < 10 ^ suc n → digits (suc (suc n)) v ≡ di
 unfolding digits
 digits-enough zero v h = let s : v < 10 = omega arith in rw (lt-ltb v 10 s)
 digits-enough (suc n) v h =
-    ap (λ (ds : List ℕ). choose (ltb v 10) ((48 + v) ∷ []) (ds ++ ((48 + v % 10) ∷ []))) (digits-enough n (v / 10) (omega arith))
+    ap (λ (ds : List ℕ). cond (ltb v 10) ((48 + v) ∷ []) (ds ++ ((48 + v % 10) ∷ []))) (digits-enough n (v / 10) (omega arith))
 
 -- the decimal of v * 10 + d is that of v and the digit d
 pub decimal-digit : (v d : ℕ) → 1 ≤ v → d < 10 → v * 10 + d ≤ limit → decimal (v * 10 + d) ≡ decimal v ++ ((48 + d) ∷ [])
@@ -82,7 +81,7 @@ more-text v (b ∷ bs) {w} {rest} p l e =
     let d : ℕ = b - 48 in
     let from = digit-from b q in
     let to = digit-to b q in
-    let e₁ : choose (ltb limit (v * 10 + (b - 48))) Found.none (readMore (v * 10 + (b - 48)) bs) ≡ Found.found w rest = rw q at e in
+    let e₁ : cond (ltb limit (v * 10 + (b - 48))) Found.none (readMore (v * 10 + (b - 48)) bs) ≡ Found.found w rest = rw q at e in
     decided (ltb limit (v * 10 + (b - 48)))
     (λ (t : ltb limit (v * 10 + (b - 48)) ≡ true).
     let z : Found.none ≡ Found.found w rest = rw t at e₁ in
@@ -110,7 +109,7 @@ number-text (b ∷ bs) {w} {rest} e =
     (λ (q : isDigit b ≡ true).
     let from = digit-from b q in
     let to = digit-to b q in
-    let e₁ : choose (eqb b 48) (Found.found 0 bs) (readMore (b - 48) bs) ≡ Found.found w rest = rw q at e in
+    let e₁ : cond (eqb b 48) (Found.found 0 bs) (readMore (b - 48) bs) ≡ Found.found w rest = rw q at e in
     decided (eqb b 48)
     (λ (t : eqb b 48 ≡ true).
     let e₂ : Found.found 0 bs ≡ Found.found w rest = rw t at e₁ in

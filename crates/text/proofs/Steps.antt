@@ -1,10 +1,9 @@
 -- What a step that went on says of the steps it was made of: each went on, and no condition on the way held. By cases on the step.
 use mathlib.Core.Path.{_≡_, refl, sym, ap, _∙_}
-use mathlib.Core.Bool.{Bool, true, false}
+use mathlib.Core.Bool.{Bool, true, false, cond}
 use mathlib.Core.List.{List, [], _∷_, _++_}
 use Prim.Native.Nat.{ℕ, zero, suc}
 use native.Mathlib.Omega.{arith}
-use Rattle.lists.specs.Choose.{choose}
 use Rattle.text.specs.Read.{Found}
 use Rattle.text.specs.Meaning.{Step, Outcome, refuseIf, onLine, onward, behind, conclude, ended}
 

@@ -1,10 +1,9 @@
 -- What a sheet means, line by line in the reading order. Assumes nothing: these are definitions.
-use mathlib.Core.Bool.{Bool}
+use mathlib.Core.Bool.{Bool, cond}
 use mathlib.Core.List.{List, [], _∷_, _++_}
 use Prim.Native.Nat.{ℕ, zero, suc}
 use lib.Dec.{ltb}
 use lib.ListN.{length}
-use Rattle.lists.specs.Choose.{choose}
 use Rattle.layout.specs.Layout.{volume}
 use Rattle.refusals.specs.Conditions.{badLength, shortBuffer, longChain, badSwap, noSwap, firstPlace}
 use Rattle.text.specs.Read.{Found, readLine, tabs}
@@ -30,7 +29,7 @@ pub data Outcome : Type 0 where
 
 -- where the condition holds, the number is given with the place; else go on
 abbrev pub refuseIf : Bool → ℕ → ℕ → Step → Step
-refuseIf t number place next = choose t (Step.refuse number place) next
+refuseIf t number place next = cond t (Step.refuse number place) next
 
 -- 10: line k is malformed, missing or left over
 abbrev pub onLine : ℕ → Found (List ℕ) → Step
@@ -65,7 +64,7 @@ unfoldable pub chainLine : List ℕ → Step
 chainLine bytes =
     onward (onLine 2 (readLine chainWord (tabs bytes) bytes))
     (λ (chain : List ℕ) (rest : List ℕ).
-    refuseIf (longChain chain) 5 0 (refuseIf (badSwap chain) 6 (firstPlace noSwap chain) (Step.go chain rest)))
+    refuseIf (longChain chain) 5 0 (refuseIf (badSwap 4 chain) 6 (firstPlace (noSwap 4) chain) (Step.go chain rest)))
 
 -- nothing follows the last row: line k is left over where something does
 unfoldable pub ended : ℕ → List ℕ → Step

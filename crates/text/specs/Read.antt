@@ -1,10 +1,10 @@
 -- What bytes read as: a number, a field, fields, a line, each with the bytes that follow it. Assumes nothing: these are definitions.
-use mathlib.Core.Bool.{Bool, true, false}
+use mathlib.Core.Bool.{Bool, true, false, cond, _&&_}
 use mathlib.Core.List.{List, [], _∷_}
 use Prim.Native.Nat.{ℕ, zero, suc, _+_, _-_, _*_}
 use lib.Dec.{ltb, leb, eqb}
 use lib.ListN.{length, take, drop}
-use Rattle.lists.specs.Choose.{choose, both, same}
+use Rattle.lists.specs.Same.{same}
 use Rattle.text.specs.Print.{limit, tabByte, lineFeed}
 
 -- what was read, with the bytes that follow it; or nothing, where the bytes do not begin with such a thing
@@ -19,23 +19,23 @@ after (Found.found a rest) f = f a rest
 
 -- the byte of a decimal digit
 abbrev pub isDigit : ℕ → Bool
-isDigit b = both (leb 48 b) (leb b 57)
+isDigit b = leb 48 b && leb b 57
 
 -- a number whose digits so far say v goes on as long as digits follow; it is at most 4,294,967,295
 unfoldable pub readMore : ℕ → List ℕ → Found ℕ
 readMore v [] = Found.found v []
 readMore v (b ∷ bs) =
-    choose (isDigit b) (choose (ltb limit (v * 10 + (b - 48))) Found.none (readMore (v * 10 + (b - 48)) bs)) (Found.found v (b ∷ bs))
+    cond (isDigit b) (cond (ltb limit (v * 10 + (b - 48))) Found.none (readMore (v * 10 + (b - 48)) bs)) (Found.found v (b ∷ bs))
 
 -- a number begins with a digit, and with 0 only where it is 0 itself
 unfoldable pub readNumber : List ℕ → Found ℕ
 readNumber [] = Found.none
-readNumber (b ∷ bs) = choose (isDigit b) (choose (eqb b 48) (Found.found 0 bs) (readMore (b - 48) bs)) Found.none
+readNumber (b ∷ bs) = cond (isDigit b) (cond (eqb b 48) (Found.found 0 bs) (readMore (b - 48) bs)) Found.none
 
 -- a field is one tab and a number
 unfoldable pub readField : List ℕ → Found ℕ
 readField [] = Found.none
-readField (b ∷ bs) = choose (eqb b tabByte) (readNumber bs) Found.none
+readField (b ∷ bs) = cond (eqb b tabByte) (readNumber bs) Found.none
 
 -- n fields, one after the other
 unfoldable pub readFields : ℕ → List ℕ → Found (List ℕ)
@@ -46,14 +46,14 @@ readFields (suc n) bs =
 -- a line is closed by one LF
 unfoldable pub closed : List ℕ → List ℕ → Found (List ℕ)
 closed vs [] = Found.none
-closed vs (b ∷ bs) = choose (eqb b lineFeed) (Found.found vs bs) Found.none
+closed vs (b ∷ bs) = cond (eqb b lineFeed) (Found.found vs bs) Found.none
 
 -- a line of n numbers: its word, n fields, one LF
 unfoldable pub readLine : List ℕ → ℕ → List ℕ → Found (List ℕ)
 readLine word n bs =
-    choose (same (take (length word) bs) word) (after (readFields n (drop (length word) bs)) closed) Found.none
+    cond (same (take (length word) bs) word) (after (readFields n (drop (length word) bs)) closed) Found.none
 
 -- how many fields the first line has: one for each tab before its LF
 unfoldable pub tabs : List ℕ → ℕ
 tabs [] = 0
-tabs (b ∷ bs) = choose (eqb b lineFeed) 0 (choose (eqb b tabByte) (suc (tabs bs)) (tabs bs))
+tabs (b ∷ bs) = cond (eqb b lineFeed) 0 (cond (eqb b tabByte) (suc (tabs bs)) (tabs bs))

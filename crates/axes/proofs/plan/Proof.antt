@@ -19,7 +19,7 @@ use Rattle.axes.proofs.plan.Tie as tie
 
 returns : tie.Need-returns
 returns c =
-    let above : First 7 (planChecks (c .before .args .order)) = First.here (lt-ltb 23 (c .before .args .order) (c .if1 .taken)) refl in
+    let above : First 7 (planChecks 4 (c .before .args .order)) = First.here (lt-ltb 23 (c .before .args .order) (c .if1 .taken)) refl in
     record { number-is = sym (first-is above); given = λ e. absurd (omega arith); refusal = λ _. refl }
 
 order-of-requires : tie.Need-order-of-requires
@@ -50,7 +50,7 @@ returns-3 c =
     let long : n ≡ length (planOf o) = c .before .before .falling-pairs .ensures ∙ ap falling axes ∙ sym (length-plan o) in
     let swaps : planned n (c .before .before .before .order-of .result .axes) ≡ planOf o =
     ap₂ planned (long ∙ length-plan o) axes ∙ unfold planOf in refl in
-    let silent : Silent (planChecks k) =
+    let silent : Silent (planChecks 4 k) =
     Silent.more (le-ltb 23 k (omega arith)) (Silent.more (le-ltb 6 (length (planOf o)) (omega (arith, length-plan o))) Silent.none) in
     record {
       number-is = sym (silent-zero silent);

@@ -28,7 +28,7 @@ returns c =
     request-refused (c .refusal .ensures) (c .before .if1 .taken) ds (x .args .order) (now (x .args .buf)) (now (x .args .scratch))
     (number
     ∙ sym
-    (refused-first (passesChecks ds (now (x .args .buf)) (now (x .args .scratch))) (planChecks (x .args .order)) (λ e. c .before .if1 .taken (number ∙ e))))
+    (refused-first (passesChecks ds (now (x .args .buf)) (now (x .args .scratch))) (planChecks 4 (x .args .order)) (λ e. c .before .if1 .taken (number ∙ e))))
     refl
 
 plan-requires : tie.Need-plan-requires
@@ -49,7 +49,7 @@ returns-2 c =
     let ds = x .args .shape .lens in
     let block = sound ds (now (x .args .buf)) (now (x .args .scratch)) (sym (c .before .before .before .before .before .block-number .ensures) ∙ c .before .before .before .before .if1 .left) in
     request-refused (c .refusal2 .ensures) (c .before .if2 .taken) ds (x .args .order) (now (x .args .buf)) (now (x .args .scratch))
-    (c .before .before .before .plan .ensures .number-is ∙ sym (accepted-so-far (planChecks (x .args .order)) (silent-block block)))
+    (c .before .before .before .plan .ensures .number-is ∙ sym (accepted-so-far (planChecks 4 (x .args .order)) (silent-block block)))
     refl
 
 array-share-prefix-swaps : tie.Need-array-share-prefix-swaps

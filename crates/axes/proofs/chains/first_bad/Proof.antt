@@ -12,7 +12,7 @@ use Rattle.axes.proofs.chains.first_bad.Statement.{statement}
 use Rattle.axes.proofs.chains.first_bad.Tie as tie
 
 abbrev Inv-loop : tie.InvT-loop
-Inv-loop swaps i₀ i-end i = (i-end ≡ length swaps) × (i ≤ length swaps) × (firstPlace noSwap swaps ≡ i + firstPlace noSwap (drop i swaps))
+Inv-loop swaps i₀ i-end i = (i-end ≡ length swaps) × (i ≤ length swaps) × (firstPlace (noSwap 4) swaps ≡ i + firstPlace (noSwap 4) (drop i swaps))
 
 abbrev μ-loop : tie.MeasureT-loop
 μ-loop swaps i₀ i-end i = length swaps - i
@@ -30,7 +30,7 @@ returns : tie.Need-returns Inv-loop μ-loop
 returns c =
     let l = now (c .before .before .before .before .args .swaps) in
     let i = c .before .before .before .loop .i in
-    omega (arith, first-here l i (omega arith) noSwap (lt-ltb 2 (getD l i 0) (c .if1 .taken)))
+    omega (arith, first-here l i (omega arith) (noSwap 4) (lt-ltb 2 (getD l i 0) (c .if1 .taken)))
 
 add-i : tie.Need-add-i Inv-loop μ-loop
 add-i c = search needs
@@ -42,13 +42,13 @@ loop-again : tie.Need-loop-again Inv-loop μ-loop
 loop-again c =
     let l = now (c .before .before .before .before .args .swaps) in
     let i = c .before .before .before .loop .i in
-    (refl, omega arith, omega (arith, first-past l i (omega arith) noSwap (le-ltb 2 (getD l i 0) (c .if1 .left))))
+    (refl, omega arith, omega (arith, first-past l i (omega arith) (noSwap 4) (le-ltb 2 (getD l i 0) (c .if1 .left))))
 
 returns-2 : tie.Need-returns-2 Inv-loop μ-loop
 returns-2 c =
     let l = now (c .before .before .args .swaps) in
-    let none : firstPlace noSwap (drop (c .before .loop .i) l) ≡ 0 =
-    ap (firstPlace noSwap) (drop-end l (c .before .loop .i) (omega arith)) ∙ unfold firstPlace in refl in
+    let none : firstPlace (noSwap 4) (drop (c .before .loop .i) l) ≡ 0 =
+    ap (firstPlace (noSwap 4)) (drop-end l (c .before .loop .i) (omega arith)) ∙ unfold firstPlace in refl in
     omega arith
 
 pub first-bad-spec : {M : Type 1} → statement M

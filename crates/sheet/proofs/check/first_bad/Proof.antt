@@ -13,7 +13,7 @@ use Rattle.sheet.proofs.check.first_bad.Tie as tie
 
 abbrev Inv-loop : tie.InvT-loop
 Inv-loop n swaps i₀ i =
-    (i ≤ n) × (firstPlace noSwap (take n swaps) ≡ i + firstPlace noSwap (drop i (take n swaps)))
+    (i ≤ n) × (firstPlace (noSwap 4) (take n swaps) ≡ i + firstPlace (noSwap 4) (drop i (take n swaps)))
 
 abbrev μ-loop : tie.MeasureT-loop
 μ-loop n swaps i₀ i =
@@ -36,7 +36,7 @@ returns c =
     omega (
       arith,
       l .inv .1,
-      place-here noSwap xs (l .i) (omega (arith, length-take-le (s .args .n) (s .args .t1) (omega arith)))
+      place-here (noSwap 4) xs (l .i) (omega (arith, length-take-le (s .args .n) (s .args .t1) (omega arith)))
           (rw (getD-take (s .args .n) (s .args .t1) (l .i) 0 (c .before .loop-test .taken)) (lt-ltb 2 (getD (s .args .t1) (l .i) 0) (c .if1 .taken))),
     )
 
@@ -55,7 +55,7 @@ loop-again c =
       omega (
         arith,
         l .inv .1,
-        place-later noSwap xs (l .i) (omega (arith, length-take-le (s .args .n) (s .args .t1) (omega arith)))
+        place-later (noSwap 4) xs (l .i) (omega (arith, length-take-le (s .args .n) (s .args .t1) (omega arith)))
             (rw (getD-take (s .args .n) (s .args .t1) (l .i) 0 (c .before .loop-test .taken)) (le-ltb 2 (getD (s .args .t1) (l .i) 0) (c .if1 .left))),
       ),
     )
@@ -67,7 +67,7 @@ returns-2 c =
     omega (
       arith,
       l .inv .1,
-      place-end noSwap (take (s .args .n) (s .args .t1)) (l .i) (omega (arith, length-take-le (s .args .n) (s .args .t1) (omega arith))),
+      place-end (noSwap 4) (take (s .args .n) (s .args .t1)) (l .i) (omega (arith, length-take-le (s .args .n) (s .args .t1) (omega arith))),
     )
 
 pub first-bad-spec : {M : Type 1} → statement M

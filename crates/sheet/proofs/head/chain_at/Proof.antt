@@ -55,13 +55,13 @@ fetched c =
     c .values-at .ensures
     ∙ ap (λ (x : Found (List ℕ)). numbersOf x ++ replicate (32 - c .before .before .before .before .before .before .tabs-at .result) 0) (fields (c .before .before) .1)
 
-first : (c : tie.After-first-bad) → c .first-bad .result ≡ firstPlace noSwap (swaps (c .before .before .before))
+first : (c : tie.After-first-bad) → c .first-bad .result ≡ firstPlace (noSwap 4) (swaps (c .before .before .before))
 first c =
     let v = c .before in
     let d = v .before .before in
     let n = d .before .before .before .before .tabs-at .result in
-    c .first-bad .ensures ∙ ap (λ (l : List ℕ). firstPlace noSwap (take n l)) (fetched v)
-    ∙ ap (firstPlace noSwap) (take-at (swaps d) (replicate (32 - n) 0) n (counted d))
+    c .first-bad .ensures ∙ ap (λ (l : List ℕ). firstPlace (noSwap 4) (take n l)) (fetched v)
+    ∙ ap (firstPlace (noSwap 4)) (take-at (swaps d) (replicate (32 - n) 0) n (counted d))
 
 tabs-at-requires : tie.Need-tabs-at-requires
 tabs-at-requires c κs = search needs
@@ -109,8 +109,8 @@ returns-3 c =
     let k = c .before .before in
     let v = k .before in
     let d = v .before .before in
-    let bad : badSwap (swaps d) ≡ true =
-    some-place noSwap (swaps d) ∙ lt-ltb (firstPlace noSwap (swaps d)) (length (swaps d)) (omega (arith, counted d, first k, c .before .if3 .taken)) in
+    let bad : badSwap 4 (swaps d) ≡ true =
+    some-place (noSwap 4) (swaps d) ∙ lt-ltb (firstPlace (noSwap 4) (swaps d)) (length (swaps d)) (omega (arith, counted d, first k, c .before .if3 .taken)) in
     chain-no 6 (k .first-bad .result) (c .no-chain3 .ensures) (λ z. omega arith)
     (chain-bad (bs d) (found-line d) (omega (arith, counted d, v .before .if2 .left)) bad ∙ ap (Step.refuse 6) (sym (first k)))
 
@@ -120,8 +120,8 @@ returns-4 c =
     let v = k .before in
     let d = v .before .before in
     let next = d .before .before .line-at .result .next in
-    let none : badSwap (swaps d) ≡ false =
-    some-place noSwap (swaps d) ∙ le-ltb (firstPlace noSwap (swaps d)) (length (swaps d)) (omega (arith, counted d, first k, c .if3 .left)) in
+    let none : badSwap 4 (swaps d) ≡ false =
+    some-place (noSwap 4) (swaps d) ∙ le-ltb (firstPlace (noSwap 4) (swaps d)) (length (swaps d)) (omega (arith, counted d, first k, c .if3 .left)) in
     let e : chainLine (bs d) ≡ Step.go (swaps d) (drop next (d .before .before .before .before .before .before .args .bytes .now)) =
     chain-right (bs d) (found-line d) (omega (arith, counted d, v .before .if2 .left)) none in
     let w : wordsOf (chainLine (bs d)) ≡ swaps d = rw e in

@@ -5,7 +5,7 @@ use Prim.Native.Nat.{ℕ, _+_, _<_, _≤_}
 use mathlib.Core.List.{List}
 use lib.ListN.{length, take, drop, getD}
 use borrow.Author.Tests.{not-true, not-false}
-use Rattle.lists.specs.Choose.{same}
+use Rattle.lists.specs.Same.{same}
 use Rattle.text.specs.Print.{lineFeed}
 use Rattle.text.specs.Read.{Found, readFields, readLine, closed}
 use Rattle.sheet.specs.Place.{numbersOf}

@@ -2,7 +2,7 @@
 use mathlib.Core.Path.{_≡_, refl, sym, ap, _∙_}
 use Prim.Native.Nat.{ℕ, _+_, _-_, _<_, _≤_}
 use lib.ListN.{length, take, drop, getD}
-use Rattle.lists.specs.Choose.{same}
+use Rattle.lists.specs.Same.{same}
 use Rattle.sheet.proofs.LinesAt.{agrees, word-start, word-end, word-step, word-other, word-short}
 use native.Mathlib.Omega.{arith}
 use borrow.Author.Needs.{needs}
