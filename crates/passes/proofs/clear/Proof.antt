@@ -21,10 +21,12 @@ same-length c = search needs
 
 returns-2 : tie.Need-returns-2
 returns-2 c =
-    let h = c .before .before .before .before .if1 .left in
+    let after-zero : tie.After-zero = search in
+    let else1 : tie.Else1 = search in
+    let h = else1 .if1 .left in
     record {
       number-is = rw (le-ltb _ _ h);
-      zeroed = λ _. c .before .before .zero .ensures;
+      zeroed = λ _. after-zero .zero .ensures;
       kept = λ n. absurd (n refl);
     }
 

@@ -18,26 +18,35 @@ same-length-2 : tie.Need-same-length-2
 same-length-2 c = search needs
 
 returns : tie.Need-returns
-returns c = refused (c .before .number .ensures) (c .if1 .taken)
+returns c =
+    let after-number : tie.After-number = search in
+    refused (after-number .number .ensures) (c .if1 .taken)
 
 sides-of-requires : tie.Need-sides-of-requires
 sides-of-requires c κs =
-    let x = c .before .before .before .before .before .before in
-    let a = swap-accepted (x .args .outer) (x .args .m) (x .args .n) (x .args .chunk) (x .args .buf .now) (x .args .scratch .now) (c .before .number .ensures) (omega (arith, c .if1 .left)) in
+    let after-number : tie.After-number = search in
+    let start : tie.Start = search in
+    let a = swap-accepted (start .args .outer) (start .args .m) (start .args .n) (start .args .chunk) (start .args .buf .now) (start .args .scratch .now) (after-number .number .ensures) (omega (arith, c .if1 .left)) in
     (a .0 .m-pos, a .0 .n-pos, a .0 .m-few, a .0 .n-few)
 
 turn-all-requires : tie.Need-turn-all-requires
 turn-all-requires c κs =
-    let x = c .before .before .before .before .before .before .before .before .before in
-    let a = swap-accepted (x .args .outer) (x .args .m) (x .args .n) (x .args .chunk) (x .args .buf .now) (x .args .scratch .now) (c .before .before .before .before .number .ensures) (omega (arith, c .before .before .before .if1 .left)) in
-    let s = c .before .before .sides-of .ensures in
+    let after-sides-of : tie.After-sides-of = search in
+    let else1 : tie.Else1 = search in
+    let after-number : tie.After-number = search in
+    let start : tie.Start = search in
+    let a = swap-accepted (start .args .outer) (start .args .m) (start .args .n) (start .args .chunk) (start .args .buf .now) (start .args .scratch .now) (after-number .number .ensures) (omega (arith, else1 .if1 .left)) in
+    let s = after-sides-of .sides-of .ensures in
     (s .2, rw (s .0, s .1) (a .1))
 
 clear-longest-requires : tie.Need-clear-longest-requires
 clear-longest-requires c κs =
-    let x = c .before .before .before .before .before .before .before .before .before .before .before .before .before .before .before in
-    let a = swap-accepted (x .args .outer) (x .args .m) (x .args .n) (x .args .chunk) (x .args .buf .now) (x .args .scratch .now) (c .before .before .before .before .before .before .before .before .before .before .number .ensures) (omega (arith, c .before .before .before .before .before .before .before .before .before .if1 .left)) in
-    rw (c .before .before .before .before .before .turn-all .ensures .1 .same) (a .1 .room)
+    let after-turn-all : tie.After-turn-all = search in
+    let else1 : tie.Else1 = search in
+    let after-number : tie.After-number = search in
+    let start : tie.Start = search in
+    let a = swap-accepted (start .args .outer) (start .args .m) (start .args .n) (start .args .chunk) (start .args .buf .now) (start .args .scratch .now) (after-number .number .ensures) (omega (arith, else1 .if1 .left)) in
+    rw (after-turn-all .turn-all .ensures .1 .same) (a .1 .room)
 
 same-length-3 : tie.Need-same-length-3
 same-length-3 c = search needs
@@ -47,10 +56,14 @@ same-length-4 c = search needs
 
 returns-2 : tie.Need-returns-2
 returns-2 c =
-    let x = c .before .before .before .before .before .before .before .before .before .before .before .before .before .before .before .before .before .before in
-    let s = c .before .before .before .before .before .before .before .before .before .before .before .sides-of .ensures in
-    let t = rw (s .0, s .1) at (c .before .before .before .before .before .before .before .before .turn-all .ensures) in
-    accepted (sym (c .before .before .before .before .before .before .before .before .before .before .before .before .before .number .ensures) ∙ omega (arith, c .before .before .before .before .before .before .before .before .before .before .before .before .if1 .left)) (t .0) (c .before .before .clear-longest .ensures ∙ cleared-past (t .1))
+    let after-clear-longest : tie.After-clear-longest = search in
+    let after-turn-all : tie.After-turn-all = search in
+    let after-sides-of : tie.After-sides-of = search in
+    let else1 : tie.Else1 = search in
+    let after-number : tie.After-number = search in
+    let s = after-sides-of .sides-of .ensures in
+    let t = rw (s .0, s .1) at (after-turn-all .turn-all .ensures) in
+    accepted (sym (after-number .number .ensures) ∙ omega (arith, else1 .if1 .left)) (t .0) (after-clear-longest .clear-longest .ensures ∙ cleared-past (t .1))
 
 pub swap-spec : {M : Type 1} → statement M
 swap-spec =

@@ -17,26 +17,35 @@ same-length-2 : tie.Need-same-length-2
 same-length-2 c = search needs
 
 returns : tie.Need-returns
-returns c = refused (c .before .number .ensures) (c .if1 .taken)
+returns c =
+    let after-number : tie.After-number = search in
+    refused (after-number .number .ensures) (c .if1 .taken)
 
 sides-of-requires : tie.Need-sides-of-requires
 sides-of-requires c κs =
-    let x = c .before .before .before .before .before .before in
-    let a = accepted-by (x .args .buf .now) (x .args .scratch .now) (c .before .number .ensures) (omega (arith, c .if1 .left)) in
+    let after-number : tie.After-number = search in
+    let start : tie.Start = search in
+    let a = accepted-by (start .args .buf .now) (start .args .scratch .now) (after-number .number .ensures) (omega (arith, c .if1 .left)) in
     (a .m-pos, a .n-pos, a .m-few, a .n-few)
 
 turn-at-requires : tie.Need-turn-at-requires
 turn-at-requires c κs =
-    let x = c .before .before .before .before .before .before .before .before .before in
-    let s = c .before .before .sides-of .ensures in
-    let a = accepted-by (x .args .buf .now) (x .args .scratch .now) (c .before .before .before .before .number .ensures) (omega (arith, c .before .before .before .if1 .left)) in
+    let after-sides-of : tie.After-sides-of = search in
+    let else1 : tie.Else1 = search in
+    let after-number : tie.After-number = search in
+    let start : tie.Start = search in
+    let s = after-sides-of .sides-of .ensures in
+    let a = accepted-by (start .args .buf .now) (start .args .scratch .now) (after-number .number .ensures) (omega (arith, else1 .if1 .left)) in
     (s .2, rw (s .0, s .1) (flat-lies a))
 
 clear-longest-requires : tie.Need-clear-longest-requires
 clear-longest-requires c κs =
-    let x = c .before .before .before .before .before .before .before .before .before .before .before .before .before .before .before in
-    let a = accepted-by (x .args .buf .now) (x .args .scratch .now) (c .before .before .before .before .before .before .before .before .before .before .number .ensures) (omega (arith, c .before .before .before .before .before .before .before .before .before .if1 .left)) in
-    rw (c .before .before .before .before .before .turn-at .ensures .1 .same) (a .room)
+    let after-turn-at : tie.After-turn-at = search in
+    let else1 : tie.Else1 = search in
+    let after-number : tie.After-number = search in
+    let start : tie.Start = search in
+    let a = accepted-by (start .args .buf .now) (start .args .scratch .now) (after-number .number .ensures) (omega (arith, else1 .if1 .left)) in
+    rw (after-turn-at .turn-at .ensures .1 .same) (a .room)
 
 same-length-3 : tie.Need-same-length-3
 same-length-3 c = search needs
@@ -46,12 +55,17 @@ same-length-4 c = search needs
 
 returns-2 : tie.Need-returns-2
 returns-2 c =
-    let x = c .before .before .before .before .before .before .before .before .before .before .before .before .before .before .before .before .before .before in
-    let s = c .before .before .before .before .before .before .before .before .before .before .before .sides-of .ensures in
-    let t = rw (s .0, s .1) at (c .before .before .before .before .before .before .before .before .turn-at .ensures) in
-    accepted (sym (c .before .before .before .before .before .before .before .before .before .before .before .before .before .number .ensures) ∙ omega (arith, c .before .before .before .before .before .before .before .before .before .before .before .before .if1 .left))
-    (flat-turned (x .args .m) (x .args .n) (x .args .buf .now) (c .before .before .before .before .before .before .before .before .turn-at .last .0) (t .0))
-    (c .before .before .clear-longest .ensures ∙ cleared-past (t .1))
+    let after-clear-longest : tie.After-clear-longest = search in
+    let after-turn-at : tie.After-turn-at = search in
+    let after-sides-of : tie.After-sides-of = search in
+    let else1 : tie.Else1 = search in
+    let after-number : tie.After-number = search in
+    let start : tie.Start = search in
+    let s = after-sides-of .sides-of .ensures in
+    let t = rw (s .0, s .1) at (after-turn-at .turn-at .ensures) in
+    accepted (sym (after-number .number .ensures) ∙ omega (arith, else1 .if1 .left))
+    (flat-turned (start .args .m) (start .args .n) (start .args .buf .now) (after-turn-at .turn-at .last .0) (t .0))
+    (after-clear-longest .clear-longest .ensures ∙ cleared-past (t .1))
 
 pub turn-spec : {M : Type 1} → statement M
 turn-spec =

@@ -8,28 +8,44 @@ use Rattle.passes.proofs.adjacent.words_of.Statement.{statement}
 use Rattle.passes.proofs.adjacent.words_of.Tie as tie
 
 returns : tie.Need-returns
-returns c = let x = c .before in let h = there (x .args .outer) (x .args .m) (x .args .n) (x .args .chunk) (x .pre) in rw (swap-volume (x .args .outer) (x .args .m) (x .args .n) (x .args .chunk), lt-ltb 1048576 _ (lt-of-lt-of-le (c .if1 .taken) (le-trans (le-mul-of-pos-right (x .args .outer) (h .chunk-pos)) (le-mul-of-pos-right (x .args .outer * x .args .chunk) (mul-pos (h .m-pos) (h .n-pos))))))
+returns c =
+    let start : tie.Start = search in
+    let h = there (start .args .outer) (start .args .m) (start .args .n) (start .args .chunk) (start .pre) in rw (swap-volume (start .args .outer) (start .args .m) (start .args .n) (start .args .chunk), lt-ltb 1048576 _ (lt-of-lt-of-le (c .if1 .taken) (le-trans (le-mul-of-pos-right (start .args .outer) (h .chunk-pos)) (le-mul-of-pos-right (start .args .outer * start .args .chunk) (mul-pos (h .m-pos) (h .n-pos))))))
 
 returns-2 : tie.Need-returns-2
-returns-2 c = let x = c .before .before in let h = there (x .args .outer) (x .args .m) (x .args .n) (x .args .chunk) (x .pre) in rw (swap-volume (x .args .outer) (x .args .m) (x .args .n) (x .args .chunk), lt-ltb 1048576 _ (lt-of-lt-of-le (c .if2 .taken) (le-trans (rw (mul-comm (x .args .outer) (x .args .chunk)) (le-mul-of-pos-right (x .args .chunk) (h .outer-pos))) (le-mul-of-pos-right (x .args .outer * x .args .chunk) (mul-pos (h .m-pos) (h .n-pos))))))
+returns-2 c =
+    let start : tie.Start = search in
+    let h = there (start .args .outer) (start .args .m) (start .args .n) (start .args .chunk) (start .pre) in rw (swap-volume (start .args .outer) (start .args .m) (start .args .n) (start .args .chunk), lt-ltb 1048576 _ (lt-of-lt-of-le (c .if2 .taken) (le-trans (rw (mul-comm (start .args .outer) (start .args .chunk)) (le-mul-of-pos-right (start .args .chunk) (h .outer-pos))) (le-mul-of-pos-right (start .args .outer * start .args .chunk) (mul-pos (h .m-pos) (h .n-pos))))))
 
 mul-around : tie.Need-mul-around
-mul-around c = omega (arith, mul-le-mul (c .before .if1 .left) (c .if2 .left))
+mul-around c =
+    let else1 : tie.Else1 = search in
+    omega (arith, mul-le-mul (else1 .if1 .left) (c .if2 .left))
 
 returns-3 : tie.Need-returns-3
-returns-3 c = let x = c .before .before .before in let h = there (x .args .outer) (x .args .m) (x .args .n) (x .args .chunk) (x .pre) in rw (swap-volume (x .args .outer) (x .args .m) (x .args .n) (x .args .chunk), lt-ltb 1048576 _ (lt-of-lt-of-le (c .if3 .taken) (le-mul-of-pos-right (x .args .outer * x .args .chunk) (mul-pos (h .m-pos) (h .n-pos)))))
+returns-3 c =
+    let start : tie.Start = search in
+    let h = there (start .args .outer) (start .args .m) (start .args .n) (start .args .chunk) (start .pre) in rw (swap-volume (start .args .outer) (start .args .m) (start .args .n) (start .args .chunk), lt-ltb 1048576 _ (lt-of-lt-of-le (c .if3 .taken) (le-mul-of-pos-right (start .args .outer * start .args .chunk) (mul-pos (h .m-pos) (h .n-pos)))))
 
 mul-words : tie.Need-mul-words
-mul-words c = let x = c .before .before .before in let h = there (x .args .outer) (x .args .m) (x .args .n) (x .args .chunk) (x .pre) in omega (arith, mul-le-mul (h .m-few) (h .n-few))
+mul-words c =
+    let start : tie.Start = search in
+    let h = there (start .args .outer) (start .args .m) (start .args .n) (start .args .chunk) (start .pre) in omega (arith, mul-le-mul (h .m-few) (h .n-few))
 
 mul-words-2 : tie.Need-mul-words-2
-mul-words-2 c = let x = c .before .before .before in let h = there (x .args .outer) (x .args .m) (x .args .n) (x .args .chunk) (x .pre) in omega (arith, mul-le-mul (c .if3 .left) (mul-le-mul (h .m-few) (h .n-few)))
+mul-words-2 c =
+    let start : tie.Start = search in
+    let h = there (start .args .outer) (start .args .m) (start .args .n) (start .args .chunk) (start .pre) in omega (arith, mul-le-mul (c .if3 .left) (mul-le-mul (h .m-few) (h .n-few)))
 
 returns-4 : tie.Need-returns-4
-returns-4 c = let x = c .before .before .before .before in let h = there (x .args .outer) (x .args .m) (x .args .n) (x .args .chunk) (x .pre) in rw (swap-volume (x .args .outer) (x .args .m) (x .args .n) (x .args .chunk), lt-ltb 1048576 _ (c .if4 .taken))
+returns-4 c =
+    let start : tie.Start = search in
+    let h = there (start .args .outer) (start .args .m) (start .args .n) (start .args .chunk) (start .pre) in rw (swap-volume (start .args .outer) (start .args .m) (start .args .n) (start .args .chunk), lt-ltb 1048576 _ (c .if4 .taken))
 
 returns-5 : tie.Need-returns-5
-returns-5 c = let x = c .before .before .before .before in let h = there (x .args .outer) (x .args .m) (x .args .n) (x .args .chunk) (x .pre) in rw (swap-volume (x .args .outer) (x .args .m) (x .args .n) (x .args .chunk), le-ltb 1048576 _ (c .if4 .left))
+returns-5 c =
+    let start : tie.Start = search in
+    let h = there (start .args .outer) (start .args .m) (start .args .n) (start .args .chunk) (start .pre) in rw (swap-volume (start .args .outer) (start .args .m) (start .args .n) (start .args .chunk), le-ltb 1048576 _ (c .if4 .left))
 
 pub words-of-spec : {M : Type 1} → statement M
 words-of-spec =

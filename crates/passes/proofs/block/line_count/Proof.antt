@@ -12,7 +12,9 @@ add-result-2 : tie.Need-add-result-2
 add-result-2 c = search needs
 
 sub-result : tie.Need-sub-result
-sub-result c = let x = c .before .before .before in omega (arith, x .pre .skipped-is, skipped-le (x .args .s .m) (x .args .s .n))
+sub-result c =
+    let start : tie.Start = search in
+    omega (arith, start .pre .skipped-is, skipped-le (start .args .s .m) (start .args .s .n))
 
 returns : tie.Need-returns
 returns c = search needs

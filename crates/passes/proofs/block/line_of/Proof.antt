@@ -19,33 +19,50 @@ add-t : tie.Need-add-t
 add-t c = search needs
 
 mul-t11 : tie.Need-mul-t11
-mul-t11 c = let x = c .before .before in omega (arith, small (x .args .s .skipped + x .args .l) (x .pre .2) (omega (arith, c .if1 .taken, x .pre .0 .n-few)))
+mul-t11 c =
+    let start : tie.Start = search in
+    omega (arith, small (start .args .s .skipped + start .args .l) (start .pre .2) (omega (arith, c .if1 .taken, start .pre .0 .n-few)))
 
 add-t12 : tie.Need-add-t12
-add-t12 c = let x = c .before .before in omega (arith, small (x .args .s .skipped + x .args .l) (x .pre .2) (omega (arith, c .if1 .taken, x .pre .0 .n-few)))
+add-t12 c =
+    let start : tie.Start = search in
+    omega (arith, small (start .args .s .skipped + start .args .l) (start .pre .2) (omega (arith, c .if1 .taken, start .pre .0 .n-few)))
 
 mul-t13 : tie.Need-mul-t13
-mul-t13 c = let x = c .before .before in omega (arith, small (x .args .s .n) (x .pre .2) (x .pre .0 .n-few))
+mul-t13 c =
+    let start : tie.Start = search in
+    omega (arith, small (start .args .s .n) (start .pre .2) (start .pre .0 .n-few))
 
 returns : tie.Need-returns
 unfolding lineAt
-returns c = let x = c .before .before in rw (← x .pre .0 .skipped-is) (rw (lt-ltb _ _ (c .if1 .taken)))
+returns c =
+    let start : tie.Start = search in
+    rw (← start .pre .0 .skipped-is) (rw (lt-ltb _ _ (c .if1 .taken)))
 
 add-if2 : tie.Need-add-if2
 add-if2 c = search needs
 
 mul-t15 : tie.Need-mul-t15
-mul-t15 c = let x = c .before .before .before in omega (arith, mul-le-mul {n₁ = x .args .s .skipped + x .args .l - x .args .s .n} {n₂ = 4096} (omega (arith, c .if2 .taken, x .pre .0 .m-few)) (x .pre .0 .n-few))
+mul-t15 c =
+    let start : tie.Start = search in
+    omega (arith, mul-le-mul {n₁ = start .args .s .skipped + start .args .l - start .args .s .n} {n₂ = 4096} (omega (arith, c .if2 .taken, start .pre .0 .m-few)) (start .pre .0 .n-few))
 
 mul-t16 : tie.Need-mul-t16
-mul-t16 c = let x = c .before .before .before in omega (arith, large (x .args .s .skipped + x .args .l - x .args .s .n) (x .pre .2) (omega (arith, c .if2 .taken, x .pre .0 .m-few)) (x .pre .0 .n-few))
+mul-t16 c =
+    let start : tie.Start = search in
+    omega (arith, large (start .args .s .skipped + start .args .l - start .args .s .n) (start .pre .2) (omega (arith, c .if2 .taken, start .pre .0 .m-few)) (start .pre .0 .n-few))
 
 add-t17 : tie.Need-add-t17
-add-t17 c = let x = c .before .before .before in omega (arith, large (x .args .s .skipped + x .args .l - x .args .s .n) (x .pre .2) (omega (arith, c .if2 .taken, x .pre .0 .m-few)) (x .pre .0 .n-few))
+add-t17 c =
+    let start : tie.Start = search in
+    omega (arith, large (start .args .s .skipped + start .args .l - start .args .s .n) (start .pre .2) (omega (arith, c .if2 .taken, start .pre .0 .m-few)) (start .pre .0 .n-few))
 
 returns-2 : tie.Need-returns-2
 unfolding lineAt
-returns-2 c = let x = c .before .before .before in rw (← x .pre .0 .skipped-is) (rw (le-ltb _ _ (c .before .if1 .left), lt-ltb _ _ (c .if2 .taken)))
+returns-2 c =
+    let else1 : tie.Else1 = search in
+    let start : tie.Start = search in
+    rw (← start .pre .0 .skipped-is) (rw (le-ltb _ _ (else1 .if1 .left), lt-ltb _ _ (c .if2 .taken)))
 
 add-j : tie.Need-add-j
 add-j c = search needs
@@ -54,17 +71,26 @@ sub-j : tie.Need-sub-j
 sub-j c = search needs
 
 mul-t14 : tie.Need-mul-t14
-mul-t14 c = let x = c .before .before .before in omega (arith, small (x .args .s .skipped + x .args .l - (x .args .s .n + x .args .s .m)) (x .pre .2) (omega (arith, x .pre .3, x .pre .0 .skipped-is, x .pre .0 .n-few)))
+mul-t14 c =
+    let start : tie.Start = search in
+    omega (arith, small (start .args .s .skipped + start .args .l - (start .args .s .n + start .args .s .m)) (start .pre .2) (omega (arith, start .pre .3, start .pre .0 .skipped-is, start .pre .0 .n-few)))
 
 add-t18 : tie.Need-add-t18
-add-t18 c = let x = c .before .before .before in omega (arith, small (x .args .s .skipped + x .args .l - (x .args .s .n + x .args .s .m)) (x .pre .2) (omega (arith, x .pre .3, x .pre .0 .skipped-is, x .pre .0 .n-few)))
+add-t18 c =
+    let start : tie.Start = search in
+    omega (arith, small (start .args .s .skipped + start .args .l - (start .args .s .n + start .args .s .m)) (start .pre .2) (omega (arith, start .pre .3, start .pre .0 .skipped-is, start .pre .0 .n-few)))
 
 mul-t19 : tie.Need-mul-t19
-mul-t19 c = let x = c .before .before .before in omega (arith, small (x .args .s .n) (x .pre .2) (x .pre .0 .n-few))
+mul-t19 c =
+    let start : tie.Start = search in
+    omega (arith, small (start .args .s .n) (start .pre .2) (start .pre .0 .n-few))
 
 returns-3 : tie.Need-returns-3
 unfolding lineAt
-returns-3 c = let x = c .before .before .before in rw (← x .pre .0 .skipped-is) (rw (le-ltb _ _ (c .before .if1 .left), le-ltb _ _ (c .if2 .left)))
+returns-3 c =
+    let else1 : tie.Else1 = search in
+    let start : tie.Start = search in
+    rw (← start .pre .0 .skipped-is) (rw (le-ltb _ _ (else1 .if1 .left), le-ltb _ _ (c .if2 .left)))
 
 pub line-of-spec : {M : Type 1} → statement M
 line-of-spec =

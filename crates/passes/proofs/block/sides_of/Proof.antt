@@ -12,25 +12,30 @@ gcd-requires : tie.Need-gcd-requires
 gcd-requires c κs = search needs
 
 div-a : tie.Need-div-a
-div-a c = rw (c .gcd .ensures) (sides-are (c .before .args .m) (c .before .args .n) (c .before .pre .0) (c .before .pre .1) .c-pos)
+div-a c =
+    let start : tie.Start = search in
+    rw (c .gcd .ensures) (sides-are (start .args .m) (start .args .n) (start .pre .0) (start .pre .1) .c-pos)
 
 div-b : tie.Need-div-b
-div-b c = rw (c .gcd .ensures) (sides-are (c .before .args .m) (c .before .args .n) (c .before .pre .0) (c .before .pre .1) .c-pos)
+div-b c =
+    let start : tie.Start = search in
+    rw (c .gcd .ensures) (sides-are (start .args .m) (start .args .n) (start .pre .0) (start .pre .1) .c-pos)
 
 returns : tie.Need-returns
 unfolding skipped
 returns c =
-    let x = c .before .before in
-    let g = c .before .gcd .ensures in (
+    let after-gcd : tie.After-gcd = search in
+    let start : tie.Start = search in
+    let g = after-gcd .gcd .ensures in (
       refl,
       refl,
       record {
-        m-pos = x .pre .0;
-        n-pos = x .pre .1;
-        m-few = x .pre .2;
-        n-few = x .pre .3;
-        a-is = ap (λ (z : ℕ). x .args .m / z) g;
-        b-is = ap (λ (z : ℕ). x .args .n / z) g;
+        m-pos = start .pre .0;
+        n-pos = start .pre .1;
+        m-few = start .pre .2;
+        n-few = start .pre .3;
+        a-is = ap (λ (z : ℕ). start .args .m / z) g;
+        b-is = ap (λ (z : ℕ). start .args .n / z) g;
         skipped-is = rw (lt-ltb 1 _ (rw g at (c .if1 .taken)));
       },
     )
@@ -38,17 +43,18 @@ returns c =
 returns-2 : tie.Need-returns-2
 unfolding skipped
 returns-2 c =
-    let x = c .before .before in
-    let g = c .before .gcd .ensures in (
+    let after-gcd : tie.After-gcd = search in
+    let start : tie.Start = search in
+    let g = after-gcd .gcd .ensures in (
       refl,
       refl,
       record {
-        m-pos = x .pre .0;
-        n-pos = x .pre .1;
-        m-few = x .pre .2;
-        n-few = x .pre .3;
-        a-is = ap (λ (z : ℕ). x .args .m / z) g;
-        b-is = ap (λ (z : ℕ). x .args .n / z) g;
+        m-pos = start .pre .0;
+        n-pos = start .pre .1;
+        m-few = start .pre .2;
+        n-few = start .pre .3;
+        a-is = ap (λ (z : ℕ). start .args .m / z) g;
+        b-is = ap (λ (z : ℕ). start .args .n / z) g;
         skipped-is = rw (le-ltb 1 _ (rw g at (c .if1 .left)));
       },
     )

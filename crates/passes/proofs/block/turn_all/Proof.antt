@@ -21,66 +21,89 @@ abbrev μ-loop : tie.MeasureT-loop
 μ-loop buf₀ scratch₀ s outer chunk words count t₀ buf scratch t = outer * chunk - t
 
 mul-words : tie.Need-mul-words Inv-loop μ-loop
-mul-words c = let x = c .before .before .before in record { fits = lt-of-le-of-lt (mul-le-mul (x .pre .0 .m-few) (x .pre .0 .n-few)) (lit< tt) }
+mul-words c =
+    let start : tie.Start Inv-loop μ-loop = search in
+    record { fits = lt-of-le-of-lt (mul-le-mul (start .pre .0 .m-few) (start .pre .0 .n-few)) (lit< tt) }
 
 mul-words-2 : tie.Need-mul-words-2 Inv-loop μ-loop
-mul-words-2 c = let x = c .before .before .before in record { fits = lt-of-le-of-lt (words-few (x .pre .0 .m-pos) (x .pre .0 .n-pos) (x .pre .1)) (lit< tt) }
+mul-words-2 c =
+    let start : tie.Start Inv-loop μ-loop = search in
+    record { fits = lt-of-le-of-lt (words-few (start .pre .0 .m-pos) (start .pre .0 .n-pos) (start .pre .1)) (lit< tt) }
 
 mul-count : tie.Need-mul-count Inv-loop μ-loop
-mul-count c = let x = c .before .before .before in omega (arith, around-few (x .pre .0 .m-pos) (x .pre .0 .n-pos) (x .pre .1))
+mul-count c =
+    let start : tie.Start Inv-loop μ-loop = search in
+    omega (arith, around-few (start .pre .0 .m-pos) (start .pre .0 .n-pos) (start .pre .1))
 
 loop-holds : tie.Need-loop-holds Inv-loop μ-loop
-loop-holds c = let x = c .before .before .before in (omega arith, some-none _ _ _ _ _ (x .args .buf .now), past-none _ (x .args .scratch .now))
+loop-holds c =
+    let start : tie.Start Inv-loop μ-loop = search in
+    (omega arith, some-none _ _ _ _ _ (start .args .buf .now), past-none _ (start .args .scratch .now))
 
 div-base : tie.Need-div-base Inv-loop μ-loop
 div-base c = search needs
 
 mul-base : tie.Need-mul-base Inv-loop μ-loop
 mul-base c =
-    let x = c .before .before .before .before .before in
-    let t = c .before .loop .t in
-    record { fits = lt-of-le-of-lt (le-trans (le-add-right (t / x .args .chunk * (x .args .s .m * x .args .s .n * x .args .chunk)) (t % x .args .chunk)) (base-few (x .pre .0 .m-pos) (x .pre .0 .n-pos) (x .pre .1) t (c .loop-test .taken))) (lit< tt) }
+    let at-loop : tie.At-loop Inv-loop μ-loop = search in
+    let start : tie.Start Inv-loop μ-loop = search in
+    let t = at-loop .loop .t in
+    record { fits = lt-of-le-of-lt (le-trans (le-add-right (t / start .args .chunk * (start .args .s .m * start .args .s .n * start .args .chunk)) (t % start .args .chunk)) (base-few (start .pre .0 .m-pos) (start .pre .0 .n-pos) (start .pre .1) t (c .loop-test .taken))) (lit< tt) }
 
 rem-base : tie.Need-rem-base Inv-loop μ-loop
 rem-base c = search needs
 
 add-base : tie.Need-add-base Inv-loop μ-loop
 add-base c =
-    let x = c .before .before .before .before .before in
-    record { fits = lt-of-le-of-lt (base-few (x .pre .0 .m-pos) (x .pre .0 .n-pos) (x .pre .1) (c .before .loop .t) (c .loop-test .taken)) (lit< tt) }
+    let at-loop : tie.At-loop Inv-loop μ-loop = search in
+    let start : tie.Start Inv-loop μ-loop = search in
+    record { fits = lt-of-le-of-lt (base-few (start .pre .0 .m-pos) (start .pre .0 .n-pos) (start .pre .1) (at-loop .loop .t) (c .loop-test .taken)) (lit< tt) }
 
 turn-at-requires : tie.Need-turn-at-requires Inv-loop μ-loop
 turn-at-requires c κs =
-    let x = c .before .before .before .before .before .before .before in
-    let l = c .before .before .before .loop in
-    (x .pre .0, block-lies (x .pre .0 .m-pos) (x .pre .0 .n-pos) (x .pre .1) (l .t) (l .buf) (l .scratch) (c .before .before .loop-test .taken) (l .inv .1 .same) (l .inv .2 .same))
+    let in-loop : tie.In-loop Inv-loop μ-loop = search in
+    let at-loop : tie.At-loop Inv-loop μ-loop = search in
+    let start : tie.Start Inv-loop μ-loop = search in
+    let l = at-loop .loop in
+    (start .pre .0, block-lies (start .pre .0 .m-pos) (start .pre .0 .n-pos) (start .pre .1) (l .t) (l .buf) (l .scratch) (in-loop .loop-test .taken) (l .inv .1 .same) (l .inv .2 .same))
 
 add-t : tie.Need-add-t Inv-loop μ-loop
-add-t c = let x = c .before .before .before .before .before .before .before .before .before .before .before .before in omega (arith, c .before .before .before .before .before .before .before .loop-test .taken, around-few (x .pre .0 .m-pos) (x .pre .0 .n-pos) (x .pre .1))
+add-t c =
+    let in-loop : tie.In-loop Inv-loop μ-loop = search in
+    let start : tie.Start Inv-loop μ-loop = search in
+    omega (arith, in-loop .loop-test .taken, around-few (start .pre .0 .m-pos) (start .pre .0 .n-pos) (start .pre .1))
 
 loop-less : tie.Need-loop-less Inv-loop μ-loop
 loop-less c = search needs
 
 loop-again : tie.Need-loop-again Inv-loop μ-loop
 loop-again c =
-    let x = c .before .before .before .before .before .before .before .before .before .before .before .before in
-    let l = c .before .before .before .before .before .before .before .before .loop in
-    let h = c .before .before .before .before .before .before .before .loop-test .taken in
-    let t = c .before .before .before .before .turn-at .ensures in
-    (omega (arith, h), some-more (blocks (x .args .outer) (x .args .s .m) (x .args .s .n) (x .args .chunk) (x .pre .0 .m-pos) (x .pre .0 .n-pos) (x .pre .1 .words)) h (l .inv .1) (t .0), past-more (le-refl _) (l .inv .2) (t .1))
+    let after-turn-at : tie.After-turn-at Inv-loop μ-loop = search in
+    let in-loop : tie.In-loop Inv-loop μ-loop = search in
+    let at-loop : tie.At-loop Inv-loop μ-loop = search in
+    let start : tie.Start Inv-loop μ-loop = search in
+    let l = at-loop .loop in
+    let h = in-loop .loop-test .taken in
+    let t = after-turn-at .turn-at .ensures in
+    (omega (arith, h), some-more (blocks (start .args .outer) (start .args .s .m) (start .args .s .n) (start .args .chunk) (start .pre .0 .m-pos) (start .pre .0 .n-pos) (start .pre .1 .words)) h (l .inv .1) (t .0), past-more (le-refl _) (l .inv .2) (t .1))
 
 same-length : tie.Need-same-length Inv-loop μ-loop
-same-length c = c .before .loop .inv .1 .same
+same-length c =
+    let at-loop : tie.At-loop Inv-loop μ-loop = search in
+    at-loop .loop .inv .1 .same
 
 same-length-2 : tie.Need-same-length-2 Inv-loop μ-loop
-same-length-2 c = c .before .loop .inv .2 .same
+same-length-2 c =
+    let at-loop : tie.At-loop Inv-loop μ-loop = search in
+    at-loop .loop .inv .2 .same
 
 returns : tie.Need-returns Inv-loop μ-loop
 returns c =
-    let x = c .before .before .before .before .before in
-    let l = c .before .loop in
-    let e : l .t ≡ x .args .outer * x .args .chunk = omega (arith, c .loop-test .left, l .inv .0) in
-    (swapped (x .args .outer) (x .args .s .m) (x .args .s .n) (x .args .chunk) (x .pre .0 .m-pos) (x .pre .0 .n-pos) (x .pre .1 .words) (x .args .buf .now) (l .buf) (rw e at (l .inv .1)), l .inv .2)
+    let at-loop : tie.At-loop Inv-loop μ-loop = search in
+    let start : tie.Start Inv-loop μ-loop = search in
+    let l = at-loop .loop in
+    let e : l .t ≡ start .args .outer * start .args .chunk = omega (arith, c .loop-test .left, l .inv .0) in
+    (swapped (start .args .outer) (start .args .s .m) (start .args .s .n) (start .args .chunk) (start .pre .0 .m-pos) (start .pre .0 .n-pos) (start .pre .1 .words) (start .args .buf .now) (l .buf) (rw e at (l .inv .1)), l .inv .2)
 
 pub turn-all-spec : {M : Type 1} → statement M
 turn-all-spec =

@@ -18,17 +18,22 @@ line-count-requires : tie.Need-line-count-requires Inv-loop μ-loop
 line-count-requires c κs = search needs
 
 loop-holds : tie.Need-loop-holds Inv-loop μ-loop
-loop-holds c = let x = c .before .before .before in (c .line-count .ensures, forth-none (x .pre .0) (x .pre .1))
+loop-holds c =
+    let start : tie.Start Inv-loop μ-loop = search in
+    (c .line-count .ensures, forth-none (start .pre .0) (start .pre .1))
 
 line-of-requires : tie.Need-line-of-requires Inv-loop μ-loop
 line-of-requires c κs = search needs
 
 forth-requires : tie.Need-forth-requires Inv-loop μ-loop
 forth-requires c κs =
-    let x = c .before .before .before .before .before .before .before .before in
-    let l = c .before .before .before .before .loop in
-    let h : l .l < lineCount (x .args .s .m) (x .args .s .n) = rw (l .inv .0) at (c .before .before .before .loop-test .taken) in
-    (x .pre .0, rw (c .before .before .line-of .ensures) (going-fits (x .pre .0) (x .pre .1) (l .l) (l .buf) (l .scratch) h (l .inv .1 .same) (l .inv .1 .past)))
+    let after-line-of : tie.After-line-of Inv-loop μ-loop = search in
+    let in-loop : tie.In-loop Inv-loop μ-loop = search in
+    let at-loop : tie.At-loop Inv-loop μ-loop = search in
+    let start : tie.Start Inv-loop μ-loop = search in
+    let l = at-loop .loop in
+    let h : l .l < lineCount (start .args .s .m) (start .args .s .n) = rw (l .inv .0) at (in-loop .loop-test .taken) in
+    (start .pre .0, rw (after-line-of .line-of .ensures) (going-fits (start .pre .0) (start .pre .1) (l .l) (l .buf) (l .scratch) h (l .inv .1 .same) (l .inv .1 .past)))
 
 add-l : tie.Need-add-l Inv-loop μ-loop
 add-l c = search needs
@@ -38,12 +43,16 @@ loop-less c = search needs
 
 loop-again : tie.Need-loop-again Inv-loop μ-loop
 loop-again c =
-    let x = c .before .before .before .before .before .before .before .before .before .before .before .before .before in
-    let l = c .before .before .before .before .before .before .before .before .before .loop in
-    let h : l .l < lineCount (x .args .s .m) (x .args .s .n) = rw (l .inv .0) at (c .before .before .before .before .before .before .before .before .loop-test .taken) in
-    let e = c .before .before .before .before .before .before .before .line-of .ensures in
-    let f = c .before .before .before .before .forth .ensures in
-    (l .inv .0, forth-more (x .pre .0) (x .pre .1) h (l .inv .1) (rw e at (f .0)) (rw e at (f .1)))
+    let after-forth : tie.After-forth Inv-loop μ-loop = search in
+    let after-line-of : tie.After-line-of Inv-loop μ-loop = search in
+    let in-loop : tie.In-loop Inv-loop μ-loop = search in
+    let at-loop : tie.At-loop Inv-loop μ-loop = search in
+    let start : tie.Start Inv-loop μ-loop = search in
+    let l = at-loop .loop in
+    let h : l .l < lineCount (start .args .s .m) (start .args .s .n) = rw (l .inv .0) at (in-loop .loop-test .taken) in
+    let e = after-line-of .line-of .ensures in
+    let f = after-forth .forth .ensures in
+    (l .inv .0, forth-more (start .pre .0) (start .pre .1) h (l .inv .1) (rw e at (f .0)) (rw e at (f .1)))
 
 same-length : tie.Need-same-length Inv-loop μ-loop
 same-length c = search needs
@@ -53,10 +62,11 @@ same-length-2 c = search needs
 
 returns : tie.Need-returns Inv-loop μ-loop
 returns c =
-    let x = c .before .before .before .before .before in
-    let l = c .before .loop in
-    let e : l .l ≡ lineCount (x .args .s .m) (x .args .s .n) = omega (arith, l .inv .1 .few, l .inv .0, c .loop-test .left) in
-    (forth-all (x .pre .0) (x .pre .1) e (l .inv .1), l .inv .1 .past)
+    let at-loop : tie.At-loop Inv-loop μ-loop = search in
+    let start : tie.Start Inv-loop μ-loop = search in
+    let l = at-loop .loop in
+    let e : l .l ≡ lineCount (start .args .s .m) (start .args .s .n) = omega (arith, l .inv .1 .few, l .inv .0, c .loop-test .left) in
+    (forth-all (start .pre .0) (start .pre .1) e (l .inv .1), l .inv .1 .past)
 
 pub turn-at-spec : {M : Type 1} → statement M
 turn-at-spec =

@@ -18,7 +18,9 @@ line-count-requires : tie.Need-line-count-requires Inv-loop μ-loop
 line-count-requires c κs = search needs
 
 loop-holds : tie.Need-loop-holds Inv-loop μ-loop
-loop-holds c = let x = c .before .before .before in rw (c .line-count .ensures) (home-all (x .pre .0) (x .pre .1))
+loop-holds c =
+    let start : tie.Start Inv-loop μ-loop = search in
+    rw (c .line-count .ensures) (home-all (start .pre .0) (start .pre .1))
 
 sub-l : tie.Need-sub-l Inv-loop μ-loop
 sub-l c = search needs
@@ -28,23 +30,30 @@ line-of-requires c κs = search needs
 
 back-requires : tie.Need-back-requires Inv-loop μ-loop
 back-requires c κs =
-    let x = c .before .before .before .before .before .before .before .before in
-    let l = c .before .before .before .before .loop in
-    let h : l .l - 1 < lineCount (x .args .s .m) (x .args .s .n) = omega (arith, l .inv .few, c .before .before .before .loop-test .taken) in
-    (x .pre .0, rw (c .before .before .line-of .ensures) (going-fits (x .pre .0) (x .pre .1) (l .l - 1) (l .buf) (l .scratch) h (l .inv .same) (l .inv .past)))
+    let after-line-of : tie.After-line-of Inv-loop μ-loop = search in
+    let in-loop : tie.In-loop Inv-loop μ-loop = search in
+    let at-loop : tie.At-loop Inv-loop μ-loop = search in
+    let start : tie.Start Inv-loop μ-loop = search in
+    let l = at-loop .loop in
+    let h : l .l - 1 < lineCount (start .args .s .m) (start .args .s .n) = omega (arith, l .inv .few, in-loop .loop-test .taken) in
+    (start .pre .0, rw (after-line-of .line-of .ensures) (going-fits (start .pre .0) (start .pre .1) (l .l - 1) (l .buf) (l .scratch) h (l .inv .same) (l .inv .past)))
 
 loop-less : tie.Need-loop-less Inv-loop μ-loop
 loop-less c = search needs
 
 loop-again : tie.Need-loop-again Inv-loop μ-loop
 loop-again c =
-    let x = c .before .before .before .before .before .before .before .before .before .before .before .before .before in
-    let l = c .before .before .before .before .before .before .before .before .before .loop in
-    let h : l .l - 1 < lineCount (x .args .s .m) (x .args .s .n) = omega (arith, l .inv .few, c .before .before .before .before .before .before .before .before .loop-test .taken) in
-    let e = c .before .before .before .before .before .before .before .line-of .ensures in
-    let f = c .before .before .before .before .back .ensures in
-    let k : l .l - 1 + 1 ≡ l .l = omega (arith, c .before .before .before .before .before .before .before .before .loop-test .taken) in
-    home-less (x .pre .0) (x .pre .1) h (rw k (l .inv)) (rw e at (f .0)) (rw e at (f .1))
+    let after-back : tie.After-back Inv-loop μ-loop = search in
+    let after-line-of : tie.After-line-of Inv-loop μ-loop = search in
+    let in-loop : tie.In-loop Inv-loop μ-loop = search in
+    let at-loop : tie.At-loop Inv-loop μ-loop = search in
+    let start : tie.Start Inv-loop μ-loop = search in
+    let l = at-loop .loop in
+    let h : l .l - 1 < lineCount (start .args .s .m) (start .args .s .n) = omega (arith, l .inv .few, in-loop .loop-test .taken) in
+    let e = after-line-of .line-of .ensures in
+    let f = after-back .back .ensures in
+    let k : l .l - 1 + 1 ≡ l .l = omega (arith, in-loop .loop-test .taken) in
+    home-less (start .pre .0) (start .pre .1) h (rw k (l .inv)) (rw e at (f .0)) (rw e at (f .1))
 
 same-length : tie.Need-same-length Inv-loop μ-loop
 same-length c = search needs
@@ -54,10 +63,11 @@ same-length-2 c = search needs
 
 returns : tie.Need-returns Inv-loop μ-loop
 returns c =
-    let x = c .before .before .before .before .before in
-    let l = c .before .loop in
+    let at-loop : tie.At-loop Inv-loop μ-loop = search in
+    let start : tie.Start Inv-loop μ-loop = search in
+    let l = at-loop .loop in
     let e : l .l ≡ 0 = omega (arith, c .loop-test .left) in
-    (home-none (x .pre .0) (x .pre .1) (rw e at (l .inv)), l .inv .past)
+    (home-none (start .pre .0) (start .pre .1) (rw e at (l .inv)), l .inv .past)
 
 pub turn-home-at-spec : {M : Type 1} → statement M
 turn-home-at-spec =

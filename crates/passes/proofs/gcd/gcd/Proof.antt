@@ -21,15 +21,20 @@ rem-rest : tie.Need-rem-rest Inv-loop μ-loop
 rem-rest c = search needs
 
 loop-less : tie.Need-loop-less Inv-loop μ-loop
-loop-less c = mod-lt (c .before .loop .x) (omega arith)
+loop-less c =
+    let at-loop : tie.At-loop Inv-loop μ-loop = search in
+    mod-lt (at-loop .loop .x) (omega arith)
 
 loop-again : tie.Need-loop-again Inv-loop μ-loop
-loop-again c = gcd-step (c .before .loop .x) (c .before .loop .y) ∙ c .before .loop .inv
+loop-again c =
+    let at-loop : tie.At-loop Inv-loop μ-loop = search in
+    gcd-step (at-loop .loop .x) (at-loop .loop .y) ∙ at-loop .loop .inv
 
 returns : tie.Need-returns Inv-loop μ-loop
 returns c =
-    let e : c .before .loop .y ≡ 0 = omega arith in
-    sym (gcd-end (c .before .loop .x)) ∙ ap (gcdOf (c .before .loop .x)) (sym e) ∙ c .before .loop .inv
+    let at-loop : tie.At-loop Inv-loop μ-loop = search in
+    let e : at-loop .loop .y ≡ 0 = omega arith in
+    sym (gcd-end (at-loop .loop .x)) ∙ ap (gcdOf (at-loop .loop .x)) (sym e) ∙ at-loop .loop .inv
 
 pub gcd-spec : {M : Type 1} → statement M
 gcd-spec = tie.close (tie.spec Inv-loop μ-loop loop-holds rem-rest loop-less loop-again returns)

@@ -18,8 +18,10 @@ same-length-2 c = search needs
 
 returns : tie.Need-returns
 returns c =
-    let x = c .before .before .before .before .before .before .before .before .before .before .before .before in
-    (moved-home (moved-through (from-within (x .pre .1)) (c .before .before .before .before .before .before .before .lift-home .ensures) (c .before .before .put-back .ensures)), held-past (c .before .before .before .before .before .before .before .lift-home .ensures))
+    let after-put-back : tie.After-put-back = search in
+    let after-lift-home : tie.After-lift-home = search in
+    let start : tie.Start = search in
+    (moved-home (moved-through (from-within (start .pre .1)) (after-lift-home .lift-home .ensures) (after-put-back .put-back .ensures)), held-past (after-lift-home .lift-home .ensures))
 
 pub back-spec : {M : Type 1} → statement M
 back-spec =

@@ -18,8 +18,10 @@ same-length-2 c = search needs
 
 returns : tie.Need-returns
 returns c =
-    let x = c .before .before .before .before .before .before .before .before .before .before .before .before in
-    (moved-through (to-within (x .pre .1)) (c .before .before .before .before .before .before .before .lift .ensures) (c .before .before .put-back .ensures), held-past (c .before .before .before .before .before .before .before .lift .ensures))
+    let after-put-back : tie.After-put-back = search in
+    let after-lift : tie.After-lift = search in
+    let start : tie.Start = search in
+    (moved-through (to-within (start .pre .1)) (after-lift .lift .ensures) (after-put-back .put-back .ensures), held-past (after-lift .lift .ensures))
 
 pub forth-spec : {M : Type 1} → statement M
 forth-spec = tie.close (tie.spec lift-requires put-back-requires same-length same-length-2 returns)

@@ -19,9 +19,11 @@ abbrev μ-loop : tie.MeasureT-loop
 inside : (c : tie.After-paired-place Inv-loop μ-loop)
     → posOn (c .before .before .before .before .before .args .l) (c .paired-place .result) < length (c .before .before .before .before .before .args .buf .now)
 inside c =
-    let x = c .before .before .before .before .before in
-    let k = c .before .before .loop .k in
-    rw (c .paired-place .ensures) (x .pre .1 .inside (paired (x .args .s .m) (x .args .s .n) (x .args .l .pass) (x .args .l .index) k) (x .pre .1 .within k (c .before .loop-test .taken)))
+    let in-loop : tie.In-loop Inv-loop μ-loop = search in
+    let at-loop : tie.At-loop Inv-loop μ-loop = search in
+    let start : tie.Start Inv-loop μ-loop = search in
+    let k = at-loop .loop .k in
+    rw (c .paired-place .ensures) (start .pre .1 .inside (paired (start .args .s .m) (start .args .s .n) (start .args .l .pass) (start .args .l .index) k) (start .pre .1 .within k (in-loop .loop-test .taken)))
 
 loop-holds : tie.Need-loop-holds Inv-loop μ-loop
 loop-holds c = search needs
@@ -39,7 +41,9 @@ mul-scratch-2 : tie.Need-mul-scratch-2 Inv-loop μ-loop
 mul-scratch-2 c = omega (arith, inside c)
 
 shared-slice-read-scratch : tie.Need-shared-slice-read-scratch Inv-loop μ-loop
-shared-slice-read-scratch c = inside (c .before)
+shared-slice-read-scratch c =
+    let after-paired-place : tie.After-paired-place Inv-loop μ-loop = search in
+    inside (after-paired-place)
 
 mul-scratch-3 : tie.Need-mul-scratch-3 Inv-loop μ-loop
 mul-scratch-3 c = search needs
@@ -55,19 +59,23 @@ loop-less c = search needs
 
 loop-again : tie.Need-loop-again Inv-loop μ-loop
 loop-again c =
-    let x = c .before .before .before .before .before .before in
-    let l = c .before .before .before .loop in
-    let h = c .before .before .loop-test .taken in
-    (omega (arith, h), rw (c .before .paired-place .ensures) (filling-more (λ i j _ _ e. e) h (omega (arith, h, x .pre .1 .room)) (l .inv .1)))
+    let after-paired-place : tie.After-paired-place Inv-loop μ-loop = search in
+    let in-loop : tie.In-loop Inv-loop μ-loop = search in
+    let at-loop : tie.At-loop Inv-loop μ-loop = search in
+    let start : tie.Start Inv-loop μ-loop = search in
+    let l = at-loop .loop in
+    let h = in-loop .loop-test .taken in
+    (omega (arith, h), rw (after-paired-place .paired-place .ensures) (filling-more (λ i j _ _ e. e) h (omega (arith, h, start .pre .1 .room)) (l .inv .1)))
 
 same-length : tie.Need-same-length Inv-loop μ-loop
 same-length c = search needs
 
 returns : tie.Need-returns Inv-loop μ-loop
 returns c =
-    let x = c .before .before .before .before in
-    let l = c .before .loop in
-    let e : l .k ≡ x .args .l .count = omega arith in
+    let at-loop : tie.At-loop Inv-loop μ-loop = search in
+    let start : tie.Start Inv-loop μ-loop = search in
+    let l = at-loop .loop in
+    let e : l .k ≡ start .args .l .count = omega arith in
     record {
       same = l .inv .1 .same;
       placed = λ k h. l .inv .1 .placed k (omega arith);

@@ -15,8 +15,10 @@ same-length c = search needs
 
 returns : tie.Need-returns
 returns c =
-    let x = c .before .before .before .before .before .before .before .before in
-    decided (λ (to from : ℕ → ℕ). Held (x .args .l) from to (x .args .buf .now) (x .args .scratch .now) (c .before .before .gather .last .1 .0)) (paired (x .args .s .m) (x .args .s .n) (x .args .l .pass) (x .args .l .index)) (eq-eqb _ _ (c .before .before .before .before .if1 .taken)) (c .before .before .gather .ensures)
+    let after-gather : tie.After-gather = search in
+    let then1 : tie.Then1 = search in
+    let start : tie.Start = search in
+    decided (λ (to from : ℕ → ℕ). Held (start .args .l) from to (start .args .buf .now) (start .args .scratch .now) (after-gather .gather .last .1 .0)) (paired (start .args .s .m) (start .args .s .n) (start .args .l .pass) (start .args .l .index)) (eq-eqb _ _ (then1 .if1 .taken)) (after-gather .gather .ensures)
 
 scatter-requires : tie.Need-scatter-requires
 scatter-requires c κs = search needs
@@ -26,8 +28,10 @@ same-length-2 c = search needs
 
 returns-2 : tie.Need-returns-2
 returns-2 c =
-    let x = c .before .before .before .before .before .before .before .before in
-    decided (λ (to from : ℕ → ℕ). Held (x .args .l) from to (x .args .buf .now) (x .args .scratch .now) (c .before .before .scatter .last .1 .0)) (paired (x .args .s .m) (x .args .s .n) (x .args .l .pass) (x .args .l .index)) (ne-eqb _ _ (c .before .before .before .before .if1 .left)) (c .before .before .scatter .ensures)
+    let after-scatter : tie.After-scatter = search in
+    let else1 : tie.Else1 = search in
+    let start : tie.Start = search in
+    decided (λ (to from : ℕ → ℕ). Held (start .args .l) from to (start .args .buf .now) (start .args .scratch .now) (after-scatter .scatter .last .1 .0)) (paired (start .args .s .m) (start .args .s .n) (start .args .l .pass) (start .args .l .index)) (ne-eqb _ _ (else1 .if1 .left)) (after-scatter .scatter .ensures)
 
 pub lift-home-spec : {M : Type 1} → statement M
 lift-home-spec =

@@ -18,7 +18,10 @@ abbrev μ-loop : tie.MeasureT-loop
 
 -- the place that is written lies in the buffer
 inside : (c : tie.In-loop Inv-loop μ-loop) → posOn (c .before .before .args .l) (c .before .loop .k) < length (c .before .before .args .buf .now)
-inside c = c .before .before .pre .0 (c .before .loop .k) (c .loop-test .taken)
+inside c =
+    let at-loop : tie.At-loop Inv-loop μ-loop = search in
+    let start : tie.Start Inv-loop μ-loop = search in
+    start .pre .0 (at-loop .loop .k) (c .loop-test .taken)
 
 -- no two places of a line are one
 apart : (start stride : ℕ) → 0 < stride → (i j : ℕ) → start + stride * i ≡ start + stride * j → i ≡ j
@@ -34,16 +37,25 @@ shared-slice-read-buf : tie.Need-shared-slice-read-buf Inv-loop μ-loop
 shared-slice-read-buf c = search needs
 
 mul-buf-2 : tie.Need-mul-buf-2 Inv-loop μ-loop
-mul-buf-2 c = omega (arith, inside (c .before))
+mul-buf-2 c =
+    let in-loop : tie.In-loop Inv-loop μ-loop = search in
+    omega (arith, inside (in-loop))
 
 add-buf : tie.Need-add-buf Inv-loop μ-loop
-add-buf c = omega (arith, inside (c .before))
+add-buf c =
+    let in-loop : tie.In-loop Inv-loop μ-loop = search in
+    omega (arith, inside (in-loop))
 
 mul-buf-3 : tie.Need-mul-buf-3 Inv-loop μ-loop
-mul-buf-3 c = omega (arith, inside (c .before))
+mul-buf-3 c =
+    let in-loop : tie.In-loop Inv-loop μ-loop = search in
+    omega (arith, inside (in-loop))
 
 slice-write-buf : tie.Need-slice-write-buf Inv-loop μ-loop
-slice-write-buf c = omega (arith, inside (c .before), c .before .before .loop .inv .1 .same)
+slice-write-buf c =
+    let in-loop : tie.In-loop Inv-loop μ-loop = search in
+    let at-loop : tie.At-loop Inv-loop μ-loop = search in
+    omega (arith, inside (in-loop), at-loop .loop .inv .1 .same)
 
 add-k : tie.Need-add-k Inv-loop μ-loop
 add-k c = search needs
@@ -53,19 +65,22 @@ loop-less c = search needs
 
 loop-again : tie.Need-loop-again Inv-loop μ-loop
 loop-again c =
-    let x = c .before .before .before in
-    let l = c .before .before .loop in
-    let h = c .before .loop-test .taken in
-    (omega (arith, h), filling-more (λ i j _ _ e. apart (x .args .l .start) (x .args .l .stride) (x .pre .1) i j e) h (inside (c .before)) (l .inv .1))
+    let in-loop : tie.In-loop Inv-loop μ-loop = search in
+    let at-loop : tie.At-loop Inv-loop μ-loop = search in
+    let start : tie.Start Inv-loop μ-loop = search in
+    let l = at-loop .loop in
+    let h = in-loop .loop-test .taken in
+    (omega (arith, h), filling-more (λ i j _ _ e. apart (start .args .l .start) (start .args .l .stride) (start .pre .1) i j e) h (inside (in-loop)) (l .inv .1))
 
 same-length : tie.Need-same-length Inv-loop μ-loop
 same-length c = search needs
 
 returns : tie.Need-returns Inv-loop μ-loop
 returns c =
-    let x = c .before .before in
-    let l = c .before .loop in
-    let e : l .k ≡ x .args .l .count = omega arith in
+    let at-loop : tie.At-loop Inv-loop μ-loop = search in
+    let start : tie.Start Inv-loop μ-loop = search in
+    let l = at-loop .loop in
+    let e : l .k ≡ start .args .l .count = omega arith in
     record {
       same = l .inv .1 .same;
       placed = λ k h. l .inv .1 .placed k (omega arith);

@@ -18,10 +18,18 @@ abbrev μ-loop : tie.MeasureT-loop
 -- the place that is read lies in the buffer, and the place that is written on the line
 inside : (c : tie.After-paired-place Inv-loop μ-loop)
     → posOn (c .before .before .before .before .before .args .l) (c .before .before .loop .k) < length (c .before .before .before .before .before .args .buf .now)
-inside c = c .before .before .before .before .before .pre .1 .inside (c .before .before .loop .k) (c .before .loop-test .taken)
+inside c =
+    let in-loop : tie.In-loop Inv-loop μ-loop = search in
+    let at-loop : tie.At-loop Inv-loop μ-loop = search in
+    let start : tie.Start Inv-loop μ-loop = search in
+    start .pre .1 .inside (at-loop .loop .k) (in-loop .loop-test .taken)
 
 on-line : (c : tie.After-paired-place Inv-loop μ-loop) → c .paired-place .result < c .before .before .before .before .before .args .l .count
-on-line c = rw (c .paired-place .ensures) (c .before .before .before .before .before .pre .1 .within (c .before .before .loop .k) (c .before .loop-test .taken))
+on-line c =
+    let in-loop : tie.In-loop Inv-loop μ-loop = search in
+    let at-loop : tie.At-loop Inv-loop μ-loop = search in
+    let start : tie.Start Inv-loop μ-loop = search in
+    rw (c .paired-place .ensures) (start .pre .1 .within (at-loop .loop .k) (in-loop .loop-test .taken))
 
 loop-holds : tie.Need-loop-holds Inv-loop μ-loop
 loop-holds c = search needs
@@ -39,13 +47,22 @@ mul-scratch-2 : tie.Need-mul-scratch-2 Inv-loop μ-loop
 mul-scratch-2 c = omega (arith, inside c)
 
 shared-slice-read-scratch : tie.Need-shared-slice-read-scratch Inv-loop μ-loop
-shared-slice-read-scratch c = inside (c .before)
+shared-slice-read-scratch c =
+    let after-paired-place : tie.After-paired-place Inv-loop μ-loop = search in
+    inside (after-paired-place)
 
 mul-scratch-3 : tie.Need-mul-scratch-3 Inv-loop μ-loop
-mul-scratch-3 c = let x = c .before .before .before .before .before .before in omega (arith, on-line (c .before), x .pre .1 .room)
+mul-scratch-3 c =
+    let after-paired-place : tie.After-paired-place Inv-loop μ-loop = search in
+    let start : tie.Start Inv-loop μ-loop = search in
+    omega (arith, on-line (after-paired-place), start .pre .1 .room)
 
 slice-write-scratch : tie.Need-slice-write-scratch Inv-loop μ-loop
-slice-write-scratch c = let x = c .before .before .before .before .before .before in omega (arith, on-line (c .before), x .pre .1 .room, c .before .before .before .loop .inv .1 .same)
+slice-write-scratch c =
+    let after-paired-place : tie.After-paired-place Inv-loop μ-loop = search in
+    let at-loop : tie.At-loop Inv-loop μ-loop = search in
+    let start : tie.Start Inv-loop μ-loop = search in
+    omega (arith, on-line (after-paired-place), start .pre .1 .room, at-loop .loop .inv .1 .same)
 
 add-k : tie.Need-add-k Inv-loop μ-loop
 add-k c = search needs
@@ -55,24 +72,28 @@ loop-less c = search needs
 
 loop-again : tie.Need-loop-again Inv-loop μ-loop
 loop-again c =
-    let x = c .before .before .before .before .before .before in
-    let l = c .before .before .before .loop in
-    let h = c .before .before .loop-test .taken in
-    let w = x .pre .1 .within (l .k) h in
-    (omega (arith, h), rw (c .before .paired-place .ensures) (filling-more (x .pre .1 .apart) h (omega (arith, w, x .pre .1 .room)) (l .inv .1)))
+    let after-paired-place : tie.After-paired-place Inv-loop μ-loop = search in
+    let in-loop : tie.In-loop Inv-loop μ-loop = search in
+    let at-loop : tie.At-loop Inv-loop μ-loop = search in
+    let start : tie.Start Inv-loop μ-loop = search in
+    let l = at-loop .loop in
+    let h = in-loop .loop-test .taken in
+    let w = start .pre .1 .within (l .k) h in
+    (omega (arith, h), rw (after-paired-place .paired-place .ensures) (filling-more (start .pre .1 .apart) h (omega (arith, w, start .pre .1 .room)) (l .inv .1)))
 
 same-length : tie.Need-same-length Inv-loop μ-loop
 same-length c = search needs
 
 returns : tie.Need-returns Inv-loop μ-loop
 returns c =
-    let x = c .before .before .before .before in
-    let l = c .before .loop in
-    let e : l .k ≡ x .args .l .count = omega arith in
+    let at-loop : tie.At-loop Inv-loop μ-loop = search in
+    let start : tie.Start Inv-loop μ-loop = search in
+    let l = at-loop .loop in
+    let e : l .k ≡ start .args .l .count = omega arith in
     record {
       same = l .inv .1 .same;
       placed = λ k h. l .inv .1 .placed k (omega arith);
-      rest = λ k h. l .inv .1 .others k (λ j d q. let w = x .pre .1 .within j d in omega arith);
+      rest = λ k h. l .inv .1 .others k (λ j d q. let w = start .pre .1 .within j d in omega arith);
     }
 
 pub scatter-spec : {M : Type 1} → statement M

@@ -10,22 +10,34 @@ use Rattle.passes.proofs.scratch.clear_longest.Statement.{statement}
 use Rattle.passes.proofs.scratch.clear_longest.Tie as tie
 
 zero-requires : tie.Need-zero-requires
-zero-requires c κs = let x = c .before .before .before in le-trans (side-need (x .args .m) (x .args .n) .1) (x .pre)
+zero-requires c κs =
+    let start : tie.Start = search in
+    le-trans (side-need (start .args .m) (start .args .n) .1) (start .pre)
 
 same-length : tie.Need-same-length
 same-length c = search needs
 
 returns : tie.Need-returns
-returns c = let x = c .before .before .before .before .before .before in c .before .before .zero .ensures ∙ ap (λ (k : ℕ). cleared k (x .args .scratch .now)) (sym (need-right (x .args .m) (x .args .n) (omega (arith, c .before .before .before .before .if1 .taken))))
+returns c =
+    let after-zero : tie.After-zero = search in
+    let then1 : tie.Then1 = search in
+    let start : tie.Start = search in
+    after-zero .zero .ensures ∙ ap (λ (k : ℕ). cleared k (start .args .scratch .now)) (sym (need-right (start .args .m) (start .args .n) (omega (arith, then1 .if1 .taken))))
 
 zero-requires-2 : tie.Need-zero-requires-2
-zero-requires-2 c κs = let x = c .before .before .before in le-trans (side-need (x .args .m) (x .args .n) .0) (x .pre)
+zero-requires-2 c κs =
+    let start : tie.Start = search in
+    le-trans (side-need (start .args .m) (start .args .n) .0) (start .pre)
 
 same-length-2 : tie.Need-same-length-2
 same-length-2 c = search needs
 
 returns-2 : tie.Need-returns-2
-returns-2 c = let x = c .before .before .before .before .before .before in c .before .before .zero2 .ensures ∙ ap (λ (k : ℕ). cleared k (x .args .scratch .now)) (sym (need-left (x .args .m) (x .args .n) (omega (arith, c .before .before .before .before .if1 .left))))
+returns-2 c =
+    let after-zero2 : tie.After-zero2 = search in
+    let else1 : tie.Else1 = search in
+    let start : tie.Start = search in
+    after-zero2 .zero2 .ensures ∙ ap (λ (k : ℕ). cleared k (start .args .scratch .now)) (sym (need-left (start .args .m) (start .args .n) (omega (arith, else1 .if1 .left))))
 
 pub clear-longest-spec : {M : Type 1} → statement M
 clear-longest-spec =

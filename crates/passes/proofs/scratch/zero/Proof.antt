@@ -32,15 +32,19 @@ loop-less c = omega arith
 
 loop-again : tie.Need-loop-again Inv-loop μ-loop
 loop-again c =
-    let x = c .before .before in
-    let l = c .before .loop in
-    (omega arith, simp length-set (omega arith), rw (l .inv .2) (fill-more (l .k) 0 (x .args .scratch .now) (omega arith)))
+    let at-loop : tie.At-loop Inv-loop μ-loop = search in
+    let start : tie.Start Inv-loop μ-loop = search in
+    let l = at-loop .loop in
+    (omega arith, simp length-set (omega arith), rw (l .inv .2) (fill-more (l .k) 0 (start .args .scratch .now) (omega arith)))
 
 same-length : tie.Need-same-length Inv-loop μ-loop
 same-length c = search needs
 
 returns : tie.Need-returns Inv-loop μ-loop
-returns c = let e : c .before .loop .k ≡ c .before .before .args .n = omega arith in rw (← e) (c .before .loop .inv .2)
+returns c =
+    let at-loop : tie.At-loop Inv-loop μ-loop = search in
+    let start : tie.Start Inv-loop μ-loop = search in
+    let e : at-loop .loop .k ≡ start .args .n = omega arith in rw (← e) (at-loop .loop .inv .2)
 
 pub zero-spec : {M : Type 1} → statement M
 zero-spec =
