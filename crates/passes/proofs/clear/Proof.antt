@@ -13,12 +13,6 @@ returns c = record {
   kept = λ _. refl;
 }
 
-zero-requires : tie.Need-zero-requires
-zero-requires c κs = search needs
-
-same-length : tie.Need-same-length
-same-length c = search needs
-
 returns-2 : tie.Need-returns-2
 returns-2 c =
     let after-zero : tie.After-zero = search in
@@ -31,4 +25,4 @@ returns-2 c =
     }
 
 pub clear-spec : {M : Type 1} → statement M
-clear-spec = tie.close (tie.spec returns zero-requires same-length returns-2)
+clear-spec = tie.close (tie.spec returns (search needs) (search needs) returns-2)

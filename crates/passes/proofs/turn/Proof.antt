@@ -7,15 +7,6 @@ use borrow.Author.Needs.{needs}
 use Rattle.passes.proofs.turn.Statement.{statement}
 use Rattle.passes.proofs.turn.Tie as tie
 
-number-requires : tie.Need-number-requires
-number-requires c κs = search needs
-
-same-length : tie.Need-same-length
-same-length c = search needs
-
-same-length-2 : tie.Need-same-length-2
-same-length-2 c = search needs
-
 returns : tie.Need-returns
 returns c =
     let after-number : tie.After-number = search in
@@ -47,12 +38,6 @@ clear-longest-requires c κs =
     let a = accepted-by (start .args .buf .now) (start .args .scratch .now) (after-number .number .ensures) (omega (arith, else1 .if1 .left)) in
     rw (after-turn-at .turn-at .ensures .1 .same) (a .room)
 
-same-length-3 : tie.Need-same-length-3
-same-length-3 c = search needs
-
-same-length-4 : tie.Need-same-length-4
-same-length-4 c = search needs
-
 returns-2 : tie.Need-returns-2
 returns-2 c =
     let after-clear-longest : tie.After-clear-longest = search in
@@ -71,13 +56,13 @@ pub turn-spec : {M : Type 1} → statement M
 turn-spec =
     tie.close
     (tie.spec
-    number-requires
-    same-length
-    same-length-2
+    (search needs)
+    (search needs)
+    (search needs)
     returns
     sides-of-requires
     turn-at-requires
     clear-longest-requires
-    same-length-3
-    same-length-4
+    (search needs)
+    (search needs)
     returns-2)

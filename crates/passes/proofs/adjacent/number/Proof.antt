@@ -11,9 +11,6 @@ use borrow.Author.Needs.{needs}
 use Rattle.passes.proofs.adjacent.number.Statement.{statement}
 use Rattle.passes.proofs.adjacent.number.Tie as tie
 
-no-block-requires : tie.Need-no-block-requires
-no-block-requires c κs = search needs
-
 returns : tie.Need-returns
 returns c =
     let after-no-block : tie.After-no-block = search in
@@ -86,7 +83,7 @@ pub number-spec : {M : Type 1} → statement M
 number-spec =
     tie.close
     (tie.spec
-    no-block-requires
+    (search needs)
     returns
     words-of-requires
     returns-2

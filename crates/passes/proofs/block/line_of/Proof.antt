@@ -15,9 +15,6 @@ small k h d = mul-le-mul h d
 large : {u n : ℕ} (i : ℕ) → u ≤ 1048576 → i ≤ 4096 → n ≤ 4096 → u * (i * n) ≤ 17592186044416
 large i h d e = mul-le-mul h (mul-le-mul d e)
 
-add-t : tie.Need-add-t
-add-t c = search needs
-
 mul-t11 : tie.Need-mul-t11
 mul-t11 c =
     let start : tie.Start = search in
@@ -38,9 +35,6 @@ unfolding lineAt
 returns c =
     let start : tie.Start = search in
     rw (← start .pre .0 .skipped-is) (rw (lt-ltb _ _ (c .if1 .taken)))
-
-add-if2 : tie.Need-add-if2
-add-if2 c = search needs
 
 mul-t15 : tie.Need-mul-t15
 mul-t15 c =
@@ -63,12 +57,6 @@ returns-2 c =
     let else1 : tie.Else1 = search in
     let start : tie.Start = search in
     rw (← start .pre .0 .skipped-is) (rw (le-ltb _ _ (else1 .if1 .left), lt-ltb _ _ (c .if2 .taken)))
-
-add-j : tie.Need-add-j
-add-j c = search needs
-
-sub-j : tie.Need-sub-j
-sub-j c = search needs
 
 mul-t14 : tie.Need-mul-t14
 mul-t14 c =
@@ -96,18 +84,18 @@ pub line-of-spec : {M : Type 1} → statement M
 line-of-spec =
     tie.close
     (tie.spec
-    add-t
+    (search needs)
     mul-t11
     add-t12
     mul-t13
     returns
-    add-if2
+    (search needs)
     mul-t15
     mul-t16
     add-t17
     returns-2
-    add-j
-    sub-j
+    (search needs)
+    (search needs)
     mul-t14
     add-t18
     mul-t19

@@ -8,9 +8,6 @@ use borrow.Author.Needs.{needs}
 use Rattle.passes.proofs.block.sides_of.Statement.{statement}
 use Rattle.passes.proofs.block.sides_of.Tie as tie
 
-gcd-requires : tie.Need-gcd-requires
-gcd-requires c κs = search needs
-
 div-a : tie.Need-div-a
 div-a c =
     let start : tie.Start = search in
@@ -60,4 +57,4 @@ returns-2 c =
     )
 
 pub sides-of-spec : {M : Type 1} → statement M
-sides-of-spec = tie.close (tie.spec gcd-requires div-a div-b returns returns-2)
+sides-of-spec = tie.close (tie.spec (search needs) div-a div-b returns returns-2)

@@ -40,18 +40,12 @@ loop-holds c =
     let start : tie.Start Inv-loop μ-loop = search in
     (omega arith, some-none _ _ _ _ _ (start .args .buf .now), past-none _ (start .args .scratch .now))
 
-div-base : tie.Need-div-base Inv-loop μ-loop
-div-base c = search needs
-
 mul-base : tie.Need-mul-base Inv-loop μ-loop
 mul-base c =
     let at-loop : tie.At-loop Inv-loop μ-loop = search in
     let start : tie.Start Inv-loop μ-loop = search in
     let t = at-loop .loop .t in
     record { fits = lt-of-le-of-lt (le-trans (le-add-right (t / start .args .chunk * (start .args .s .m * start .args .s .n * start .args .chunk)) (t % start .args .chunk)) (base-few (start .pre .0 .m-pos) (start .pre .0 .n-pos) (start .pre .1) t (c .loop-test .taken))) (lit< tt) }
-
-rem-base : tie.Need-rem-base Inv-loop μ-loop
-rem-base c = search needs
 
 add-base : tie.Need-add-base Inv-loop μ-loop
 add-base c =
@@ -72,9 +66,6 @@ add-t c =
     let in-loop : tie.In-loop Inv-loop μ-loop = search in
     let start : tie.Start Inv-loop μ-loop = search in
     omega (arith, in-loop .loop-test .taken, around-few (start .pre .0 .m-pos) (start .pre .0 .n-pos) (start .pre .1))
-
-loop-less : tie.Need-loop-less Inv-loop μ-loop
-loop-less c = search needs
 
 loop-again : tie.Need-loop-again Inv-loop μ-loop
 loop-again c =
@@ -115,13 +106,13 @@ turn-all-spec =
     mul-words-2
     mul-count
     loop-holds
-    div-base
+    (search needs)
     mul-base
-    rem-base
+    (search needs)
     add-base
     turn-at-requires
     add-t
-    loop-less
+    (search needs)
     loop-again
     same-length
     same-length-2

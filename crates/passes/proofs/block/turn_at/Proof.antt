@@ -14,16 +14,10 @@ Inv-loop buf₀ scratch₀ s base chunk count l₀ buf scratch l = (count ≡ li
 abbrev μ-loop : tie.MeasureT-loop
 μ-loop buf₀ scratch₀ s base chunk count l₀ buf scratch l = count - l
 
-line-count-requires : tie.Need-line-count-requires Inv-loop μ-loop
-line-count-requires c κs = search needs
-
 loop-holds : tie.Need-loop-holds Inv-loop μ-loop
 loop-holds c =
     let start : tie.Start Inv-loop μ-loop = search in
     (c .line-count .ensures, forth-none (start .pre .0) (start .pre .1))
-
-line-of-requires : tie.Need-line-of-requires Inv-loop μ-loop
-line-of-requires c κs = search needs
 
 forth-requires : tie.Need-forth-requires Inv-loop μ-loop
 forth-requires c κs =
@@ -34,12 +28,6 @@ forth-requires c κs =
     let l = at-loop .loop in
     let h : l .l < lineCount (start .args .s .m) (start .args .s .n) = rw (l .inv .0) at (in-loop .loop-test .taken) in
     (start .pre .0, rw (after-line-of .line-of .ensures) (going-fits (start .pre .0) (start .pre .1) (l .l) (l .buf) (l .scratch) h (l .inv .1 .same) (l .inv .1 .past)))
-
-add-l : tie.Need-add-l Inv-loop μ-loop
-add-l c = search needs
-
-loop-less : tie.Need-loop-less Inv-loop μ-loop
-loop-less c = search needs
 
 loop-again : tie.Need-loop-again Inv-loop μ-loop
 loop-again c =
@@ -53,12 +41,6 @@ loop-again c =
     let e = after-line-of .line-of .ensures in
     let f = after-forth .forth .ensures in
     (l .inv .0, forth-more (start .pre .0) (start .pre .1) h (l .inv .1) (rw e at (f .0)) (rw e at (f .1)))
-
-same-length : tie.Need-same-length Inv-loop μ-loop
-same-length c = search needs
-
-same-length-2 : tie.Need-same-length-2 Inv-loop μ-loop
-same-length-2 c = search needs
 
 returns : tie.Need-returns Inv-loop μ-loop
 returns c =
@@ -74,13 +56,13 @@ turn-at-spec =
     (tie.spec
     Inv-loop
     μ-loop
-    line-count-requires
+    (search needs)
     loop-holds
-    line-of-requires
+    (search needs)
     forth-requires
-    add-l
-    loop-less
+    (search needs)
+    (search needs)
     loop-again
-    same-length
-    same-length-2
+    (search needs)
+    (search needs)
     returns)

@@ -14,19 +14,10 @@ Inv-loop buf₀ scratch₀ s base chunk l₀ buf scratch l = Home s base chunk b
 abbrev μ-loop : tie.MeasureT-loop
 μ-loop buf₀ scratch₀ s base chunk l₀ buf scratch l = l
 
-line-count-requires : tie.Need-line-count-requires Inv-loop μ-loop
-line-count-requires c κs = search needs
-
 loop-holds : tie.Need-loop-holds Inv-loop μ-loop
 loop-holds c =
     let start : tie.Start Inv-loop μ-loop = search in
     rw (c .line-count .ensures) (home-all (start .pre .0) (start .pre .1))
-
-sub-l : tie.Need-sub-l Inv-loop μ-loop
-sub-l c = search needs
-
-line-of-requires : tie.Need-line-of-requires Inv-loop μ-loop
-line-of-requires c κs = search needs
 
 back-requires : tie.Need-back-requires Inv-loop μ-loop
 back-requires c κs =
@@ -37,9 +28,6 @@ back-requires c κs =
     let l = at-loop .loop in
     let h : l .l - 1 < lineCount (start .args .s .m) (start .args .s .n) = omega (arith, l .inv .few, in-loop .loop-test .taken) in
     (start .pre .0, rw (after-line-of .line-of .ensures) (going-fits (start .pre .0) (start .pre .1) (l .l - 1) (l .buf) (l .scratch) h (l .inv .same) (l .inv .past)))
-
-loop-less : tie.Need-loop-less Inv-loop μ-loop
-loop-less c = search needs
 
 loop-again : tie.Need-loop-again Inv-loop μ-loop
 loop-again c =
@@ -55,12 +43,6 @@ loop-again c =
     let k : l .l - 1 + 1 ≡ l .l = omega (arith, in-loop .loop-test .taken) in
     home-less (start .pre .0) (start .pre .1) h (rw k (l .inv)) (rw e at (f .0)) (rw e at (f .1))
 
-same-length : tie.Need-same-length Inv-loop μ-loop
-same-length c = search needs
-
-same-length-2 : tie.Need-same-length-2 Inv-loop μ-loop
-same-length-2 c = search needs
-
 returns : tie.Need-returns Inv-loop μ-loop
 returns c =
     let at-loop : tie.At-loop Inv-loop μ-loop = search in
@@ -75,13 +57,13 @@ turn-home-at-spec =
     (tie.spec
     Inv-loop
     μ-loop
-    line-count-requires
+    (search needs)
     loop-holds
-    sub-l
-    line-of-requires
+    (search needs)
+    (search needs)
     back-requires
-    loop-less
+    (search needs)
     loop-again
-    same-length
-    same-length-2
+    (search needs)
+    (search needs)
     returns)

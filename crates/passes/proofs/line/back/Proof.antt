@@ -4,18 +4,6 @@ use Rattle.passes.proofs.Held.{moved-through, moved-home, held-past, fr
 use Rattle.passes.proofs.line.back.Statement.{statement}
 use Rattle.passes.proofs.line.back.Tie as tie
 
-lift-home-requires : tie.Need-lift-home-requires
-lift-home-requires c κs = search needs
-
-put-back-requires : tie.Need-put-back-requires
-put-back-requires c κs = search needs
-
-same-length : tie.Need-same-length
-same-length c = search needs
-
-same-length-2 : tie.Need-same-length-2
-same-length-2 c = search needs
-
 returns : tie.Need-returns
 returns c =
     let after-put-back : tie.After-put-back = search in
@@ -25,4 +13,4 @@ returns c =
 
 pub back-spec : {M : Type 1} → statement M
 back-spec =
-    tie.close (tie.spec lift-home-requires put-back-requires same-length same-length-2 returns)
+    tie.close (tie.spec (search needs) (search needs) (search needs) (search needs) returns)

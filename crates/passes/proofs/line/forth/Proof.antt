@@ -4,18 +4,6 @@ use Rattle.passes.proofs.Held.{moved-through, held-past, to-within}
 use Rattle.passes.proofs.line.forth.Statement.{statement}
 use Rattle.passes.proofs.line.forth.Tie as tie
 
-lift-requires : tie.Need-lift-requires
-lift-requires c κs = search needs
-
-put-back-requires : tie.Need-put-back-requires
-put-back-requires c κs = search needs
-
-same-length : tie.Need-same-length
-same-length c = search needs
-
-same-length-2 : tie.Need-same-length-2
-same-length-2 c = search needs
-
 returns : tie.Need-returns
 returns c =
     let after-put-back : tie.After-put-back = search in
@@ -24,4 +12,4 @@ returns c =
     (moved-through (to-within (start .pre .1)) (after-lift .lift .ensures) (after-put-back .put-back .ensures), held-past (after-lift .lift .ensures))
 
 pub forth-spec : {M : Type 1} → statement M
-forth-spec = tie.close (tie.spec lift-requires put-back-requires same-length same-length-2 returns)
+forth-spec = tie.close (tie.spec (search needs) (search needs) (search needs) (search needs) returns)

@@ -25,12 +25,6 @@ inside c =
     let k = at-loop .loop .k in
     rw (c .paired-place .ensures) (start .pre .1 .inside (paired (start .args .s .m) (start .args .s .n) (start .args .l .pass) (start .args .l .index) k) (start .pre .1 .within k (in-loop .loop-test .taken)))
 
-loop-holds : tie.Need-loop-holds Inv-loop μ-loop
-loop-holds c = search needs
-
-paired-place-requires : tie.Need-paired-place-requires Inv-loop μ-loop
-paired-place-requires c κs = search needs
-
 mul-scratch : tie.Need-mul-scratch Inv-loop μ-loop
 mul-scratch c = omega (arith, inside c)
 
@@ -45,18 +39,6 @@ shared-slice-read-scratch c =
     let after-paired-place : tie.After-paired-place Inv-loop μ-loop = search in
     inside (after-paired-place)
 
-mul-scratch-3 : tie.Need-mul-scratch-3 Inv-loop μ-loop
-mul-scratch-3 c = search needs
-
-slice-write-scratch : tie.Need-slice-write-scratch Inv-loop μ-loop
-slice-write-scratch c = search needs
-
-add-k : tie.Need-add-k Inv-loop μ-loop
-add-k c = search needs
-
-loop-less : tie.Need-loop-less Inv-loop μ-loop
-loop-less c = search needs
-
 loop-again : tie.Need-loop-again Inv-loop μ-loop
 loop-again c =
     let after-paired-place : tie.After-paired-place Inv-loop μ-loop = search in
@@ -66,9 +48,6 @@ loop-again c =
     let l = at-loop .loop in
     let h = in-loop .loop-test .taken in
     (omega (arith, h), rw (after-paired-place .paired-place .ensures) (filling-more (λ i j _ _ e. e) h (omega (arith, h, start .pre .1 .room)) (l .inv .1)))
-
-same-length : tie.Need-same-length Inv-loop μ-loop
-same-length c = search needs
 
 returns : tie.Need-returns Inv-loop μ-loop
 returns c =
@@ -88,16 +67,16 @@ gather-spec =
     (tie.spec
     Inv-loop
     μ-loop
-    loop-holds
-    paired-place-requires
+    (search needs)
+    (search needs)
     mul-scratch
     add-scratch
     mul-scratch-2
     shared-slice-read-scratch
-    mul-scratch-3
-    slice-write-scratch
-    add-k
-    loop-less
+    (search needs)
+    (search needs)
+    (search needs)
+    (search needs)
     loop-again
-    same-length
+    (search needs)
     returns)

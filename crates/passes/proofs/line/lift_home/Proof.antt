@@ -7,24 +7,12 @@ use Rattle.passes.proofs.Held.{decided}
 use Rattle.passes.proofs.line.lift_home.Statement.{statement}
 use Rattle.passes.proofs.line.lift_home.Tie as tie
 
-gather-requires : tie.Need-gather-requires
-gather-requires c κs = search needs
-
-same-length : tie.Need-same-length
-same-length c = search needs
-
 returns : tie.Need-returns
 returns c =
     let after-gather : tie.After-gather = search in
     let then1 : tie.Then1 = search in
     let start : tie.Start = search in
     decided (λ (to from : ℕ → ℕ). Held (start .args .l) from to (start .args .buf .now) (start .args .scratch .now) (after-gather .gather .last .1 .0)) (paired (start .args .s .m) (start .args .s .n) (start .args .l .pass) (start .args .l .index)) (eq-eqb _ _ (then1 .if1 .taken)) (after-gather .gather .ensures)
-
-scatter-requires : tie.Need-scatter-requires
-scatter-requires c κs = search needs
-
-same-length-2 : tie.Need-same-length-2
-same-length-2 c = search needs
 
 returns-2 : tie.Need-returns-2
 returns-2 c =
@@ -36,4 +24,4 @@ returns-2 c =
 pub lift-home-spec : {M : Type 1} → statement M
 lift-home-spec =
     tie.close
-    (tie.spec gather-requires same-length returns scatter-requires same-length-2 returns-2)
+    (tie.spec (search needs) (search needs) returns (search needs) (search needs) returns-2)

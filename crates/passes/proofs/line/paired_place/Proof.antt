@@ -28,9 +28,6 @@ add-result c =
     let start : tie.Start = search in
     omega (arith, div-le-self (start .args .index) (start .args .s .b))
 
-rem-result : tie.Need-rem-result
-rem-result c = search needs
-
 returns : tie.Need-returns
 unfolding row1
 returns c =
@@ -48,9 +45,6 @@ add-result-2 c =
     let start : tie.Start = search in
     omega (arith, div-le-self (start .args .k) (start .args .s .b))
 
-rem-result-2 : tie.Need-rem-result-2
-rem-result-2 c = search needs
-
 mul-result : tie.Need-mul-result
 mul-result c =
     let start : tie.Start = search in
@@ -60,9 +54,6 @@ add-result-3 : tie.Need-add-result-3
 add-result-3 c =
     let start : tie.Start = search in
     omega (arith, mul-le-mul (start .pre .2) (start .pre .0 .m-few), mod-lt (start .args .index + start .args .k / start .args .s .b) (start .pre .0 .m-pos))
-
-rem-result-3 : tie.Need-rem-result-3
-rem-result-3 c = search needs
 
 returns-2 : tie.Need-returns-2
 unfolding column2
@@ -92,9 +83,6 @@ sub-result c =
     let start : tie.Start = search in
     omega (arith, div-le-self (start .args .k) (start .args .s .a), le-mul-of-pos-right (start .args .k) (start .pre .0 .n-pos))
 
-rem-result-4 : tie.Need-rem-result-4
-rem-result-4 c = search needs
-
 returns-3 : tie.Need-returns-3
 unfolding row3
 returns-3 c =
@@ -109,18 +97,18 @@ paired-place-spec =
     (tie.spec
     div-result
     add-result
-    rem-result
+    (search needs)
     returns
     div-result-2
     add-result-2
-    rem-result-2
+    (search needs)
     mul-result
     add-result-3
-    rem-result-3
+    (search needs)
     returns-2
     mul-result-2
     add-result-4
     div-result-3
     sub-result
-    rem-result-4
+    (search needs)
     returns-3)

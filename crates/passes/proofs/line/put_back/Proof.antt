@@ -27,15 +27,6 @@ inside c =
 apart : (start stride : ℕ) → 0 < stride → (i j : ℕ) → start + stride * i ≡ start + stride * j → i ≡ j
 apart start stride h i j e = eq-of-mul-eq-mul-left stride h i j (omega arith)
 
-loop-holds : tie.Need-loop-holds Inv-loop μ-loop
-loop-holds c = search needs
-
-mul-buf : tie.Need-mul-buf Inv-loop μ-loop
-mul-buf c = search needs
-
-shared-slice-read-buf : tie.Need-shared-slice-read-buf Inv-loop μ-loop
-shared-slice-read-buf c = search needs
-
 mul-buf-2 : tie.Need-mul-buf-2 Inv-loop μ-loop
 mul-buf-2 c =
     let in-loop : tie.In-loop Inv-loop μ-loop = search in
@@ -57,12 +48,6 @@ slice-write-buf c =
     let at-loop : tie.At-loop Inv-loop μ-loop = search in
     omega (arith, inside (in-loop), at-loop .loop .inv .1 .same)
 
-add-k : tie.Need-add-k Inv-loop μ-loop
-add-k c = search needs
-
-loop-less : tie.Need-loop-less Inv-loop μ-loop
-loop-less c = search needs
-
 loop-again : tie.Need-loop-again Inv-loop μ-loop
 loop-again c =
     let in-loop : tie.In-loop Inv-loop μ-loop = search in
@@ -71,9 +56,6 @@ loop-again c =
     let l = at-loop .loop in
     let h = in-loop .loop-test .taken in
     (omega (arith, h), filling-more (λ i j _ _ e. apart (start .args .l .start) (start .args .l .stride) (start .pre .1) i j e) h (inside (in-loop)) (l .inv .1))
-
-same-length : tie.Need-same-length Inv-loop μ-loop
-same-length c = search needs
 
 returns : tie.Need-returns Inv-loop μ-loop
 returns c =
@@ -93,15 +75,15 @@ put-back-spec =
     (tie.spec
     Inv-loop
     μ-loop
-    loop-holds
-    mul-buf
-    shared-slice-read-buf
+    (search needs)
+    (search needs)
+    (search needs)
     mul-buf-2
     add-buf
     mul-buf-3
     slice-write-buf
-    add-k
-    loop-less
+    (search needs)
+    (search needs)
     loop-again
-    same-length
+    (search needs)
     returns)

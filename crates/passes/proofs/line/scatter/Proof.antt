@@ -31,12 +31,6 @@ on-line c =
     let start : tie.Start Inv-loop μ-loop = search in
     rw (c .paired-place .ensures) (start .pre .1 .within (at-loop .loop .k) (in-loop .loop-test .taken))
 
-loop-holds : tie.Need-loop-holds Inv-loop μ-loop
-loop-holds c = search needs
-
-paired-place-requires : tie.Need-paired-place-requires Inv-loop μ-loop
-paired-place-requires c κs = search needs
-
 mul-scratch : tie.Need-mul-scratch Inv-loop μ-loop
 mul-scratch c = omega (arith, inside c)
 
@@ -64,12 +58,6 @@ slice-write-scratch c =
     let start : tie.Start Inv-loop μ-loop = search in
     omega (arith, on-line (after-paired-place), start .pre .1 .room, at-loop .loop .inv .1 .same)
 
-add-k : tie.Need-add-k Inv-loop μ-loop
-add-k c = search needs
-
-loop-less : tie.Need-loop-less Inv-loop μ-loop
-loop-less c = search needs
-
 loop-again : tie.Need-loop-again Inv-loop μ-loop
 loop-again c =
     let after-paired-place : tie.After-paired-place Inv-loop μ-loop = search in
@@ -80,9 +68,6 @@ loop-again c =
     let h = in-loop .loop-test .taken in
     let w = start .pre .1 .within (l .k) h in
     (omega (arith, h), rw (after-paired-place .paired-place .ensures) (filling-more (start .pre .1 .apart) h (omega (arith, w, start .pre .1 .room)) (l .inv .1)))
-
-same-length : tie.Need-same-length Inv-loop μ-loop
-same-length c = search needs
 
 returns : tie.Need-returns Inv-loop μ-loop
 returns c =
@@ -102,16 +87,16 @@ scatter-spec =
     (tie.spec
     Inv-loop
     μ-loop
-    loop-holds
-    paired-place-requires
+    (search needs)
+    (search needs)
     mul-scratch
     add-scratch
     mul-scratch-2
     shared-slice-read-scratch
     mul-scratch-3
     slice-write-scratch
-    add-k
-    loop-less
+    (search needs)
+    (search needs)
     loop-again
-    same-length
+    (search needs)
     returns)

@@ -14,9 +14,6 @@ zero-requires c κs =
     let start : tie.Start = search in
     le-trans (side-need (start .args .m) (start .args .n) .1) (start .pre)
 
-same-length : tie.Need-same-length
-same-length c = search needs
-
 returns : tie.Need-returns
 returns c =
     let after-zero : tie.After-zero = search in
@@ -29,9 +26,6 @@ zero-requires-2 c κs =
     let start : tie.Start = search in
     le-trans (side-need (start .args .m) (start .args .n) .0) (start .pre)
 
-same-length-2 : tie.Need-same-length-2
-same-length-2 c = search needs
-
 returns-2 : tie.Need-returns-2
 returns-2 c =
     let after-zero2 : tie.After-zero2 = search in
@@ -41,4 +35,4 @@ returns-2 c =
 
 pub clear-longest-spec : {M : Type 1} → statement M
 clear-longest-spec =
-    tie.close (tie.spec zero-requires same-length returns zero-requires-2 same-length-2 returns-2)
+    tie.close (tie.spec zero-requires (search needs) returns zero-requires-2 (search needs) returns-2)

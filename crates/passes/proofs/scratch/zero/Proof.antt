@@ -18,14 +18,8 @@ abbrev μ-loop : tie.MeasureT-loop
 loop-holds : tie.Need-loop-holds Inv-loop μ-loop
 loop-holds c = (omega arith, refl, refl)
 
-mul-scratch : tie.Need-mul-scratch Inv-loop μ-loop
-mul-scratch c = search needs
-
 slice-write-scratch : tie.Need-slice-write-scratch Inv-loop μ-loop
 slice-write-scratch c = omega arith
-
-add-k : tie.Need-add-k Inv-loop μ-loop
-add-k c = search needs
 
 loop-less : tie.Need-loop-less Inv-loop μ-loop
 loop-less c = omega arith
@@ -36,9 +30,6 @@ loop-again c =
     let start : tie.Start Inv-loop μ-loop = search in
     let l = at-loop .loop in
     (omega arith, simp length-set (omega arith), rw (l .inv .2) (fill-more (l .k) 0 (start .args .scratch .now) (omega arith)))
-
-same-length : tie.Need-same-length Inv-loop μ-loop
-same-length c = search needs
 
 returns : tie.Need-returns Inv-loop μ-loop
 returns c =
@@ -53,10 +44,10 @@ zero-spec =
     Inv-loop
     μ-loop
     loop-holds
-    mul-scratch
+    (search needs)
     slice-write-scratch
-    add-k
+    (search needs)
     loop-less
     loop-again
-    same-length
+    (search needs)
     returns)
