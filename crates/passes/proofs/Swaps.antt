@@ -21,7 +21,7 @@ use Rattle.layout.specs.Layout.Within.{none, more}
 use Rattle.layout.proofs.Offsets.{at-lt}
 use Rattle.passes.specs.Lines.{Lies, AllLie, swapBase}
 use Rattle.passes.proofs.Fits.{side-need}
-use Rattle.passes.specs.Promises.{swapBlock, middle, noBlock, cappedWords, swapChecks}
+use Rattle.passes.specs.Promises.{swapBlock, middle, noBlock, swapChecks}
 use Rattle.passes.proofs.Family.{Family, Some}
 
 -- a word of the swap, by its block, row, column and word: its offset
@@ -166,21 +166,6 @@ there outer m n chunk e = go (in-range (sides m n) (p .0))
       outer-pos = pos-of-ne-zero (eqb-false outer 0 (q .0));
       chunk-pos = pos-of-ne-zero (eqb-false chunk 0 (q .1));
     }
-
--- a count that is cut to one more than a block may have
-pub capped-over : (v : ℕ) → 1048576 < cappedWords v → 1048576 < v
-capped-over v h = go (ltb 1048576 v) refl
-  where
-    go : (t : Bool) → ltb 1048576 v ≡ t → 1048576 < v
-    go true e = ltb-true 1048576 v e
-    go false e = rw e at h
-
-pub capped-under : (v : ℕ) → cappedWords v ≤ 1048576 → (v ≤ 1048576) × (cappedWords v ≡ v)
-capped-under v h = go (ltb 1048576 v) refl
-  where
-    go : (t : Bool) → ltb 1048576 v ≡ t → (v ≤ 1048576) × (cappedWords v ≡ v)
-    go true e = let z : 1048577 ≤ 1048576 = rw e at h in absurd (omega arith)
-    go false e = (ltb-false 1048576 v e, rw e)
 
 -- an adjacent swap that is accepted: it has a block, and its blocks lie in the buffer
 pub swap-accepted : {r : ℕ} (outer m n chunk : ℕ) (buffer scratch : List ℕ) → r ≡ firstOf (swapChecks outer m n chunk buffer scratch) → r ≡ 0

@@ -1,9 +1,8 @@
 // The flat turn by passes, its reverse, and the adjacent swap of four axes.
-mod adjacent;
 mod block;
-mod checks;
 mod gcd;
 mod line;
+mod refusal;
 mod scratch;
 
 ghost use Rattle.passes.specs.Promises.{TurnPromise, TurnBackPromise, SwapPromise, ClearPromise};
@@ -12,7 +11,7 @@ ghost use Rattle.passes.specs.Promises.{TurnPromise, TurnBackPromise, Sw
 pub fn turn(buf: &mut [u32], scratch: &mut [u32], m: usize, n: usize) -> u32
     ensures { λ r. ⌜ TurnPromise m n (now (buf .entry)) (now (scratch .entry)) r (now (buf .exit)) (now (scratch .exit)) ⌝ }
 {
-    let number = checks::number(buf, scratch, m, n);
+    let number = refusal::flat_number(buf, scratch, m, n);
     if number != 0 {
         return number;
     }
@@ -26,7 +25,7 @@ pub fn turn(buf: &mut [u32], scratch: &mut [u32], m: usize, n: usize) -> u32
 pub fn turn_back(buf: &mut [u32], scratch: &mut [u32], m: usize, n: usize) -> u32
     ensures { λ r. ⌜ TurnBackPromise m n (now (buf .entry)) (now (scratch .entry)) r (now (buf .exit)) (now (scratch .exit)) ⌝ }
 {
-    let number = checks::number(buf, scratch, m, n);
+    let number = refusal::flat_number(buf, scratch, m, n);
     if number != 0 {
         return number;
     }
@@ -47,7 +46,7 @@ pub fn swap(
 ) -> u32
     ensures { λ r. ⌜ SwapPromise outer m n chunk (now (buf .entry)) (now (scratch .entry)) r (now (buf .exit)) (now (scratch .exit)) ⌝ }
 {
-    let number = adjacent::number(buf, scratch, outer, m, n, chunk);
+    let number = refusal::swap_number(buf, scratch, outer, m, n, chunk);
     if number != 0 {
         return number;
     }

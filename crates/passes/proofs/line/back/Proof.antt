@@ -13,4 +13,4 @@ returns c =
 
 pub back-spec : {M : Type 1} → statement M
 back-spec =
-    tie.close (tie.spec (search needs) (search needs) (search needs) (search needs) returns)
+    tie.close (tie.spec (λ c κs. search needs) (λ c κs. search needs) (search needs) (search needs) returns)

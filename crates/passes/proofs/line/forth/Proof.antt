@@ -12,4 +12,4 @@ returns c =
     (moved-through (to-within (start .pre .1)) (after-lift .lift .ensures) (after-put-back .put-back .ensures), held-past (after-lift .lift .ensures))
 
 pub forth-spec : {M : Type 1} → statement M
-forth-spec = tie.close (tie.spec (search needs) (search needs) (search needs) (search needs) returns)
+forth-spec = tie.close (tie.spec (λ c κs. search needs) (λ c κs. search needs) (search needs) (search needs) returns)

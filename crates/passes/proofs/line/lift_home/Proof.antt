@@ -24,4 +24,4 @@ returns-2 c =
 pub lift-home-spec : {M : Type 1} → statement M
 lift-home-spec =
     tie.close
-    (tie.spec (search needs) (search needs) returns (search needs) (search needs) returns-2)
+    (tie.spec (λ c κs. search needs) (search needs) returns (λ c κs. search needs) (search needs) returns-2)
