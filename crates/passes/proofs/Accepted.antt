@@ -18,7 +18,7 @@ use Rattle.refusals.proofs.Conditions.{Valid, InRange, valid, enough-scratch}
 use Rattle.refusals.proofs.Conditions.InRange.{none, more}
 use Rattle.flat.specs.Turn.{sides, Turn}
 use Rattle.flat.proofs.Turn.{volume-two, from-literal}
-use Rattle.passes.specs.Lines.{Lies, Past, TurnedAt}
+use Rattle.passes.specs.ThroughScratch.{Lies, Past, TurnedAt}
 use Rattle.passes.proofs.Fits.{side-need}
 
 -- the checks of a block, then the room in scratch: what they answer where the block is refused, and where scratch decides
@@ -85,8 +85,8 @@ flat-turned m n xs ys t =
     (λ k h. t .others k (λ j d e. omega arith))
 
 -- scratch whose first words are zeroed is cleared, whatever stood there
-pub cleared-past : {k : ℕ} {scratch held : List ℕ} → Past k scratch held → cleared k held ≡ cleared k scratch
-cleared-past {k} {scratch} {held} p =
+pub past-cleared : {k : ℕ} {scratch held : List ℕ} → Past k scratch held → cleared k held ≡ cleared k scratch
+past-cleared {k} {scratch} {held} p =
     ap (λ (l : List ℕ). replicate k 0 ++ l)
     (ext-getD 0 (drop k held) (drop k scratch) (length-drop k held ∙ ap (λ (z : ℕ). z - k) (p .same) ∙ sym (length-drop k scratch))
     (λ i h. getD-drop k held i 0 ∙ p .rest (k + i) (omega arith) ∙ sym (getD-drop k scratch i 0)))

@@ -1,9 +1,9 @@
 // The flat turn by passes, its reverse, and the adjacent swap of four axes.
-mod block;
 mod gcd;
 mod line;
 mod refusal;
 mod scratch;
+mod turning;
 
 ghost use Rattle.passes.specs.Promises.{TurnPromise, TurnBackPromise, SwapPromise, ClearPromise};
 
@@ -15,8 +15,8 @@ pub fn turn(buf: &mut [u32], scratch: &mut [u32], m: usize, n: usize) -> u32
     if number != 0 {
         return number;
     }
-    let s = block::sides_of(m, n);
-    block::turn_at(buf, scratch, s, 0, 1);
+    let s = turning::group_sides(m, n);
+    turning::turn_at(buf, scratch, s, 0, 1);
     scratch::clear_longest(scratch, m, n);
     0
 }
@@ -29,8 +29,8 @@ pub fn turn_back(buf: &mut [u32], scratch: &mut [u32], m: usize, n: usize) -> u3
     if number != 0 {
         return number;
     }
-    let s = block::sides_of(m, n);
-    block::turn_home_at(buf, scratch, s, 0, 1);
+    let s = turning::group_sides(m, n);
+    turning::turn_home_at(buf, scratch, s, 0, 1);
     scratch::clear_longest(scratch, m, n);
     0
 }
@@ -50,8 +50,8 @@ pub fn swap(
     if number != 0 {
         return number;
     }
-    let s = block::sides_of(m, n);
-    block::turn_all(buf, scratch, s, outer, chunk);
+    let s = turning::group_sides(m, n);
+    turning::turn_all(buf, scratch, s, outer, chunk);
     scratch::clear_longest(scratch, m, n);
     0
 }

@@ -1,57 +1,35 @@
 -- `turn_back` meets its contract: as `turn`, with the passes undone; a turn of the block at exit gives the block at entry.
-use mathlib.Core.Path.{sym, _∙_}
+use mathlib.Core.Path.{_≡_, _∙_}
 use native.Mathlib.Omega.{arith}
-use Rattle.flat.proofs.Turn.{turn-home}
-use Rattle.refusals.proofs.Promise.{refused, accepted}
-use Rattle.passes.proofs.Accepted.{accepted-by, flat-lies, flat-turned, cleared-past}
 use borrow.Author.Needs.{needs}
+use Rattle.lists.proofs.Via.{via}
+use Rattle.refusals.specs.FirstOf.{firstOf}
+use Rattle.refusals.specs.Calls.{passesChecks}
+use Rattle.refusals.proofs.Promise.{refused, accepted}
+use Rattle.flat.specs.Turn.{sides}
+use Rattle.flat.proofs.Turn.{turn-home}
+use Rattle.passes.proofs.Accepted.{Accepted, flat-accepted, flat-lies, flat-turned, past-cleared}
 use Rattle.passes.proofs.turn_back.Statement.{statement}
 use Rattle.passes.proofs.turn_back.Tie as tie
 
-returns : tie.Need-returns
-returns c =
-    let number : tie.After-flat-number = search in
-    refused (number .flat-number .ensures) (c .if1 .taken)
-
-sides-of-requires : tie.Need-sides-of-requires
-sides-of-requires c κs =
-    let number : tie.After-flat-number = search in
-    let start : tie.Start = search in
-    let a = accepted-by (start .args .buf .now) (start .args .scratch .now) (number .flat-number .ensures) (omega (arith, c .if1 .left)) in
-    (a .m-pos, a .n-pos, a .m-few, a .n-few)
+-- what the checks tell of the arguments where none holds
+checked : (x : tie.Start) → let a = x .args in firstOf (passesChecks (sides (a .m) (a .n)) (a .buf .now) (a .scratch .now)) ≡ 0
+    → Accepted (a .m) (a .n) (a .buf .now) (a .scratch .now)
+checked x = flat-accepted _ _ _ _
 
 turn-home-at-requires : tie.Need-turn-home-at-requires
 turn-home-at-requires c κs =
-    let after-sides-of : tie.After-sides-of = search in
-    let else1 : tie.Else1 = search in
-    let number : tie.After-flat-number = search in
-    let start : tie.Start = search in
-    let s = after-sides-of .sides-of .ensures in
-    let a = accepted-by (start .args .buf .now) (start .args .scratch .now) (number .flat-number .ensures) (omega (arith, else1 .if1 .left)) in
-    (s .2, rw (s .0, s .1) (flat-lies a))
-
-clear-longest-requires : tie.Need-clear-longest-requires
-clear-longest-requires c κs =
-    let after-turn-home-at : tie.After-turn-home-at = search in
-    let else1 : tie.Else1 = search in
-    let number : tie.After-flat-number = search in
-    let start : tie.Start = search in
-    let a = accepted-by (start .args .buf .now) (start .args .scratch .now) (number .flat-number .ensures) (omega (arith, else1 .if1 .left)) in
-    rw (after-turn-home-at .turn-home-at .ensures .1 .same) (a .room)
+    let s : tie.After-group-sides = search in
+    let is = s .group-sides .ensures in
+    (is .2, rw (is .0, is .1) (flat-lies (checked (search) (search via))))
 
 returns-2 : tie.Need-returns-2
 returns-2 c =
-    let after-clear-longest : tie.After-clear-longest = search in
-    let after-turn-home-at : tie.After-turn-home-at = search in
-    let after-sides-of : tie.After-sides-of = search in
-    let else1 : tie.Else1 = search in
-    let number : tie.After-flat-number = search in
-    let start : tie.Start = search in
-    let s = after-sides-of .sides-of .ensures in
-    let t = rw (s .0, s .1) at (after-turn-home-at .turn-home-at .ensures) in
-    accepted (sym (number .flat-number .ensures) ∙ omega (arith, else1 .if1 .left))
-    (turn-home (flat-turned (start .args .m) (start .args .n) (after-turn-home-at .turn-home-at .last .0) (start .args .buf .now) (t .0)))
-    (after-clear-longest .clear-longest .ensures ∙ cleared-past (t .1))
+    let z : tie.After-clear-longest = search in
+    let t : tie.After-turn-home-at = search in
+    let s : tie.After-group-sides = search in
+    let turned = rw (s .group-sides .ensures .0, s .group-sides .ensures .1) at (t .turn-home-at .ensures) in
+    accepted (search via) (turn-home (flat-turned _ _ _ _ (turned .0))) (z .clear-longest .ensures ∙ past-cleared (turned .1))
 
 pub turn-back-spec : {M : Type 1} → statement M
 turn-back-spec =
@@ -60,10 +38,10 @@ turn-back-spec =
     (search needs)
     (search needs)
     (search needs)
-    returns
-    sides-of-requires
+    (λ c. search refused)
+    (λ c κs. omega (arith, checked (search) (search via)))
     turn-home-at-requires
-    clear-longest-requires
+    (λ c κs. omega (arith, checked (search) (search via)))
     (search needs)
     (search needs)
     returns-2)

@@ -6,16 +6,16 @@ use borrow.Author.Needs.{needs}
 use borrow.Author.Tests.{eq-eqb, ne-eqb}
 use Rattle.flat.specs.Passes.{row1, column2, row3}
 use Rattle.flat.proofs.Sides.{sides-are}
-use Rattle.passes.specs.Lines.{Sound}
+use Rattle.passes.specs.ThroughScratch.{Grouped}
 use Rattle.passes.proofs.line.paired_place.Statement.{statement}
 use Rattle.passes.proofs.line.paired_place.Tie as tie
-use Rattle.passes.specs.declared.line.Sides.{Sides}
+use Rattle.passes.specs.declared.line.GroupedSides.{GroupedSides}
 
 -- the groups of sound sides are not empty
-a-pos : {s : Sides} → Sound s → 0 < s .a
+a-pos : {s : GroupedSides} → Grouped s → 0 < s .a
 a-pos {s} h = rw (h .a-is) (sides-are (s .m) (s .n) (h .m-pos) (h .n-pos) .a-pos)
 
-b-pos : {s : Sides} → Sound s → 0 < s .b
+b-pos : {s : GroupedSides} → Grouped s → 0 < s .b
 b-pos {s} h = rw (h .b-is) (sides-are (s .m) (s .n) (h .m-pos) (h .n-pos) .b-pos)
 
 div-result : tie.Need-div-result

@@ -2,8 +2,8 @@
 use native.Mathlib.Omega.{arith}
 use borrow.Author.Needs.{needs}
 use Rattle.passes.proofs.Strided.{skipped-le}
-use Rattle.passes.proofs.block.line_count.Statement.{statement}
-use Rattle.passes.proofs.block.line_count.Tie as tie
+use Rattle.passes.proofs.turning.line_count.Statement.{statement}
+use Rattle.passes.proofs.turning.line_count.Tie as tie
 
 sub-result : tie.Need-sub-result
 sub-result c =

@@ -5,8 +5,8 @@ use native.Mathlib.Omega.{arith}
 use borrow.Author.Tests.{lt-ltb, le-ltb}
 use Rattle.passes.specs.Lines.{lineAt, skipped}
 use borrow.Author.Needs.{needs}
-use Rattle.passes.proofs.block.line_of.Statement.{statement}
-use Rattle.passes.proofs.block.line_of.Tie as tie
+use Rattle.passes.proofs.turning.line_of.Statement.{statement}
+use Rattle.passes.proofs.turning.line_of.Tie as tie
 
 -- a number of words times a side, and times a place of the block
 small : {u : ℕ} (k : ℕ) → u ≤ 1048576 → k ≤ 4096 → u * k ≤ 4294967296

@@ -7,12 +7,12 @@ use native.Mathlib.Omega.{arith}
 use borrow.Author.Needs.{needs}
 use Rattle.refusals.specs.Scratch.{need}
 use Rattle.flat.specs.Turn.{sides}
-use Rattle.passes.specs.Lines.{Past}
+use Rattle.passes.specs.ThroughScratch.{Past}
 use Rattle.passes.proofs.Family.{Some, some-none, some-more}
 use Rattle.passes.proofs.Fits.{past-none, past-more}
 use Rattle.passes.proofs.Swaps.{posOf, toOf, fromOf, blocks, swapped, around-few, words-few, base-few, block-lies}
-use Rattle.passes.proofs.block.turn_all.Statement.{statement}
-use Rattle.passes.proofs.block.turn_all.Tie as tie
+use Rattle.passes.proofs.turning.turn_all.Statement.{statement}
+use Rattle.passes.proofs.turning.turn_all.Tie as tie
 
 abbrev Inv-loop : tie.InvT-loop
 Inv-loop buf₀ scratch₀ s outer chunk words count t₀ buf scratch t = (t ≤ outer * chunk) × Some (outer * chunk) (s .m * s .n) (posOf (s .m) (s .n) chunk) (toOf (s .m) (s .n)) fromOf t buf₀ buf × Past (need (sides (s .m) (s .n))) scratch₀ scratch

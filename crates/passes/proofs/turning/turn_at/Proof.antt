@@ -5,8 +5,8 @@ use native.Mathlib.Omega.{arith}
 use Rattle.passes.specs.Lines.{lineCount}
 use Rattle.passes.proofs.Going.{Forth, going-fits, forth-none, forth-more, forth-all}
 use borrow.Author.Needs.{needs}
-use Rattle.passes.proofs.block.turn_at.Statement.{statement}
-use Rattle.passes.proofs.block.turn_at.Tie as tie
+use Rattle.passes.proofs.turning.turn_at.Statement.{statement}
+use Rattle.passes.proofs.turning.turn_at.Tie as tie
 
 abbrev Inv-loop : tie.InvT-loop
 Inv-loop buf₀ scratch₀ s base chunk count l₀ buf scratch l = (count ≡ lineCount (s .m) (s .n)) × Forth s base chunk buf₀ scratch₀ l buf scratch

@@ -4,7 +4,8 @@ use mathlib.Core.Bool.{Bool, true, false, cond}
 use mathlib.Core.List.{List}
 use Prim.Native.Nat.{ℕ, _<_}
 use lib.Dec.{eqb}
-use Rattle.passes.specs.Lines.{Moved, Held, Returned, Fits, Past, posOn, paired, toPlace, fromPlace}
+use Rattle.passes.specs.Lines.{Moved, posOn, paired, toPlace, fromPlace}
+use Rattle.passes.specs.ThroughScratch.{Lifted, Returned, Fits, Past}
 use Rattle.passes.specs.declared.line.Line.{Line}
 
 -- the test of the pass decided, in what holds of the places that a line's words go to and come from
@@ -14,7 +15,7 @@ decided F p e f = subst (λ (t : Bool). F (λ k. cond t (p k) k) (λ k. cond t k
 
 -- held, then returned: where the places that words go to are places of the line, the line has moved
 pub moved-through : {l : Line} {to from : ℕ → ℕ} {xs scratch held ys : List ℕ} → ((k : ℕ) → k < l .count → to k < l .count)
-    → Held l to from xs scratch held → Returned l held xs ys → Moved (l .count) (posOn l) to from xs ys
+    → Lifted l to from xs scratch held → Returned l held xs ys → Moved (l .count) (posOn l) to from xs ys
 moved-through {to = to} within h r = record {
   same = r .same;
   placed = λ k d. r .placed (to k) (within k d) ∙ h .placed k d;
@@ -25,8 +26,8 @@ moved-through {to = to} within h r = record {
 pub moved-home : {count : ℕ} {pos to from : ℕ → ℕ} {xs ys : List ℕ} → Moved count pos from to xs ys → Moved count pos to from ys xs
 moved-home m = record { same = sym (m .same); placed = λ k d. sym (m .placed k d); others = λ p h. sym (m .others p h) }
 
-pub held-past : {l : Line} {to from : ℕ → ℕ} {xs scratch held : List ℕ} → Held l to from xs scratch held → Past (l .count) scratch held
-held-past h = record { same = h .same; rest = h .rest }
+pub lifted-past : {l : Line} {to from : ℕ → ℕ} {xs scratch held : List ℕ} → Lifted l to from xs scratch held → Past (l .count) scratch held
+lifted-past h = record { same = h .same; rest = h .rest }
 
 -- a word goes to a place of the line, and comes from one
 module _ {m n : ℕ} {l : Line} {xs scratch : List ℕ} (f : Fits m n l xs scratch) where

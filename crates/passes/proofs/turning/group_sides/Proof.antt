@@ -1,12 +1,12 @@
--- `sides_of` meets its contract: the quotients by the greatest common divisor, and whether pass 1 is left out.
+-- `group_sides` meets its contract: the quotients by the greatest common divisor, and whether pass 1 is left out.
 use mathlib.Core.Path.{refl, ap}
 use Prim.Native.Nat.{ℕ, _/_}
 use borrow.Author.Tests.{lt-ltb, le-ltb}
 use Rattle.flat.proofs.Sides.{sides-are}
 use Rattle.passes.specs.Lines.{skipped}
 use borrow.Author.Needs.{needs}
-use Rattle.passes.proofs.block.sides_of.Statement.{statement}
-use Rattle.passes.proofs.block.sides_of.Tie as tie
+use Rattle.passes.proofs.turning.group_sides.Statement.{statement}
+use Rattle.passes.proofs.turning.group_sides.Tie as tie
 
 div-a : tie.Need-div-a
 div-a c =
@@ -56,5 +56,5 @@ returns-2 c =
       },
     )
 
-pub sides-of-spec : {M : Type 1} → statement M
-sides-of-spec = tie.close (tie.spec (search needs) div-a div-b returns returns-2)
+pub group-sides-spec : {M : Type 1} → statement M
+group-sides-spec = tie.close (tie.spec (search needs) div-a div-b returns returns-2)

@@ -5,8 +5,8 @@ use native.Mathlib.Omega.{arith}
 use Rattle.passes.specs.Lines.{lineCount}
 use Rattle.passes.proofs.Going.{Home, going-fits, home-all, home-less, home-none}
 use borrow.Author.Needs.{needs}
-use Rattle.passes.proofs.block.turn_home_at.Statement.{statement}
-use Rattle.passes.proofs.block.turn_home_at.Tie as tie
+use Rattle.passes.proofs.turning.turn_home_at.Statement.{statement}
+use Rattle.passes.proofs.turning.turn_home_at.Tie as tie
 
 abbrev Inv-loop : tie.InvT-loop
 Inv-loop buf₀ scratch₀ s base chunk l₀ buf scratch l = Home s base chunk buf₀ scratch₀ l buf scratch
