@@ -15,50 +15,35 @@ Inv-loop buf scratch₀ s l start stride k₀ k-end scratch k = (k ≤ l .count)
 abbrev μ-loop : tie.MeasureT-loop
 μ-loop buf scratch₀ s l start stride k₀ k-end scratch k = l .count - k
 
+-- the places that the answers look back to
+abbrev Start : Type 0
+Start = tie.Start Inv-loop μ-loop
+
+abbrev Loop : Type 0
+Loop = tie.At-loop Inv-loop μ-loop
+
+abbrev Paired : Type 0
+Paired = tie.After-paired-place Inv-loop μ-loop
+
 -- the place that is read lies in the buffer
-inside : (c : tie.After-paired-place Inv-loop μ-loop)
-    → posOn (c .before .before .before .before .before .args .l) (c .paired-place .result) < length (c .before .before .before .before .before .args .buf .now)
-inside c =
-    let in-loop : tie.In-loop Inv-loop μ-loop = search in
-    let at-loop : tie.At-loop Inv-loop μ-loop = search in
-    let start : tie.Start Inv-loop μ-loop = search in
-    let k = at-loop .loop .k in
-    rw (c .paired-place .ensures) (start .pre .1 .inside (paired (start .args .s .m) (start .args .s .n) (start .args .l .pass) (start .args .l .index) k) (start .pre .1 .within k (in-loop .loop-test .taken)))
-
-mul-scratch : tie.Need-mul-scratch Inv-loop μ-loop
-mul-scratch c = omega (arith, inside c)
-
-add-scratch : tie.Need-add-scratch Inv-loop μ-loop
-add-scratch c = omega (arith, inside c)
-
-mul-scratch-2 : tie.Need-mul-scratch-2 Inv-loop μ-loop
-mul-scratch-2 c = omega (arith, inside c)
-
-shared-slice-read-scratch : tie.Need-shared-slice-read-scratch Inv-loop μ-loop
-shared-slice-read-scratch c =
-    let after-paired-place : tie.After-paired-place Inv-loop μ-loop = search in
-    inside (after-paired-place)
+inside : (p : Paired) → let l = p .before .before in let a = l .before .before .before .args in posOn (a .l) (p .paired-place .result) < length (a .buf .now)
+inside p = let x : Start = search in rw (p .paired-place .ensures) (x .pre .1 .inside _ (x .pre .1 .within _ (omega arith)))
 
 loop-again : tie.Need-loop-again Inv-loop μ-loop
 loop-again c =
-    let after-paired-place : tie.After-paired-place Inv-loop μ-loop = search in
-    let in-loop : tie.In-loop Inv-loop μ-loop = search in
-    let at-loop : tie.At-loop Inv-loop μ-loop = search in
-    let start : tie.Start Inv-loop μ-loop = search in
-    let l = at-loop .loop in
-    let h = in-loop .loop-test .taken in
-    (omega (arith, h), rw (after-paired-place .paired-place .ensures) (filling-more (λ i j _ _ e. e) h (omega (arith, h, start .pre .1 .room)) (l .inv .1)))
+    let p : Paired = search in
+    let l : Loop = search in
+    (omega arith, rw (p .paired-place .ensures) (filling-more (λ i j _ _ e. e) (omega arith) (omega arith) (l .loop .inv .1)))
 
 returns : tie.Need-returns Inv-loop μ-loop
 returns c =
-    let at-loop : tie.At-loop Inv-loop μ-loop = search in
-    let start : tie.Start Inv-loop μ-loop = search in
-    let l = at-loop .loop in
-    let e : l .k ≡ start .args .l .count = omega arith in
+    let l : Loop = search in
+    let x : Start = search in
+    let e : l .loop .k ≡ x .args .l .count = omega arith in
     record {
-      same = l .inv .1 .same;
-      placed = λ k h. l .inv .1 .placed k (omega arith);
-      rest = λ k h. l .inv .1 .others k (λ j d q. omega arith);
+      same = l .loop .inv .1 .same;
+      placed = λ k h. l .loop .inv .1 .placed k (omega arith);
+      rest = λ k h. l .loop .inv .1 .others k (λ j d q. omega arith);
     }
 
 pub gather-spec : {M : Type 1} → statement M
@@ -69,10 +54,10 @@ gather-spec =
     μ-loop
     (search needs)
     (search needs)
-    mul-scratch
-    add-scratch
-    mul-scratch-2
-    shared-slice-read-scratch
+    (λ c. omega (arith, inside (search)))
+    (λ c. omega (arith, inside (search)))
+    (λ c. omega (arith, inside (search)))
+    (λ c. inside (search))
     (search needs)
     (search needs)
     (search needs)

@@ -16,57 +16,36 @@ Inv-loop buf₀ scratch start stride k₀ k-end buf k = (k ≤ k-end) × Filling
 abbrev μ-loop : tie.MeasureT-loop
 μ-loop buf₀ scratch start stride k₀ k-end buf k = k-end - k
 
+-- the places that the answers look back to
+abbrev Start : Type 0
+Start = tie.Start Inv-loop μ-loop
+
+abbrev Loop : Type 0
+Loop = tie.At-loop Inv-loop μ-loop
+
 -- the place that is written lies in the buffer
-inside : (c : tie.In-loop Inv-loop μ-loop) → posOn (c .before .before .args .l) (c .before .loop .k) < length (c .before .before .args .buf .now)
-inside c =
-    let at-loop : tie.At-loop Inv-loop μ-loop = search in
-    let start : tie.Start Inv-loop μ-loop = search in
-    start .pre .0 (at-loop .loop .k) (c .loop-test .taken)
+inside : (c : tie.In-loop Inv-loop μ-loop) → let a = c .before .before .args in posOn (a .l) (c .before .loop .k) < length (a .buf .now)
+inside c = let x : Start = search in x .pre .0 _ (omega arith)
 
 -- no two places of a line are one
 apart : (start stride : ℕ) → 0 < stride → (i j : ℕ) → start + stride * i ≡ start + stride * j → i ≡ j
 apart start stride h i j e = eq-of-mul-eq-mul-left stride h i j (omega arith)
 
-mul-buf-2 : tie.Need-mul-buf-2 Inv-loop μ-loop
-mul-buf-2 c =
-    let in-loop : tie.In-loop Inv-loop μ-loop = search in
-    omega (arith, inside (in-loop))
-
-add-buf : tie.Need-add-buf Inv-loop μ-loop
-add-buf c =
-    let in-loop : tie.In-loop Inv-loop μ-loop = search in
-    omega (arith, inside (in-loop))
-
-mul-buf-3 : tie.Need-mul-buf-3 Inv-loop μ-loop
-mul-buf-3 c =
-    let in-loop : tie.In-loop Inv-loop μ-loop = search in
-    omega (arith, inside (in-loop))
-
-slice-write-buf : tie.Need-slice-write-buf Inv-loop μ-loop
-slice-write-buf c =
-    let in-loop : tie.In-loop Inv-loop μ-loop = search in
-    let at-loop : tie.At-loop Inv-loop μ-loop = search in
-    omega (arith, inside (in-loop), at-loop .loop .inv .1 .same)
-
 loop-again : tie.Need-loop-again Inv-loop μ-loop
 loop-again c =
-    let in-loop : tie.In-loop Inv-loop μ-loop = search in
-    let at-loop : tie.At-loop Inv-loop μ-loop = search in
-    let start : tie.Start Inv-loop μ-loop = search in
-    let l = at-loop .loop in
-    let h = in-loop .loop-test .taken in
-    (omega (arith, h), filling-more (λ i j _ _ e. apart (start .args .l .start) (start .args .l .stride) (start .pre .1) i j e) h (inside (in-loop)) (l .inv .1))
+    let l : Loop = search in
+    let x : Start = search in
+    (omega arith, filling-more (λ i j _ _ e. apart (x .args .l .start) (x .args .l .stride) (x .pre .1) i j e) (omega arith) (inside (search)) (l .loop .inv .1))
 
 returns : tie.Need-returns Inv-loop μ-loop
 returns c =
-    let at-loop : tie.At-loop Inv-loop μ-loop = search in
-    let start : tie.Start Inv-loop μ-loop = search in
-    let l = at-loop .loop in
-    let e : l .k ≡ start .args .l .count = omega arith in
+    let l : Loop = search in
+    let x : Start = search in
+    let e : l .loop .k ≡ x .args .l .count = omega arith in
     record {
-      same = l .inv .1 .same;
-      placed = λ k h. l .inv .1 .placed k (omega arith);
-      others = l .inv .1 .others;
+      same = l .loop .inv .1 .same;
+      placed = λ k h. l .loop .inv .1 .placed k (omega arith);
+      others = l .loop .inv .1 .others;
     }
 
 pub put-back-spec : {M : Type 1} → statement M
@@ -78,10 +57,10 @@ put-back-spec =
     (search needs)
     (search needs)
     (search needs)
-    mul-buf-2
-    add-buf
-    mul-buf-3
-    slice-write-buf
+    (λ c. omega (arith, inside (search)))
+    (λ c. omega (arith, inside (search)))
+    (λ c. omega (arith, inside (search)))
+    (λ c. omega (arith, inside (search)))
     (search needs)
     (search needs)
     loop-again

@@ -1,8 +1,7 @@
 -- `turn_all` meets its contract: after t blocks those before t are turned, the others stand; all of them are the swap.
 use mathlib.Core.Path.{_≡_}
-use Prim.Native.Nat.{_*_, _-_, _/_, _%_, _≤_}
-use native.Mathlib.Nat.{mul-le-mul, lt-of-le-of-lt, le-trans, le-refl, le-add-right}
-use lib.Dec.{lit<}
+use Prim.Native.Nat.{ℕ, _*_, _-_, _<_, _≤_}
+use native.Mathlib.Nat.{mul-le-mul, le-refl}
 use native.Mathlib.Omega.{arith}
 use borrow.Author.Needs.{needs}
 use Rattle.refusals.specs.Scratch.{need}
@@ -10,7 +9,7 @@ use Rattle.flat.specs.Turn.{sides}
 use Rattle.passes.specs.ThroughScratch.{Past}
 use Rattle.passes.proofs.Family.{Some, some-none, some-more}
 use Rattle.passes.proofs.Fits.{past-none, past-more}
-use Rattle.passes.proofs.Swaps.{posOf, toOf, fromOf, blocks, swapped, around-few, words-few, base-few, block-lies}
+use Rattle.passes.proofs.Swaps.{posOf, toOf, fromOf, swapBase, blocks, swapped, around-few, words-few, base-few, block-lies}
 use Rattle.passes.proofs.turning.turn_all.Statement.{statement}
 use Rattle.passes.proofs.turning.turn_all.Tie as tie
 
@@ -20,81 +19,42 @@ Inv-loop buf₀ scratch₀ s outer chunk words count t₀ buf scratch t = (t ≤
 abbrev μ-loop : tie.MeasureT-loop
 μ-loop buf₀ scratch₀ s outer chunk words count t₀ buf scratch t = outer * chunk - t
 
-mul-words : tie.Need-mul-words Inv-loop μ-loop
-mul-words c =
-    let start : tie.Start Inv-loop μ-loop = search in
-    record { fits = lt-of-le-of-lt (mul-le-mul (start .pre .0 .m-few) (start .pre .0 .n-few)) (lit< tt) }
+-- the places that the answers look back to
+abbrev Start : Type 0
+Start = tie.Start Inv-loop μ-loop
 
-mul-words-2 : tie.Need-mul-words-2 Inv-loop μ-loop
-mul-words-2 c =
-    let start : tie.Start Inv-loop μ-loop = search in
-    record { fits = lt-of-le-of-lt (words-few (start .pre .0 .m-pos) (start .pre .0 .n-pos) (start .pre .1)) (lit< tt) }
+abbrev Loop : Type 0
+Loop = tie.At-loop Inv-loop μ-loop
 
-mul-count : tie.Need-mul-count Inv-loop μ-loop
-mul-count c =
-    let start : tie.Start Inv-loop μ-loop = search in
-    omega (arith, around-few (start .pre .0 .m-pos) (start .pre .0 .n-pos) (start .pre .1))
+-- what is computed on the way is no more than the words of the block
+few : (x : Start) → let a = x .args in (a .s .m * a .s .n ≤ 16777216) × (a .s .m * a .s .n * a .chunk ≤ 1048576) × (a .outer * a .chunk ≤ 1048576)
+few x =
+    let g = x .pre .0 in
+    (mul-le-mul (g .m-few) (g .n-few), words-few (g .m-pos) (g .n-pos) (x .pre .1), around-few (g .m-pos) (g .n-pos) (x .pre .1))
 
-loop-holds : tie.Need-loop-holds Inv-loop μ-loop
-loop-holds c =
-    let start : tie.Start Inv-loop μ-loop = search in
-    (omega arith, some-none _ _ _ _ _ (start .args .buf .now), past-none _ (start .args .scratch .now))
-
-mul-base : tie.Need-mul-base Inv-loop μ-loop
-mul-base c =
-    let at-loop : tie.At-loop Inv-loop μ-loop = search in
-    let start : tie.Start Inv-loop μ-loop = search in
-    let t = at-loop .loop .t in
-    record { fits = lt-of-le-of-lt (le-trans (le-add-right (t / start .args .chunk * (start .args .s .m * start .args .s .n * start .args .chunk)) (t % start .args .chunk)) (base-few (start .pre .0 .m-pos) (start .pre .0 .n-pos) (start .pre .1) t (c .loop-test .taken))) (lit< tt) }
-
-add-base : tie.Need-add-base Inv-loop μ-loop
-add-base c =
-    let at-loop : tie.At-loop Inv-loop μ-loop = search in
-    let start : tie.Start Inv-loop μ-loop = search in
-    record { fits = lt-of-le-of-lt (base-few (start .pre .0 .m-pos) (start .pre .0 .n-pos) (start .pre .1) (at-loop .loop .t) (c .loop-test .taken)) (lit< tt) }
+base : (x : Start) (t : ℕ) → t < x .args .outer * x .args .chunk → swapBase (x .args .s .m) (x .args .s .n) (x .args .chunk) t ≤ 1048576
+base x = base-few (x .pre .0 .m-pos) (x .pre .0 .n-pos) (x .pre .1)
 
 turn-at-requires : tie.Need-turn-at-requires Inv-loop μ-loop
 turn-at-requires c κs =
-    let in-loop : tie.In-loop Inv-loop μ-loop = search in
-    let at-loop : tie.At-loop Inv-loop μ-loop = search in
-    let start : tie.Start Inv-loop μ-loop = search in
-    let l = at-loop .loop in
-    (start .pre .0, block-lies (start .pre .0 .m-pos) (start .pre .0 .n-pos) (start .pre .1) (l .t) (l .buf) (l .scratch) (in-loop .loop-test .taken) (l .inv .1 .same) (l .inv .2 .same))
-
-add-t : tie.Need-add-t Inv-loop μ-loop
-add-t c =
-    let in-loop : tie.In-loop Inv-loop μ-loop = search in
-    let start : tie.Start Inv-loop μ-loop = search in
-    omega (arith, in-loop .loop-test .taken, around-few (start .pre .0 .m-pos) (start .pre .0 .n-pos) (start .pre .1))
+    let l : Loop = search in
+    let x : Start = search in
+    (x .pre .0, block-lies (x .pre .0 .m-pos) (x .pre .0 .n-pos) (x .pre .1) (l .loop .t) (l .loop .buf) (l .loop .scratch) (omega arith) (l .loop .inv .1 .same) (l .loop .inv .2 .same))
 
 loop-again : tie.Need-loop-again Inv-loop μ-loop
 loop-again c =
-    let after-turn-at : tie.After-turn-at Inv-loop μ-loop = search in
-    let in-loop : tie.In-loop Inv-loop μ-loop = search in
-    let at-loop : tie.At-loop Inv-loop μ-loop = search in
-    let start : tie.Start Inv-loop μ-loop = search in
-    let l = at-loop .loop in
-    let h = in-loop .loop-test .taken in
-    let t = after-turn-at .turn-at .ensures in
-    (omega (arith, h), some-more (blocks (start .args .outer) (start .args .s .m) (start .args .s .n) (start .args .chunk) (start .pre .0 .m-pos) (start .pre .0 .n-pos) (start .pre .1 .words)) h (l .inv .1) (t .0), past-more (le-refl _) (l .inv .2) (t .1))
-
-same-length : tie.Need-same-length Inv-loop μ-loop
-same-length c =
-    let at-loop : tie.At-loop Inv-loop μ-loop = search in
-    at-loop .loop .inv .1 .same
-
-same-length-2 : tie.Need-same-length-2 Inv-loop μ-loop
-same-length-2 c =
-    let at-loop : tie.At-loop Inv-loop μ-loop = search in
-    at-loop .loop .inv .2 .same
+    let t : tie.After-turn-at Inv-loop μ-loop = search in
+    let l : Loop = search in
+    let x : Start = search in
+    let family = blocks (x .args .outer) (x .args .s .m) (x .args .s .n) (x .args .chunk) (x .pre .0 .m-pos) (x .pre .0 .n-pos) (x .pre .1 .words) in
+    (omega arith, some-more family (omega arith) (l .loop .inv .1) (t .turn-at .ensures .0), past-more (le-refl _) (l .loop .inv .2) (t .turn-at .ensures .1))
 
 returns : tie.Need-returns Inv-loop μ-loop
 returns c =
-    let at-loop : tie.At-loop Inv-loop μ-loop = search in
-    let start : tie.Start Inv-loop μ-loop = search in
-    let l = at-loop .loop in
-    let e : l .t ≡ start .args .outer * start .args .chunk = omega (arith, c .loop-test .left, l .inv .0) in
-    (swapped (start .args .outer) (start .args .s .m) (start .args .s .n) (start .args .chunk) (start .pre .0 .m-pos) (start .pre .0 .n-pos) (start .pre .1 .words) (start .args .buf .now) (l .buf) (rw e at (l .inv .1)), l .inv .2)
+    let l : Loop = search in
+    let x : Start = search in
+    let e : l .loop .t ≡ x .args .outer * x .args .chunk = omega arith in
+    (swapped (x .args .outer) (x .args .s .m) (x .args .s .n) (x .args .chunk) (x .pre .0 .m-pos) (x .pre .0 .n-pos) (x .pre .1 .words) _ _ (rw e at (l .loop .inv .1)), l .loop .inv .2)
 
 pub turn-all-spec : {M : Type 1} → statement M
 turn-all-spec =
@@ -102,18 +62,18 @@ turn-all-spec =
     (tie.spec
     Inv-loop
     μ-loop
-    mul-words
-    mul-words-2
-    mul-count
-    loop-holds
+    (λ c. omega (arith, few (search)))
+    (λ c. omega (arith, few (search)))
+    (λ c. omega (arith, few (search)))
+    (λ c. let x : Start = search in (omega arith, some-none _ _ _ _ _ (x .args .buf .now), past-none _ (x .args .scratch .now)))
     (search needs)
-    mul-base
+    (λ c. let l : Loop = search in omega (arith, base (search) (l .loop .t) (omega arith)))
     (search needs)
-    add-base
+    (λ c. let l : Loop = search in omega (arith, base (search) (l .loop .t) (omega arith)))
     turn-at-requires
-    add-t
+    (λ c. omega (arith, few (search)))
     (search needs)
     loop-again
-    same-length
-    same-length-2
+    (λ c. let l : Loop = search in l .loop .inv .1 .same)
+    (λ c. let l : Loop = search in l .loop .inv .2 .same)
     returns)
