@@ -15,12 +15,11 @@ returns c = record {
 
 returns-2 : tie.Need-returns-2
 returns-2 c =
-    let after-zero : tie.After-zero = search in
-    let else1 : tie.Else1 = search in
-    let h = else1 .if1 .left in
+    let z : tie.After-zero = search in
+    let e : tie.Else1 = search in
     record {
-      number-is = rw (le-ltb _ _ h);
-      zeroed = λ _. after-zero .zero .ensures;
+      number-is = rw (le-ltb _ _ (e .if1 .left));
+      zeroed = λ _. z .zero .ensures;
       kept = λ n. absurd (n refl);
     }
 

@@ -14,24 +14,24 @@ Inv-loop m n x₀ y₀ x y = gcdOf x y ≡ gcdOf m n
 abbrev μ-loop : tie.MeasureT-loop
 μ-loop m n x₀ y₀ x y = y
 
-loop-holds : tie.Need-loop-holds Inv-loop μ-loop
-loop-holds c = refl
-
-loop-less : tie.Need-loop-less Inv-loop μ-loop
-loop-less c =
-    let at-loop : tie.At-loop Inv-loop μ-loop = search in
-    mod-lt (at-loop .loop .x) (omega arith)
-
-loop-again : tie.Need-loop-again Inv-loop μ-loop
-loop-again c =
-    let at-loop : tie.At-loop Inv-loop μ-loop = search in
-    gcd-step (at-loop .loop .x) (at-loop .loop .y) ∙ at-loop .loop .inv
+-- where the loop stands
+abbrev Loop : Type 0
+Loop = tie.At-loop Inv-loop μ-loop
 
 returns : tie.Need-returns Inv-loop μ-loop
 returns c =
-    let at-loop : tie.At-loop Inv-loop μ-loop = search in
-    let e : at-loop .loop .y ≡ 0 = omega arith in
-    sym (gcd-end (at-loop .loop .x)) ∙ ap (gcdOf (at-loop .loop .x)) (sym e) ∙ at-loop .loop .inv
+    let l : Loop = search in
+    let e : l .loop .y ≡ 0 = omega arith in
+    sym (gcd-end (l .loop .x)) ∙ ap (gcdOf (l .loop .x)) (sym e) ∙ l .loop .inv
 
 pub gcd-spec : {M : Type 1} → statement M
-gcd-spec = tie.close (tie.spec Inv-loop μ-loop loop-holds (search needs) loop-less loop-again returns)
+gcd-spec =
+    tie.close
+    (tie.spec
+    Inv-loop
+    μ-loop
+    (λ c. refl)
+    (search needs)
+    (λ c. let l : Loop = search in mod-lt (l .loop .x) (omega arith))
+    (λ c. let l : Loop = search in gcd-step (l .loop .x) (l .loop .y) ∙ l .loop .inv)
+    returns)

@@ -15,27 +15,18 @@ Inv-loop scratch₀ n k₀ scratch k = (k ≤ n) × (length scratch ≡ length s
 abbrev μ-loop : tie.MeasureT-loop
 μ-loop scratch₀ n k₀ scratch k = n - k
 
-loop-holds : tie.Need-loop-holds Inv-loop μ-loop
-loop-holds c = (omega arith, refl, refl)
-
-slice-write-scratch : tie.Need-slice-write-scratch Inv-loop μ-loop
-slice-write-scratch c = omega arith
-
-loop-less : tie.Need-loop-less Inv-loop μ-loop
-loop-less c = omega arith
-
 loop-again : tie.Need-loop-again Inv-loop μ-loop
 loop-again c =
-    let at-loop : tie.At-loop Inv-loop μ-loop = search in
-    let start : tie.Start Inv-loop μ-loop = search in
-    let l = at-loop .loop in
-    (omega arith, simp length-set (omega arith), rw (l .inv .2) (fill-more (l .k) 0 (start .args .scratch .now) (omega arith)))
+    let l : tie.At-loop Inv-loop μ-loop = search in
+    let x : tie.Start Inv-loop μ-loop = search in
+    (omega arith, simp length-set (omega arith), rw (l .loop .inv .2) (fill-more (l .loop .k) 0 (x .args .scratch .now) (omega arith)))
 
 returns : tie.Need-returns Inv-loop μ-loop
 returns c =
-    let at-loop : tie.At-loop Inv-loop μ-loop = search in
-    let start : tie.Start Inv-loop μ-loop = search in
-    let e : at-loop .loop .k ≡ start .args .n = omega arith in rw (← e) (at-loop .loop .inv .2)
+    let l : tie.At-loop Inv-loop μ-loop = search in
+    let x : tie.Start Inv-loop μ-loop = search in
+    let e : l .loop .k ≡ x .args .n = omega arith in
+    rw (← e) (l .loop .inv .2)
 
 pub zero-spec : {M : Type 1} → statement M
 zero-spec =
@@ -43,11 +34,11 @@ zero-spec =
     (tie.spec
     Inv-loop
     μ-loop
-    loop-holds
+    (λ c. (omega arith, refl, refl))
     (search needs)
-    slice-write-scratch
+    (λ c. omega arith)
     (search needs)
-    loop-less
+    (λ c. omega arith)
     loop-again
     (search needs)
     returns)
