@@ -10,17 +10,17 @@ use Prim.Native.Nat.{ℕ, _-_, _*_, _/_, _<_}
 use lib.ListN.{length}
 use borrow.Fn.Kinds.{In, Out}
 use borrow.Fn.PlainCycle.{Measures, is, falls, and}
-use Rattle.halves.proofs.block.tall.Reads as tall
-use Rattle.halves.proofs.block.tall.Kinds as tall-kinds
-use Rattle.halves.proofs.block.+tall+wide.Lts-tall as tall-lts
-use Rattle.halves.proofs.block.wide.Reads as wide
-use Rattle.halves.proofs.block.wide.Kinds as wide-kinds
-use Rattle.halves.proofs.block.+tall+wide.Lts-wide as wide-lts
-use Rattle.halves.proofs.block.square.Reads as square-reads
+use Rattle.halves.proofs.recursion.tall.Reads as tall
+use Rattle.halves.proofs.recursion.tall.Kinds as tall-kinds
+use Rattle.halves.proofs.recursion.+tall+wide.Lts-tall as tall-lts
+use Rattle.halves.proofs.recursion.wide.Reads as wide
+use Rattle.halves.proofs.recursion.wide.Kinds as wide-kinds
+use Rattle.halves.proofs.recursion.+tall+wide.Lts-wide as wide-lts
+use Rattle.halves.proofs.recursion.square.Reads as square-reads
 use Rattle.halves.proofs.runs.merge.Reads as merge-reads
 use Rattle.halves.proofs.runs.split.Reads as split-reads
-use Rattle.halves.proofs.block.+tall+wide.{statement}
-use Rattle.halves.proofs.block.+tall+wide.Tie.{close}
+use Rattle.halves.proofs.recursion.+tall+wide.{statement}
+use Rattle.halves.proofs.recursion.+tall+wide.Tie.{close}
 
 abbrev μ-tall : Measures 1 tall-kinds.ps ℕ
 μ-tall κs a = length (a .0 .now)
