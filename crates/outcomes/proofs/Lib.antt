@@ -8,3 +8,12 @@ pub mod Methods
 -- what a wrong outcome runs into, and the wrong outcomes of each call refuted
 pub mod Wrong
 pub mod RefutedTurn
+pub mod RefutedTurnBack
+pub mod RefutedSwap
+pub mod RefutedRecursion
+pub mod RefutedRead
+pub mod RefutedWrite
+pub mod RefutedJob
+pub mod RefutedChain
+pub mod RefutedRequest
+pub mod RefutedPlan

@@ -8,10 +8,9 @@ use Rattle.layout.specs.Layout.{volume, at, pick}
 use Rattle.refusals.specs.FirstOf.{firstOf}
 use Rattle.refusals.specs.Conditions.{longest}
 use Rattle.refusals.specs.Calls.{passesChecks}
-use Rattle.refusals.specs.Promise.{Rearranged}
 use Rattle.flat.specs.Turn.{sides}
 use Rattle.passes.specs.Promises.{TurnPromise}
-use Rattle.outcomes.proofs.Wrong.{other-list, misplaced, tail-changed, refuses, wrong-number}
+use Rattle.outcomes.proofs.Wrong.{other-list, misplaced, tail-changed, refuses, Broken, broken}
 
 abbrev block : List ℕ
 block = 0 ∷ 1 ∷ 2 ∷ 3 ∷ 4 ∷ 5 ∷ 6 ∷ 7 ∷ 8 ∷ []
@@ -78,33 +77,30 @@ refusal-touches-a-word p = other-list (p .kept (λ z. omega arith) .0) tt
 pub refusal-clears-scratch : {b : List ℕ} → TurnPromise 2 4 block (9 ∷ 9 ∷ 9 ∷ []) 4 b (0 ∷ 0 ∷ 0 ∷ []) → ⊥
 refusal-clears-scratch p = other-list (p .kept (λ z. omega arith) .1) tt
 
--- the order of checks, for every call with these checks, the reverse turn too: of two conditions that hold the later is answered
-module _ {needed : ℕ} {Right : List ℕ → Type 0} {b s : List ℕ} where
-  abbrev Answers : ℕ → ℕ → List ℕ → List ℕ → ℕ → Type 0
-  Answers m n b₀ s₀ number = Rearranged (passesChecks (sides m n) b₀ s₀) needed Right b₀ s₀ number b s
+-- the order of checks, for every call with these checks, the reverse turn too: of two conditions that hold the later is answered;
+-- 4,097 by 4,096
+pub two-before-one : (b s : List ℕ) → Broken (passesChecks (sides 4097 4096) b s) 2
+two-before-one b s = broken (passesChecks (sides 4097 4096) b s) 2 tt
 
-  -- 4,097 by 4,096
-  pub two-before-one : {b₀ s₀ : List ℕ} → Answers 4097 4096 b₀ s₀ 2 → ⊥
-  two-before-one p = wrong-number p tt
+-- 4,096 by 257 and no buffer
+pub three-before-two : (s : List ℕ) → Broken (passesChecks (sides 4096 257) [] s) 3
+unfolding volume
+three-before-two s = broken (passesChecks (sides 4096 257) [] s) 3 tt
 
-  -- 4,096 by 257 and no buffer
-  pub three-before-two : {s₀ : List ℕ} → Answers 4096 257 [] s₀ 3 → ⊥
-  unfolding volume
-  three-before-two p = wrong-number p tt
+-- 2 by 3, five words and scratch of two
+pub four-before-three : Broken (passesChecks (sides 2 3) (0 ∷ 1 ∷ 2 ∷ 3 ∷ 4 ∷ []) (9 ∷ 9 ∷ [])) 4
+unfolding volume
+four-before-three = broken (passesChecks (sides 2 3) (0 ∷ 1 ∷ 2 ∷ 3 ∷ 4 ∷ []) (9 ∷ 9 ∷ [])) 4 tt
 
-  -- 2 by 3, five words and scratch of two
-  pub four-before-three : Answers 2 3 (0 ∷ 1 ∷ 2 ∷ 3 ∷ 4 ∷ []) (9 ∷ 9 ∷ []) 4 → ⊥
-  unfolding volume
-  four-before-three p = wrong-number p tt
+-- side 0 is 1, also where scratch is short
+pub four-before-one : (b : List ℕ) → Broken (passesChecks (sides 0 3) b []) 4
+four-before-one b = broken (passesChecks (sides 0 3) b []) 4 tt
 
-  -- side 0 is 1, also where scratch is short
-  pub four-before-one : {b₀ : List ℕ} → Answers 0 3 b₀ [] 4 → ⊥
-  four-before-one p = wrong-number p tt
+-- a side of 4,097 is accepted
+pub side-4097-accepted : (b s : List ℕ) → Broken (passesChecks (sides 4097 1) b s) 0
+side-4097-accepted b s = broken (passesChecks (sides 4097 1) b s) 0 tt
 
-  -- a side of 4,096 is accepted, and one of 4,097 is not
-  pub side-4096-refused : {b₀ s₀ : List ℕ} → Answers 4096 1 b₀ s₀ 1 → ⊥
-  unfolding volume
-  side-4096-refused {b₀} p = ?
-
-  pub side-4097-accepted : {b₀ s₀ : List ℕ} → Answers 4097 1 b₀ s₀ 0 → ⊥
-  side-4097-accepted p = wrong-number p tt
+-- a side of 4,096 is refused with 1: what is missing there is the buffer
+pub side-4096-refused : (s : List ℕ) → Broken (passesChecks (sides 4096 1) [] s) 1
+unfolding volume
+side-4096-refused s = broken (passesChecks (sides 4096 1) [] s) 1 tt

@@ -50,12 +50,14 @@ module _ {ds o xs ys : List ℕ} (l : Laid ds o xs ys) where
   pub tail-changed : (k : ℕ) → T (leb (volume ds) k) → T (not (eqb (getD ys k 0) (getD xs k 0))) → ⊥
   tail-changed k h n = other-number (l .tail k (leb-true (volume ds) k (passes (leb (volume ds) k) h))) n
 
-module _ {checks : List Check} {needed : ℕ} {Right : List ℕ → Type 0} {buffer₀ scratch₀ : List ℕ} {r : ℕ} {buffer scratch : List ℕ}
-    (p : Rearranged checks needed Right buffer₀ scratch₀ r buffer scratch) where
-  -- a call that refuses where none of its conditions holds: one that refuses always does
-  pub refuses : firstOf checks ≡ 0 → (r ≡ 0 → ⊥) → ⊥
-  refuses e n = n (p .number-is ∙ e)
+-- a call that refuses where none of its conditions holds breaks its promise: one that refuses always does
+pub refuses : {checks : List Check} {needed : ℕ} {Right : List ℕ → Type 0} {b₀ s₀ b s : List ℕ} {r : ℕ} → Rearranged checks needed Right b₀ s₀ r b s
+    → firstOf checks ≡ 0 → (r ≡ 0 → ⊥) → ⊥
+refuses p e n = n (p .number-is ∙ e)
 
-  -- a call that answers another number than the first of its conditions that holds
-  pub wrong-number : T (not (eqb r (firstOf checks))) → ⊥
-  wrong-number n = other-number (p .number-is) n
+-- no call with these checks may answer this number, whatever it does with the words
+abbrev pub Broken : List Check → ℕ → Type 1
+Broken checks number = (needed : ℕ) (Right : List ℕ → Type 0) (b₀ s₀ b s : List ℕ) → Rearranged checks needed Right b₀ s₀ number b s → ⊥
+
+pub broken : (checks : List Check) (number : ℕ) → T (not (eqb number (firstOf checks))) → Broken checks number
+broken checks number n needed Right b₀ s₀ b s p = other-number (p .number-is) n
