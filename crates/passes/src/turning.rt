@@ -1,26 +1,27 @@
 // Blocks turned where they lie, line by line.
 use crate::gcd;
 use crate::line;
+use crate::line::GroupedSides;
 use crate::line::Line;
-use crate::line::Sides;
 ghost use mathlib.Core.Path.{_≡_};
 ghost use Prim.Native.Nat.{_<_, _≤_};
 ghost use Rattle.layout.specs.Layout.{Laid};
 ghost use Rattle.flat.specs.Turn.{sides};
 ghost use Rattle.refusals.specs.Scratch.{need};
-ghost use Rattle.passes.specs.Lines.{Sound, Lies, AllLie, Past, TurnedAt, lineCount, lineOf};
+ghost use Rattle.passes.specs.Lines.{lineCount, lineOf};
+ghost use Rattle.passes.specs.ThroughScratch.{Grouped, Lies, AllLie, Past, TurnedAt};
 ghost use Rattle.passes.specs.Promises.{swapBlock, middle};
 
 // The sides of an m by n block.
-pub(crate) fn sides_of(m: usize, n: usize) -> Sides
+pub(crate) fn group_sides(m: usize, n: usize) -> GroupedSides
     requires { ⌜ (0 < m) × (0 < n) × (m ≤ 4096) × (n ≤ 4096) ⌝ }
-    ensures { λ r. ⌜ (r .m ≡ m) × (r .n ≡ n) × Sound r ⌝ }
+    ensures { λ r. ⌜ (r .m ≡ m) × (r .n ≡ n) × Grouped r ⌝ }
 {
     let c = gcd::gcd(m, n);
     let a = m / c;
     let b = n / c;
     if 1 < c {
-        return Sides {
+        return GroupedSides {
             m,
             n,
             a,
@@ -28,7 +29,7 @@ pub(crate) fn sides_of(m: usize, n: usize) -> Sides
             skipped: 0,
         };
     }
-    Sides {
+    GroupedSides {
         m,
         n,
         a,
@@ -38,16 +39,16 @@ pub(crate) fn sides_of(m: usize, n: usize) -> Sides
 }
 
 // How many lines the passes have.
-fn line_count(s: Sides) -> usize
-    requires { ⌜ Sound s ⌝ }
+fn line_count(s: GroupedSides) -> usize
+    requires { ⌜ Grouped s ⌝ }
     ensures { λ r. ⌜ r ≡ lineCount (s .m) (s .n) ⌝ }
 {
     s.n + s.m + s.n - s.skipped
 }
 
 // Line l of a block, counted from 0 across the passes.
-fn line_of(s: Sides, base: usize, chunk: usize, l: usize) -> Line
-    requires { ⌜ Sound s × (base ≤ 1048576) × (chunk ≤ 1048576) × (l < lineCount (s .m) (s .n)) ⌝ }
+fn line_of(s: GroupedSides, base: usize, chunk: usize, l: usize) -> Line
+    requires { ⌜ Grouped s × (base ≤ 1048576) × (chunk ≤ 1048576) × (l < lineCount (s .m) (s .n)) ⌝ }
     ensures { λ r. ⌜ r ≡ lineOf (s .m) (s .n) base chunk l ⌝ }
 {
     let m = s.m;
@@ -83,8 +84,14 @@ fn line_of(s: Sides, base: usize, chunk: usize, l: usize) -> Line
 }
 
 // The block is turned by its passes.
-pub(crate) fn turn_at(buf: &mut [u32], scratch: &mut [u32], s: Sides, base: usize, chunk: usize)
-    requires { ⌜ Sound s × Lies (s .m) (s .n) base chunk (now buf) (now scratch) ⌝ }
+pub(crate) fn turn_at(
+    buf: &mut [u32],
+    scratch: &mut [u32],
+    s: GroupedSides,
+    base: usize,
+    chunk: usize,
+)
+    requires { ⌜ Grouped s × Lies (s .m) (s .n) base chunk (now buf) (now scratch) ⌝ }
     ensures { λ _. ⌜ TurnedAt (s .m) (s .n) base chunk (now (buf .entry)) (now (buf .exit)) × Past (need (sides (s .m) (s .n))) (now (scratch .entry)) (now (scratch .exit)) ⌝ }
 {
     let count = line_count(s);
@@ -98,11 +105,11 @@ pub(crate) fn turn_at(buf: &mut [u32], scratch: &mut [u32], s: Sides, base: usiz
 pub(crate) fn turn_home_at(
     buf: &mut [u32],
     scratch: &mut [u32],
-    s: Sides,
+    s: GroupedSides,
     base: usize,
     chunk: usize,
 )
-    requires { ⌜ Sound s × Lies (s .m) (s .n) base chunk (now buf) (now scratch) ⌝ }
+    requires { ⌜ Grouped s × Lies (s .m) (s .n) base chunk (now buf) (now scratch) ⌝ }
     ensures { λ _. ⌜ TurnedAt (s .m) (s .n) base chunk (now (buf .exit)) (now (buf .entry)) × Past (need (sides (s .m) (s .n))) (now (scratch .entry)) (now (scratch .exit)) ⌝ }
 {
     let mut l = line_count(s);
@@ -114,8 +121,14 @@ pub(crate) fn turn_home_at(
 }
 
 // Every block of an adjacent swap is turned where it lies: one for each block before the two axes and each word after them.
-pub(crate) fn turn_all(buf: &mut [u32], scratch: &mut [u32], s: Sides, outer: usize, chunk: usize)
-    requires { ⌜ Sound s × AllLie outer (s .m) (s .n) chunk (now buf) (now scratch) ⌝ }
+pub(crate) fn turn_all(
+    buf: &mut [u32],
+    scratch: &mut [u32],
+    s: GroupedSides,
+    outer: usize,
+    chunk: usize,
+)
+    requires { ⌜ Grouped s × AllLie outer (s .m) (s .n) chunk (now buf) (now scratch) ⌝ }
     ensures { λ _. ⌜ Laid (swapBlock outer (s .m) (s .n) chunk) middle (now (buf .entry)) (now (buf .exit)) × Past (need (sides (s .m) (s .n))) (now (scratch .entry)) (now (scratch .exit)) ⌝ }
 {
     let words = s.m * s.n * chunk;
