@@ -69,3 +69,7 @@ refused-first (c ∷ cs) ds n = go (c .holds) n (refused-first cs ds)
 pub accepted-so-far : {cs : List Check} (ds : List Check) → Silent cs → firstOf (cs ++ ds) ≡ firstOf ds
 accepted-so-far ds none = refl
 accepted-so-far ds (more {c} {cs} h s) = rw h (accepted-so-far ds s)
+
+-- a list that is passed leaves the rest to decide
+pub through : {cs : List Check} (ds : List Check) → Refusing cs → firstOf cs ≡ 0 → firstOf (cs ++ ds) ≡ firstOf ds
+through ds r e = accepted-so-far ds (zero-silent r e)
