@@ -3,9 +3,9 @@
 use mathlib.Core.Path.{_≡_, refl, sym, ap, _∙_, subst}
 use mathlib.Core.List.{List}
 use mathlib.Core.Logic.{⊎-elim}
-use Prim.Native.Nat.{ℕ, _+_, _*_, _-_, _<_, _≤_, max, zero-le}
+use Prim.Native.Nat.{ℕ, _+_, _*_, _-_, _<_, _≤_, max}
 use native.Mathlib.Omega.{arith}
-use native.Mathlib.Nat.{mul-pos, le-max-left, le-max-right, max-le, le-trans, le-refl, le-antisymm}
+use native.Mathlib.Nat.{mul-pos, le-max-left, le-max-right, le-trans}
 use lib.ListN.{length}
 use lib.Arith.{digits-lt}
 use Rattle.lists.proofs.Decide.{lt-or-ge}
@@ -65,16 +65,6 @@ module _ {m n base chunk : ℕ} {xs scratch : List ℕ} (hm : 0 < m) (hn : 0 < n
 pub side-need : (m n : ℕ) → (m ≤ need (sides m n)) × (n ≤ need (sides m n))
 unfolding longest
 side-need m n = (le-max-left m (max n 0), le-trans (le-max-left n 0) (le-max-right m (max n 0)))
-
-pub need-le : {m n k : ℕ} → m ≤ k → n ≤ k → need (sides m n) ≤ k
-unfolding longest
-need-le h d = max-le h (max-le d zero-le)
-
-pub need-right : (m n : ℕ) → m ≤ n → need (sides m n) ≡ n
-need-right m n h = le-antisymm (need-le h (le-refl n)) (side-need m n .1)
-
-pub need-left : (m n : ℕ) → n ≤ m → need (sides m n) ≡ m
-need-left m n h = le-antisymm (need-le (le-refl m) h) (side-need m n .0)
 
 pub line-short : (m n base chunk t : ℕ) → t < n + m + n → lineAt m n base chunk t .count ≤ need (sides m n)
 line-short m n base chunk t h =

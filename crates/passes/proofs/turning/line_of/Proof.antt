@@ -25,7 +25,8 @@ module _ (x : tie.Start) where
   pass-1 : number ≤ 4096 → words number ≤ 4294967296
   pass-1 h = mul-le-mul (x .pre .2) h
 
-  pass-2 : number - x .args .s .n ≤ 4096 → ((number - x .args .s .n) * x .args .s .n ≤ 16777216) × (words ((number - x .args .s .n) * x .args .s .n) ≤ 17592186044416)
+  pass-2 : number - x .args .s .n ≤ 4096
+      → ((number - x .args .s .n) * x .args .s .n ≤ 16777216) × (words ((number - x .args .s .n) * x .args .s .n) ≤ 17592186044416)
   pass-2 h = (mul-le-mul h (x .pre .0 .n-few), mul-le-mul (x .pre .2) (mul-le-mul h (x .pre .0 .n-few)))
 
   pass-3 : number - (x .args .s .n + x .args .s .m) ≤ 4096 → words (number - (x .args .s .n + x .args .s .m)) ≤ 4294967296
