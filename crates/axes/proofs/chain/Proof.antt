@@ -26,10 +26,13 @@ same-length-2 c = search needs
 
 returns : tie.Need-returns
 returns c =
-    let x = c .before .before .before .before .before .before .before .before .before .before in
-    chain-refused (c .refusal .ensures) (λ e. omega arith) (x .args .shape .lens) (now (x .args .swaps)) (now (x .args .buf)) (now (x .args .scratch))
-    (sym (c .before .before .if1 .taken) ∙ c .before .before .before .chain-number .ensures)
-    (c .before .first-bad .ensures)
+    let after-first-bad : tie.After-first-bad = search in
+    let then1 : tie.Then1 = search in
+    let after-chain-number : tie.After-chain-number = search in
+    let start : tie.Start = search in
+    chain-refused (c .refusal .ensures) (λ e. omega arith) (start .args .shape .lens) (now (start .args .swaps)) (now (start .args .buf)) (now (start .args .scratch))
+    (sym (then1 .if1 .taken) ∙ after-chain-number .chain-number .ensures)
+    (after-first-bad .first-bad .ensures)
 
 refusal-requires-2 : tie.Need-refusal-requires-2
 refusal-requires-2 c κs = tt
@@ -42,16 +45,22 @@ same-length-4 c = search needs
 
 returns-2 : tie.Need-returns-2
 returns-2 c =
-    let x = c .before .before .before .before .before .before .before .before .before .before in
-    let number = c .before .before .before .chain-number .result in
-    let swaps = now (x .args .swaps) in
-    let nowhere : 0 ≡ refusedPlace number swaps = rw (ne-eqb number 6 (c .before .before .if1 .left)) in
-    chain-refused (c .refusal2 .ensures) (c .before .if2 .taken) (x .args .shape .lens) swaps (now (x .args .buf)) (now (x .args .scratch))
-    (c .before .before .before .chain-number .ensures)
+    let then2 : tie.Then2 = search in
+    let else1 : tie.Else1 = search in
+    let after-chain-number : tie.After-chain-number = search in
+    let start : tie.Start = search in
+    let number = after-chain-number .chain-number .result in
+    let swaps = now (start .args .swaps) in
+    let nowhere : 0 ≡ refusedPlace number swaps = rw (ne-eqb number 6 (else1 .if1 .left)) in
+    chain-refused (c .refusal2 .ensures) (then2 .if2 .taken) (start .args .shape .lens) swaps (now (start .args .buf)) (now (start .args .scratch))
+    (after-chain-number .chain-number .ensures)
     nowhere
 
 run-requires : tie.Need-run-requires
-run-requires c κs = sym (c .before .before .before .before .chain-number .ensures) ∙ c .before .before .if2 .left
+run-requires c κs =
+    let else2 : tie.Else2 = search in
+    let after-chain-number : tie.After-chain-number = search in
+    sym (after-chain-number .chain-number .ensures) ∙ else2 .if2 .left
 
 same-length-5 : tie.Need-same-length-5
 same-length-5 c = search needs
@@ -60,7 +69,9 @@ same-length-6 : tie.Need-same-length-6
 same-length-6 c = search needs
 
 returns-3 : tie.Need-returns-3
-returns-3 c = c .before .before .before .before .run .ensures
+returns-3 c =
+    let after-run : tie.After-run = search in
+    after-run .run .ensures
 
 pub chain-spec : {M : Type 1} → statement M
 chain-spec =

@@ -19,7 +19,8 @@ use Rattle.axes.proofs.plan.Tie as tie
 
 returns : tie.Need-returns
 returns c =
-    let above : First 7 (planChecks 4 (c .before .args .order)) = First.here (lt-ltb 23 (c .before .args .order) (c .if1 .taken)) refl in
+    let start : tie.Start = search in
+    let above : First 7 (planChecks 4 (start .args .order)) = First.here (lt-ltb 23 (start .args .order) (c .if1 .taken)) refl in
     record { number-is = sym (first-is above); given = λ e. absurd (omega arith); refusal = λ _. refl }
 
 order-of-requires : tie.Need-order-of-requires
@@ -30,10 +31,12 @@ falling-pairs-requires c κs = search needs
 
 returns-2 : tie.Need-returns-2
 returns-2 c =
-    let x = c .before .before .before .before in
-    let few : falling (orderOf 4 (x .args .order)) ≤ 6 = falling-4 (x .args .order) (omega arith) in
-    let pairs : c .before .falling-pairs .result ≡ falling (orderOf 4 (x .args .order)) =
-    c .before .falling-pairs .ensures ∙ ap falling (c .before .before .order-of .ensures) in
+    let after-falling-pairs : tie.After-falling-pairs = search in
+    let after-order-of : tie.After-order-of = search in
+    let start : tie.Start = search in
+    let few : falling (orderOf 4 (start .args .order)) ≤ 6 = falling-4 (start .args .order) (omega arith) in
+    let pairs : after-falling-pairs .falling-pairs .result ≡ falling (orderOf 4 (start .args .order)) =
+    after-falling-pairs .falling-pairs .ensures ∙ ap falling (after-order-of .order-of .ensures) in
     absurd (omega arith)
 
 planned-swaps-requires : tie.Need-planned-swaps-requires
@@ -41,14 +44,16 @@ planned-swaps-requires c κs = search needs
 
 returns-3 : tie.Need-returns-3
 returns-3 c =
-    let x = c .before .before .before .before .before in
-    let k = x .args .order in
+    let after-falling-pairs : tie.After-falling-pairs = search in
+    let after-order-of : tie.After-order-of = search in
+    let start : tie.Start = search in
+    let k = start .args .order in
     let o = orderOf 4 k in
-    let n = c .before .before .falling-pairs .result in
+    let n = after-falling-pairs .falling-pairs .result in
     let few : falling o ≤ 6 = falling-4 k (omega arith) in
-    let axes : c .before .before .before .order-of .result .axes ≡ o = c .before .before .before .order-of .ensures in
-    let long : n ≡ length (planOf o) = c .before .before .falling-pairs .ensures ∙ ap falling axes ∙ sym (length-plan o) in
-    let swaps : planned n (c .before .before .before .order-of .result .axes) ≡ planOf o =
+    let axes : after-order-of .order-of .result .axes ≡ o = after-order-of .order-of .ensures in
+    let long : n ≡ length (planOf o) = after-falling-pairs .falling-pairs .ensures ∙ ap falling axes ∙ sym (length-plan o) in
+    let swaps : planned n (after-order-of .order-of .result .axes) ≡ planOf o =
     ap₂ planned (long ∙ length-plan o) axes ∙ unfold planOf in refl in
     let silent : Silent (planChecks 4 k) =
     Silent.more (le-ltb 23 k (omega arith)) (Silent.more (le-ltb 6 (length (planOf o)) (omega (arith, length-plan o))) Silent.none) in

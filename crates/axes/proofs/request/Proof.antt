@@ -22,13 +22,15 @@ same-length-2 c = search needs
 
 returns : tie.Need-returns
 returns c =
-    let x = c .before .before .before .before .before .before .before .before in
-    let ds = x .args .shape .lens in
-    let number = c .before .before .block-number .ensures in
-    request-refused (c .refusal .ensures) (c .before .if1 .taken) ds (x .args .order) (now (x .args .buf)) (now (x .args .scratch))
+    let then1 : tie.Then1 = search in
+    let after-block-number : tie.After-block-number = search in
+    let start : tie.Start = search in
+    let ds = start .args .shape .lens in
+    let number = after-block-number .block-number .ensures in
+    request-refused (c .refusal .ensures) (then1 .if1 .taken) ds (start .args .order) (now (start .args .buf)) (now (start .args .scratch))
     (number
     ∙ sym
-    (refused-first (passesChecks ds (now (x .args .buf)) (now (x .args .scratch))) (planChecks 4 (x .args .order)) (λ e. c .before .if1 .taken (number ∙ e))))
+    (refused-first (passesChecks ds (now (start .args .buf)) (now (start .args .scratch))) (planChecks 4 (start .args .order)) (λ e. then1 .if1 .taken (number ∙ e))))
     refl
 
 plan-requires : tie.Need-plan-requires
@@ -45,24 +47,38 @@ same-length-4 c = search needs
 
 returns-2 : tie.Need-returns-2
 returns-2 c =
-    let x = c .before .before .before .before .before .before .before .before .before .before .before in
-    let ds = x .args .shape .lens in
-    let block = sound ds (now (x .args .buf)) (now (x .args .scratch)) (sym (c .before .before .before .before .before .block-number .ensures) ∙ c .before .before .before .before .if1 .left) in
-    request-refused (c .refusal2 .ensures) (c .before .if2 .taken) ds (x .args .order) (now (x .args .buf)) (now (x .args .scratch))
-    (c .before .before .before .plan .ensures .number-is ∙ sym (accepted-so-far (planChecks 4 (x .args .order)) (silent-block block)))
+    let then2 : tie.Then2 = search in
+    let after-plan : tie.After-plan = search in
+    let else1 : tie.Else1 = search in
+    let after-block-number : tie.After-block-number = search in
+    let start : tie.Start = search in
+    let ds = start .args .shape .lens in
+    let block = sound ds (now (start .args .buf)) (now (start .args .scratch)) (sym (after-block-number .block-number .ensures) ∙ else1 .if1 .left) in
+    request-refused (c .refusal2 .ensures) (then2 .if2 .taken) ds (start .args .order) (now (start .args .buf)) (now (start .args .scratch))
+    (after-plan .plan .ensures .number-is ∙ sym (accepted-so-far (planChecks 4 (start .args .order)) (silent-block block)))
     refl
 
 array-share-prefix-swaps : tie.Need-array-share-prefix-swaps
-array-share-prefix-swaps c = plan-holds (c .before .before .before .before .before .plan .ensures) (c .before .before .before .if2 .left)
+array-share-prefix-swaps c =
+    let else2 : tie.Else2 = search in
+    let after-plan : tie.After-plan = search in
+    plan-holds (after-plan .plan .ensures) (else2 .if2 .left)
 
 slice-aggregate-run : tie.Need-slice-aggregate-run
-slice-aggregate-run c = plan-count (c .before .before .before .before .before .before .plan .ensures) (c .before .before .before .before .if2 .left)
+slice-aggregate-run c =
+    let else2 : tie.Else2 = search in
+    let after-plan : tie.After-plan = search in
+    plan-count (after-plan .plan .ensures) (else2 .if2 .left)
 
 run-requires : tie.Need-run-requires
 run-requires c κs =
-    let x = c .before .before .before .before .before .before .before .before .before .before .before .before .before .before in
-    plan-accepted (c .before .before .before .before .before .before .plan .ensures) (c .before .before .before .before .if2 .left)
-    (sound (x .args .shape .lens) (now (x .args .buf)) (now (x .args .scratch)) (sym (c .before .before .before .before .before .before .before .before .block-number .ensures) ∙ c .before .before .before .before .before .before .before .if1 .left))
+    let else2 : tie.Else2 = search in
+    let after-plan : tie.After-plan = search in
+    let else1 : tie.Else1 = search in
+    let after-block-number : tie.After-block-number = search in
+    let start : tie.Start = search in
+    plan-accepted (after-plan .plan .ensures) (else2 .if2 .left)
+    (sound (start .args .shape .lens) (now (start .args .buf)) (now (start .args .scratch)) (sym (after-block-number .block-number .ensures) ∙ else1 .if1 .left))
 
 same-length-5 : tie.Need-same-length-5
 same-length-5 c = search needs
@@ -72,10 +88,15 @@ same-length-6 c = search needs
 
 returns-3 : tie.Need-returns-3
 returns-3 c =
-    let x = c .before .before .before .before .before .before .before .before .before .before .before .before .before .before .before .before .before .before .before in
-    request-met (c .before .before .before .before .before .before .before .before .before .before .before .plan .ensures) (c .before .before .before .before .before .before .before .before .before .if2 .left)
-    (sound (x .args .shape .lens) (now (x .args .buf)) (now (x .args .scratch)) (sym (c .before .before .before .before .before .before .before .before .before .before .before .before .before .block-number .ensures) ∙ c .before .before .before .before .before .before .before .before .before .before .before .before .if1 .left))
-    (c .before .before .before .before .run .ensures)
+    let after-run : tie.After-run = search in
+    let else2 : tie.Else2 = search in
+    let after-plan : tie.After-plan = search in
+    let else1 : tie.Else1 = search in
+    let after-block-number : tie.After-block-number = search in
+    let start : tie.Start = search in
+    request-met (after-plan .plan .ensures) (else2 .if2 .left)
+    (sound (start .args .shape .lens) (now (start .args .buf)) (now (start .args .scratch)) (sym (after-block-number .block-number .ensures) ∙ else1 .if1 .left))
+    (after-run .run .ensures)
 
 pub request-spec : {M : Type 1} → statement M
 request-spec =

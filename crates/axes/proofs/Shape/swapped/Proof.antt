@@ -10,9 +10,10 @@ use Rattle.axes.proofs.Shape.swapped.Tie as tie
 
 returns : tie.Need-returns
 returns c =
-    let l = c .before .args .self .lens in
-    let axes : length l ≡ 4 = held l (c .before .good .0 .1 .1 .0 .1 .0 .1) in
-    sym (exchange-past (c .before .args .k) l (omega arith))
+    let start : tie.Start = search in
+    let l = start .args .self .lens in
+    let axes : length l ≡ 4 = held l (start .good .0 .1 .1 .0 .1 .0 .1) in
+    sym (exchange-past (start .args .k) l (omega arith))
 
 mul-first : tie.Need-mul-first
 mul-first c = search needs
@@ -46,9 +47,10 @@ array-write-lens-2 c = search needs
 
 returns-2 : tie.Need-returns-2
 returns-2 c =
-    let l = c .before .before .args .self .lens in
-    let axes : length l ≡ 4 = held l (c .before .before .good .0 .1 .1 .0 .1 .0 .1) in
-    sym (exchange-set (c .before .before .args .k) l (omega arith))
+    let start : tie.Start = search in
+    let l = start .args .self .lens in
+    let axes : length l ≡ 4 = held l (start .good .0 .1 .1 .0 .1 .0 .1) in
+    sym (exchange-set (start .args .k) l (omega arith))
 
 pub swapped-spec : {M : Type 1} → statement M
 swapped-spec =

@@ -27,9 +27,11 @@ array-read-if1 c = search needs
 
 returns : tie.Need-returns Inv-loop μ-loop
 returns c =
-    let l = c .before .before .before .args .t1 in
-    let k = c .before .before .loop .k in
-    sym (c .before .before .loop .inv .1 ∙ some-here l k (omega arith) outOfRange (rw (eq-eqb (getD l k 0) 0 (c .if1 .taken))))
+    let at-loop : tie.At-loop Inv-loop μ-loop = search in
+    let start : tie.Start Inv-loop μ-loop = search in
+    let l = start .args .t1 in
+    let k = at-loop .loop .k in
+    sym (at-loop .loop .inv .1 ∙ some-here l k (omega arith) outOfRange (rw (eq-eqb (getD l k 0) 0 (c .if1 .taken))))
 
 mul-if2 : tie.Need-mul-if2 Inv-loop μ-loop
 mul-if2 c = search needs
@@ -39,11 +41,14 @@ array-read-if2 c = search needs
 
 returns-2 : tie.Need-returns-2 Inv-loop μ-loop
 returns-2 c =
-    let l = c .before .before .before .before .args .t1 in
-    let k = c .before .before .before .loop .k in
+    let else1 : tie.Else1 Inv-loop μ-loop = search in
+    let at-loop : tie.At-loop Inv-loop μ-loop = search in
+    let start : tie.Start Inv-loop μ-loop = search in
+    let l = start .args .t1 in
+    let k = at-loop .loop .k in
     sym
-    (c .before .before .before .loop .inv .1
-    ∙ some-here l k (omega arith) outOfRange (rw (ne-eqb (getD l k 0) 0 (c .before .if1 .left), lt-ltb 4096 (getD l k 0) (c .if2 .taken))))
+    (at-loop .loop .inv .1
+    ∙ some-here l k (omega arith) outOfRange (rw (ne-eqb (getD l k 0) 0 (else1 .if1 .left), lt-ltb 4096 (getD l k 0) (c .if2 .taken))))
 
 add-k : tie.Need-add-k Inv-loop μ-loop
 add-k c = search needs
@@ -53,18 +58,23 @@ loop-less c = search needs
 
 loop-again : tie.Need-loop-again Inv-loop μ-loop
 loop-again c =
-    let l = c .before .before .before .before .args .t1 in
-    let k = c .before .before .before .loop .k in (
+    let else1 : tie.Else1 Inv-loop μ-loop = search in
+    let at-loop : tie.At-loop Inv-loop μ-loop = search in
+    let start : tie.Start Inv-loop μ-loop = search in
+    let l = start .args .t1 in
+    let k = at-loop .loop .k in (
       omega arith,
-      c .before .before .before .loop .inv .1
-          ∙ some-past l k (omega arith) outOfRange (rw (ne-eqb (getD l k 0) 0 (c .before .if1 .left), le-ltb 4096 (getD l k 0) (c .if2 .left))),
+      at-loop .loop .inv .1
+          ∙ some-past l k (omega arith) outOfRange (rw (ne-eqb (getD l k 0) 0 (else1 .if1 .left), le-ltb 4096 (getD l k 0) (c .if2 .left))),
     )
 
 returns-3 : tie.Need-returns-3 Inv-loop μ-loop
 returns-3 c =
-    let l = c .before .before .args .t1 in
-    let k = c .before .loop .k in
-    sym (c .before .loop .inv .1 ∙ ap badLength (drop-end l k (omega arith)))
+    let at-loop : tie.At-loop Inv-loop μ-loop = search in
+    let start : tie.Start Inv-loop μ-loop = search in
+    let l = start .args .t1 in
+    let k = at-loop .loop .k in
+    sym (at-loop .loop .inv .1 ∙ ap badLength (drop-end l k (omega arith)))
 
 pub bad-length-spec : {M : Type 1} → statement M
 bad-length-spec =

@@ -39,8 +39,10 @@ loop-less c = search needs
 
 loop-again : tie.Need-loop-again Inv-loop μ-loop
 loop-again c =
-    let l = c .before .before .before .args .t1 in
-    let k = c .before .before .loop .k in
+    let at-loop : tie.At-loop Inv-loop μ-loop = search in
+    let start : tie.Start Inv-loop μ-loop = search in
+    let l = start .args .t1 in
+    let k = at-loop .loop .k in
     let front = longest-front l k (omega arith) in
     ⊎-elim
     (λ w. (omega arith, omega (arith, front)))
@@ -49,8 +51,10 @@ loop-again c =
 
 returns : tie.Need-returns Inv-loop μ-loop
 returns c =
-    let l = c .before .before .args .t1 in
-    let k = c .before .loop .k in
+    let at-loop : tie.At-loop Inv-loop μ-loop = search in
+    let start : tie.Start Inv-loop μ-loop = search in
+    let l = start .args .t1 in
+    let k = at-loop .loop .k in
     let none : longest (drop k l) ≡ 0 = ap longest (drop-end l k (omega arith)) ∙ unfold longest in refl in
     omega arith
 

@@ -29,10 +29,11 @@ array-read-words c = search needs
 
 mul-words-2 : tie.Need-mul-words-2 Inv-loop μ-loop
 mul-words-2 c =
-    let i = c .before .loop .inv in
-    let x = c .before .before in
-    let few : 4096 ^ (c .before .loop .k - x .args .start) ≤ 4096 ^ 3 = pow-le-pow-right (omega arith) {j = 3} (omega arith) in
-    record { fits = omega (arith, mul-le-mul (i .2) (x .pre .2 (c .before .loop .k) (omega arith)), few) }
+    let at-loop : tie.At-loop Inv-loop μ-loop = search in
+    let start : tie.Start Inv-loop μ-loop = search in
+    let i = at-loop .loop .inv in
+    let few : 4096 ^ (at-loop .loop .k - start .args .start) ≤ 4096 ^ 3 = pow-le-pow-right (omega arith) {j = 3} (omega arith) in
+    record { fits = omega (arith, mul-le-mul (i .2) (start .pre .2 (at-loop .loop .k) (omega arith)), few) }
 
 add-k : tie.Need-add-k Inv-loop μ-loop
 add-k c = search needs
@@ -42,28 +43,30 @@ loop-less c = search needs
 
 loop-again : tie.Need-loop-again Inv-loop μ-loop
 loop-again c =
-    let i = c .before .loop .inv in
-    let x = c .before .before in
-    let l = x .args .t1 in
-    let k = c .before .loop .k in
-    let one-more : k + 1 - x .args .start ≡ ℕ.suc (k - x .args .start) = omega arith in (
+    let at-loop : tie.At-loop Inv-loop μ-loop = search in
+    let start : tie.Start Inv-loop μ-loop = search in
+    let i = at-loop .loop .inv in
+    let l = start .args .t1 in
+    let k = at-loop .loop .k in
+    let one-more : k + 1 - start .args .start ≡ ℕ.suc (k - start .args .start) = omega arith in (
       omega arith,
       omega arith,
-      rw (one-more, pow-suc 4096 (k - x .args .start)) (mul-le-mul (i .2) (x .pre .2 k (omega arith))),
-      mul-assoc (c .before .loop .words) (getD l k 0) (volume (slice (k + 1) (x .args .end) l))
-          ∙ ap (λ (z : ℕ). c .before .loop .words * z) (sym (volume-front l k (x .args .end) (omega arith) (omega arith)))
+      rw (one-more, pow-suc 4096 (k - start .args .start)) (mul-le-mul (i .2) (start .pre .2 k (omega arith))),
+      mul-assoc (at-loop .loop .words) (getD l k 0) (volume (slice (k + 1) (start .args .end) l))
+          ∙ ap (λ (z : ℕ). at-loop .loop .words * z) (sym (volume-front l k (start .args .end) (omega arith) (omega arith)))
           ∙ i .3,
     )
 
 returns : tie.Need-returns Inv-loop μ-loop
 returns c =
-    let i = c .before .loop .inv in
-    let x = c .before .before in
-    let l = x .args .t1 in
-    let all : c .before .loop .k ≡ x .args .end = omega arith in
-    let none : volume (slice (c .before .loop .k) (x .args .end) l) ≡ 1 =
-    ap (λ (z : ℕ). volume (slice z (x .args .end) l)) all ∙ ap volume (slice-empty (x .args .end) l) ∙ unfold volume in refl in
-    sym (mul-one (c .before .loop .words)) ∙ ap (λ (z : ℕ). c .before .loop .words * z) (sym none) ∙ i .3
+    let at-loop : tie.At-loop Inv-loop μ-loop = search in
+    let start : tie.Start Inv-loop μ-loop = search in
+    let i = at-loop .loop .inv in
+    let l = start .args .t1 in
+    let all : at-loop .loop .k ≡ start .args .end = omega arith in
+    let none : volume (slice (at-loop .loop .k) (start .args .end) l) ≡ 1 =
+    ap (λ (z : ℕ). volume (slice z (start .args .end) l)) all ∙ ap volume (slice-empty (start .args .end) l) ∙ unfold volume in refl in
+    sym (mul-one (at-loop .loop .words)) ∙ ap (λ (z : ℕ). at-loop .loop .words * z) (sym none) ∙ i .3
 
 pub product-spec : {M : Type 1} → statement M
 product-spec =

@@ -20,18 +20,21 @@ block-number-requires c κs = search needs
 
 returns : tie.Need-returns
 returns c =
-    let x = c .before .before .before .before .before in
-    let swaps = now (x .args .swaps) in
+    let after-block-number : tie.After-block-number = search in
+    let start : tie.Start = search in
+    let swaps = now (start .args .swaps) in
     let more : List Check = check 5 (longChain swaps) ∷ check 6 (badSwap 4 swaps) ∷ [] in
-    c .before .block-number .ensures
-    ∙ sym (refused-first (passesChecks (x .args .lens) (now (x .args .buf)) (now (x .args .scratch))) more (λ e. c .if1 .taken (c .before .block-number .ensures ∙ e)))
+    after-block-number .block-number .ensures
+    ∙ sym (refused-first (passesChecks (start .args .lens) (now (start .args .buf)) (now (start .args .scratch))) more (λ e. c .if1 .taken (after-block-number .block-number .ensures ∙ e)))
 
 returns-2 : tie.Need-returns-2
 returns-2 c =
-    let x = c .before .before .before .before .before .before .before in
-    let swaps = now (x .args .swaps) in
+    let else1 : tie.Else1 = search in
+    let after-block-number : tie.After-block-number = search in
+    let start : tie.Start = search in
+    let swaps = now (start .args .swaps) in
     let more : List Check = check 5 (longChain swaps) ∷ check 6 (badSwap 4 swaps) ∷ [] in
-    let block = sound (x .args .lens) (now (x .args .buf)) (now (x .args .scratch)) (sym (c .before .before .before .block-number .ensures) ∙ c .before .before .if1 .left) in
+    let block = sound (start .args .lens) (now (start .args .buf)) (now (start .args .scratch)) (sym (after-block-number .block-number .ensures) ∙ else1 .if1 .left) in
     let first : First 5 more = First.here (lt-ltb 32 (length swaps) (c .if2 .taken)) refl in
     sym (accepted-so-far more (silent-block block) ∙ first-is first)
 
@@ -40,24 +43,32 @@ first-bad-requires c κs = search needs
 
 returns-3 : tie.Need-returns-3
 returns-3 c =
-    let x = c .before .before .before .before .before .before .before .before in
-    let swaps = now (x .args .swaps) in
+    let else2 : tie.Else2 = search in
+    let after-first-bad : tie.After-first-bad = search in
+    let else1 : tie.Else1 = search in
+    let after-block-number : tie.After-block-number = search in
+    let start : tie.Start = search in
+    let swaps = now (start .args .swaps) in
     let more : List Check = check 5 (longChain swaps) ∷ check 6 (badSwap 4 swaps) ∷ [] in
-    let block = sound (x .args .lens) (now (x .args .buf)) (now (x .args .scratch)) (sym (c .before .before .before .before .block-number .ensures) ∙ c .before .before .before .if1 .left) in
-    let place = c .before .before .first-bad .ensures in
+    let block = sound (start .args .lens) (now (start .args .buf)) (now (start .args .scratch)) (sym (after-block-number .block-number .ensures) ∙ else1 .if1 .left) in
+    let place = after-first-bad .first-bad .ensures in
     let first : First 6 more =
-    First.later (le-ltb 32 (length swaps) (c .before .if2 .left)) (First.here (found-place (noSwap 4) swaps (omega (arith, place))) refl) in
+    First.later (le-ltb 32 (length swaps) (else2 .if2 .left)) (First.here (found-place (noSwap 4) swaps (omega (arith, place))) refl) in
     sym (accepted-so-far more (silent-block block) ∙ first-is first)
 
 returns-4 : tie.Need-returns-4
 returns-4 c =
-    let x = c .before .before .before .before .before .before .before .before in
-    let swaps = now (x .args .swaps) in
+    let else2 : tie.Else2 = search in
+    let after-first-bad : tie.After-first-bad = search in
+    let else1 : tie.Else1 = search in
+    let after-block-number : tie.After-block-number = search in
+    let start : tie.Start = search in
+    let swaps = now (start .args .swaps) in
     let more : List Check = check 5 (longChain swaps) ∷ check 6 (badSwap 4 swaps) ∷ [] in
-    let block = sound (x .args .lens) (now (x .args .buf)) (now (x .args .scratch)) (sym (c .before .before .before .before .block-number .ensures) ∙ c .before .before .before .if1 .left) in
-    let place = c .before .before .first-bad .ensures in
+    let block = sound (start .args .lens) (now (start .args .buf)) (now (start .args .scratch)) (sym (after-block-number .block-number .ensures) ∙ else1 .if1 .left) in
+    let place = after-first-bad .first-bad .ensures in
     let silent : Silent more =
-    Silent.more (le-ltb 32 (length swaps) (c .before .if2 .left)) (Silent.more (no-place (noSwap 4) swaps (omega (arith, place))) Silent.none) in
+    Silent.more (le-ltb 32 (length swaps) (else2 .if2 .left)) (Silent.more (no-place (noSwap 4) swaps (omega (arith, place))) Silent.none) in
     sym (accepted-so-far more (silent-block block) ∙ silent-zero silent)
 
 pub chain-number-spec : {M : Type 1} → statement M

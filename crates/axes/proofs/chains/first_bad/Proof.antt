@@ -28,8 +28,10 @@ shared-slice-read-if1 c = search needs
 
 returns : tie.Need-returns Inv-loop μ-loop
 returns c =
-    let l = now (c .before .before .before .before .args .swaps) in
-    let i = c .before .before .before .loop .i in
+    let at-loop : tie.At-loop Inv-loop μ-loop = search in
+    let start : tie.Start Inv-loop μ-loop = search in
+    let l = now (start .args .swaps) in
+    let i = at-loop .loop .i in
     omega (arith, first-here l i (omega arith) (noSwap 4) (lt-ltb 2 (getD l i 0) (c .if1 .taken)))
 
 add-i : tie.Need-add-i Inv-loop μ-loop
@@ -40,15 +42,19 @@ loop-less c = search needs
 
 loop-again : tie.Need-loop-again Inv-loop μ-loop
 loop-again c =
-    let l = now (c .before .before .before .before .args .swaps) in
-    let i = c .before .before .before .loop .i in
+    let at-loop : tie.At-loop Inv-loop μ-loop = search in
+    let start : tie.Start Inv-loop μ-loop = search in
+    let l = now (start .args .swaps) in
+    let i = at-loop .loop .i in
     (refl, omega arith, omega (arith, first-past l i (omega arith) (noSwap 4) (le-ltb 2 (getD l i 0) (c .if1 .left))))
 
 returns-2 : tie.Need-returns-2 Inv-loop μ-loop
 returns-2 c =
-    let l = now (c .before .before .args .swaps) in
-    let none : firstPlace (noSwap 4) (drop (c .before .loop .i) l) ≡ 0 =
-    ap (firstPlace (noSwap 4)) (drop-end l (c .before .loop .i) (omega arith)) ∙ unfold firstPlace in refl in
+    let at-loop : tie.At-loop Inv-loop μ-loop = search in
+    let start : tie.Start Inv-loop μ-loop = search in
+    let l = now (start .args .swaps) in
+    let none : firstPlace (noSwap 4) (drop (at-loop .loop .i) l) ≡ 0 =
+    ap (firstPlace (noSwap 4)) (drop-end l (at-loop .loop .i) (omega arith)) ∙ unfold firstPlace in refl in
     omega arith
 
 pub first-bad-spec : {M : Type 1} → statement M

@@ -25,10 +25,10 @@ abbrev μ-loop : tie.MeasureT-loop
 
 loop-holds : tie.Need-loop-holds Inv-loop μ-loop
 loop-holds c =
-    let x = c .before .before .before .before in
-    let ds = x .args .shape .lens in
-    let axes : length ds ≡ 4 = held ds (x .good .1 .1 .0 .1 .1 .0 .1 .0 .1) in
-    (refl, omega arith, begin ds axes (now (x .args .swaps)) (now (x .args .buf)) (now (x .args .scratch)))
+    let start : tie.Start Inv-loop μ-loop = search in
+    let ds = start .args .shape .lens in
+    let axes : length ds ≡ 4 = held ds (start .good .1 .1 .0 .1 .1 .0 .1 .0 .1) in
+    (refl, omega arith, begin ds axes (now (start .args .swaps)) (now (start .args .buf)) (now (start .args .scratch)))
 
 mul-k : tie.Need-mul-k Inv-loop μ-loop
 mul-k c = search needs
@@ -38,14 +38,15 @@ shared-slice-read-k c = search needs
 
 swap-at-requires : tie.Need-swap-at-requires Inv-loop μ-loop
 swap-at-requires c κs =
-    let x = c .before .before .before .before .before .before .before .before .before in
-    let l = c .before .before .before .before .loop in
-    let ds = x .args .shape .lens in
-    let swaps = now (x .args .swaps) in
-    let xs = now (x .args .buf) in
-    let ss = now (x .args .scratch) in
-    let axes : length ds ≡ 4 = held ds (x .good .1 .1 .0 .1 .1 .0 .1 .0 .1) in
-    let accepts = runs ds xs ss swaps (x .pre) in
+    let at-loop : tie.At-loop Inv-loop μ-loop = search in
+    let start : tie.Start Inv-loop μ-loop = search in
+    let l = at-loop .loop in
+    let ds = start .args .shape .lens in
+    let swaps = now (start .args .swaps) in
+    let xs = now (start .args .buf) in
+    let ss = now (start .args .scratch) in
+    let axes : length ds ≡ 4 = held ds (start .good .1 .1 .0 .1 .1 .0 .1 .0 .1) in
+    let accepts = runs ds xs ss swaps (start .pre) in
     (good-swap swaps (accepts .swaps) (l .i) (omega arith), still-sound ds axes swaps xs ss (l .inv .2) accepts)
 
 swapped-requires : tie.Need-swapped-requires Inv-loop μ-loop
@@ -53,14 +54,15 @@ swapped-requires c κs = search needs
 
 next-order-requires : tie.Need-next-order-requires Inv-loop μ-loop
 next-order-requires c κs =
-    let x = c .before .before .before .before .before .before .before .before .before .before .before .before .before .before .before in
-    let l = c .before .before .before .before .before .before .before .before .before .before .loop in
-    let ds = x .args .shape .lens in
-    let swaps = now (x .args .swaps) in
-    let xs = now (x .args .buf) in
-    let ss = now (x .args .scratch) in
-    let axes : length ds ≡ 4 = held ds (x .good .1 .1 .0 .1 .1 .0 .1 .0 .1) in
-    let accepts = runs ds xs ss swaps (x .pre) in
+    let at-loop : tie.At-loop Inv-loop μ-loop = search in
+    let start : tie.Start Inv-loop μ-loop = search in
+    let l = at-loop .loop in
+    let ds = start .args .shape .lens in
+    let swaps = now (start .args .swaps) in
+    let xs = now (start .args .buf) in
+    let ss = now (start .args .scratch) in
+    let axes : length ds ≡ 4 = held ds (start .good .1 .1 .0 .1 .1 .0 .1 .0 .1) in
+    let accepts = runs ds xs ss swaps (start .pre) in
     let low : l .order < 24 = rw (l .inv .2 .number) (number-below-4 (take (l .i) swaps)) in
     (low, good-swap swaps (accepts .swaps) (l .i) (omega arith))
 
@@ -72,16 +74,19 @@ loop-less c = search needs
 
 loop-again : tie.Need-loop-again Inv-loop μ-loop
 loop-again c =
-    let x = c .before .before .before .before .before .before .before .before .before .before .before .before .before .before .before .before in
-    let l = c .before .before .before .before .before .before .before .before .before .before .before .loop in
-    let ds = x .args .shape .lens in
-    let swaps = now (x .args .swaps) in
-    let xs = now (x .args .buf) in
-    let ss = now (x .args .scratch) in
-    let axes : length ds ≡ 4 = held ds (x .good .1 .1 .0 .1 .1 .0 .1 .0 .1) in
-    let accepts = runs ds xs ss swaps (x .pre) in
-    let made = c .before .before .before .before .before .before .swap-at .ensures in
-    (refl, omega arith, one-swap ds axes swaps xs ss (l .inv .2) (omega arith) (made .0) (made .1 .0) (made .1 .1) (c .before .swapped .ensures) (c .next-order .ensures))
+    let after-swapped : tie.After-swapped Inv-loop μ-loop = search in
+    let after-swap-at : tie.After-swap-at Inv-loop μ-loop = search in
+    let at-loop : tie.At-loop Inv-loop μ-loop = search in
+    let start : tie.Start Inv-loop μ-loop = search in
+    let l = at-loop .loop in
+    let ds = start .args .shape .lens in
+    let swaps = now (start .args .swaps) in
+    let xs = now (start .args .buf) in
+    let ss = now (start .args .scratch) in
+    let axes : length ds ≡ 4 = held ds (start .good .1 .1 .0 .1 .1 .0 .1 .0 .1) in
+    let accepts = runs ds xs ss swaps (start .pre) in
+    let made = after-swap-at .swap-at .ensures in
+    (refl, omega arith, one-swap ds axes swaps xs ss (l .inv .2) (omega arith) (made .0) (made .1 .0) (made .1 .1) (after-swapped .swapped .ensures) (c .next-order .ensures))
 
 longest-axis-requires : tie.Need-longest-axis-requires Inv-loop μ-loop
 longest-axis-requires c κs = search needs
@@ -90,32 +95,40 @@ clear-requires : tie.Need-clear-requires Inv-loop μ-loop
 clear-requires c κs = search needs
 
 same-length : tie.Need-same-length Inv-loop μ-loop
-same-length c = c .before .before .before .before .before .before .before .loop .inv .2 .words .same
+same-length c =
+    let at-loop : tie.At-loop Inv-loop μ-loop = search in
+    at-loop .loop .inv .2 .words .same
 
 same-length-2 : tie.Need-same-length-2 Inv-loop μ-loop
 same-length-2 c =
-    let x = c .before .before .before .before .before .before .before .before .before .before .before .before in
-    let l = c .before .before .before .before .before .before .before .loop in
-    let ds = x .args .shape .lens in
-    let swaps = now (x .args .swaps) in
-    let xs = now (x .args .buf) in
-    let ss = now (x .args .scratch) in
-    let axes : length ds ≡ 4 = held ds (x .good .1 .1 .0 .1 .1 .0 .1 .0 .1) in
-    let accepts = runs ds xs ss swaps (x .pre) in
-    let promise = finished ds axes swaps xs ss (l .inv .2) (omega arith) accepts (c .before .before .before .before .before .longest-axis .ensures) (c .before .before .before .clear .ensures) in
+    let after-clear : tie.After-clear Inv-loop μ-loop = search in
+    let after-longest-axis : tie.After-longest-axis Inv-loop μ-loop = search in
+    let at-loop : tie.At-loop Inv-loop μ-loop = search in
+    let start : tie.Start Inv-loop μ-loop = search in
+    let l = at-loop .loop in
+    let ds = start .args .shape .lens in
+    let swaps = now (start .args .swaps) in
+    let xs = now (start .args .buf) in
+    let ss = now (start .args .scratch) in
+    let axes : length ds ≡ 4 = held ds (start .good .1 .1 .0 .1 .1 .0 .1 .0 .1) in
+    let accepts = runs ds xs ss swaps (start .pre) in
+    let promise = finished ds axes swaps xs ss (l .inv .2) (omega arith) accepts (after-longest-axis .longest-axis .ensures) (after-clear .clear .ensures) in
     ap length (promise .block .zeroed refl) ∙ cleared-length ss (le-refl (longest ds)) (ltb-false (length ss) (longest ds) (accepts .block .scratch))
 
 returns : tie.Need-returns Inv-loop μ-loop
 returns c =
-    let x = c .before .before .before .before .before .before .before .before .before .before .before .before in
-    let l = c .before .before .before .before .before .before .before .loop in
-    let ds = x .args .shape .lens in
-    let swaps = now (x .args .swaps) in
-    let xs = now (x .args .buf) in
-    let ss = now (x .args .scratch) in
-    let axes : length ds ≡ 4 = held ds (x .good .1 .1 .0 .1 .1 .0 .1 .0 .1) in
-    let accepts = runs ds xs ss swaps (x .pre) in
-    finished ds axes swaps xs ss (l .inv .2) (omega arith) accepts (c .before .before .before .before .before .longest-axis .ensures) (c .before .before .before .clear .ensures)
+    let after-clear : tie.After-clear Inv-loop μ-loop = search in
+    let after-longest-axis : tie.After-longest-axis Inv-loop μ-loop = search in
+    let at-loop : tie.At-loop Inv-loop μ-loop = search in
+    let start : tie.Start Inv-loop μ-loop = search in
+    let l = at-loop .loop in
+    let ds = start .args .shape .lens in
+    let swaps = now (start .args .swaps) in
+    let xs = now (start .args .buf) in
+    let ss = now (start .args .scratch) in
+    let axes : length ds ≡ 4 = held ds (start .good .1 .1 .0 .1 .1 .0 .1 .0 .1) in
+    let accepts = runs ds xs ss swaps (start .pre) in
+    finished ds axes swaps xs ss (l .inv .2) (omega arith) accepts (after-longest-axis .longest-axis .ensures) (after-clear .clear .ensures)
 
 pub run-spec : {M : Type 1} → statement M
 run-spec =

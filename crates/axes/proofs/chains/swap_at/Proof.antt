@@ -13,10 +13,10 @@ use Rattle.axes.proofs.chains.swap_at.Tie as tie
 
 product-requires : tie.Need-product-requires
 product-requires c κs =
-    let x = c .before .before .before in
-    let l = x .args .shape .lens in
-    let axes : length l ≡ 4 = held l (x .good .1 .1 .0 .1 .1 .0 .1 .0 .1) in
-    let block = sound l (now (x .args .buf)) (now (x .args .scratch)) (x .pre .1) in
+    let start : tie.Start = search in
+    let l = start .args .shape .lens in
+    let axes : length l ≡ 4 = held l (start .good .1 .1 .0 .1 .1 .0 .1 .0 .1) in
+    let block = sound l (now (start .args .buf)) (now (start .args .scratch)) (start .pre .1) in
     (omega arith, omega arith, λ k h. in-range l (block .lengths) k (omega arith) .1)
 
 add-product : tie.Need-add-product
@@ -24,10 +24,10 @@ add-product c = search needs
 
 product-requires-2 : tie.Need-product-requires-2
 product-requires-2 c κs =
-    let x = c .before .before .before .before in
-    let l = x .args .shape .lens in
-    let axes : length l ≡ 4 = held l (x .good .1 .1 .0 .1 .1 .0 .1 .0 .1) in
-    let block = sound l (now (x .args .buf)) (now (x .args .scratch)) (x .pre .1) in
+    let start : tie.Start = search in
+    let l = start .args .shape .lens in
+    let axes : length l ≡ 4 = held l (start .good .1 .1 .0 .1 .1 .0 .1 .0 .1) in
+    let block = sound l (now (start .args .buf)) (now (start .args .scratch)) (start .pre .1) in
     (omega arith, omega arith, λ k h. in-range l (block .lengths) k (omega arith) .1)
 
 mul-m : tie.Need-mul-m
@@ -56,14 +56,17 @@ same-length-2 c = search needs
 
 returns : tie.Need-returns
 returns c =
-    let x = c .before .before .before .before .before .before .before .before .before .before .before .before in
-    let l = x .args .shape .lens in
-    let axes : length l ≡ 4 = held l (x .good .1 .1 .0 .1 .1 .0 .1 .0 .1) in
-    let block = sound l (now (x .args .buf)) (now (x .args .scratch)) (x .pre .1) in
-    swap-leaves l axes (x .args .k) (omega arith) block
-    (c .before .before .before .before .before .before .before .before .product .ensures)
-    (c .before .before .before .before .before .before .before .product2 .ensures)
-    (c .before .before .before .before .swap .ensures)
+    let after-swap : tie.After-swap = search in
+    let after-product2 : tie.After-product2 = search in
+    let after-product : tie.After-product = search in
+    let start : tie.Start = search in
+    let l = start .args .shape .lens in
+    let axes : length l ≡ 4 = held l (start .good .1 .1 .0 .1 .1 .0 .1 .0 .1) in
+    let block = sound l (now (start .args .buf)) (now (start .args .scratch)) (start .pre .1) in
+    swap-leaves l axes (start .args .k) (omega arith) block
+    (after-product .product .ensures)
+    (after-product2 .product2 .ensures)
+    (after-swap .swap .ensures)
 
 pub swap-at-spec : {M : Type 1} → statement M
 swap-at-spec =

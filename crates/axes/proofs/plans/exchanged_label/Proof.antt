@@ -11,18 +11,24 @@ add-result : tie.Need-add-result
 add-result c = search needs
 
 returns : tie.Need-returns
-returns c = let k = c .before .args .k in add-one k ∙ sym (ap (relabelled k) (c .if1 .taken) ∙ relabel-low k)
+returns c =
+    let start : tie.Start = search in
+    let k = start .args .k in add-one k ∙ sym (ap (relabelled k) (c .if1 .taken) ∙ relabel-low k)
 
 add-if2 : tie.Need-add-if2
 add-if2 c = search needs
 
 returns-2 : tie.Need-returns-2
-returns-2 c = let k = c .before .before .args .k in sym (ap (relabelled k) (c .if2 .taken ∙ add-one k) ∙ relabel-high k)
+returns-2 c =
+    let start : tie.Start = search in
+    let k = start .args .k in sym (ap (relabelled k) (c .if2 .taken ∙ add-one k) ∙ relabel-high k)
 
 returns-3 : tie.Need-returns-3
 returns-3 c =
-    let k = c .before .before .args .k in
-    sym (relabel-other k (c .before .before .args .a) (c .before .if1 .left) (λ e. c .if2 .left (e ∙ sym (add-one k))))
+    let else1 : tie.Else1 = search in
+    let start : tie.Start = search in
+    let k = start .args .k in
+    sym (relabel-other k (start .args .a) (else1 .if1 .left) (λ e. c .if2 .left (e ∙ sym (add-one k))))
 
 pub exchanged-label-spec : {M : Type 1} → statement M
 exchanged-label-spec = tie.close (tie.spec add-result returns add-if2 returns-2 returns-3)

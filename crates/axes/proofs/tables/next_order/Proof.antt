@@ -28,11 +28,11 @@ index-2-result c = search needs
 returns : tie.Need-returns
 unfolding orderOf numberOf orders arrangements rank exchange
 returns c =
-    let x = c .before in
-    let order = x .args .order in
-    let k = x .args .k in
-    ap (λ (row : List ℕ). getD row k 0) (row-at (λ o. tab 3 (λ j. numberOf 4 (exchange j o))) (orders 4) order (rw orders-4 (x .pre .0)))
-    ∙ getD-tab 3 (λ j. numberOf 4 (exchange j (orderOf 4 order))) k 0 (x .pre .1)
+    let start : tie.Start = search in
+    let order = start .args .order in
+    let k = start .args .k in
+    ap (λ (row : List ℕ). getD row k 0) (row-at (λ o. tab 3 (λ j. numberOf 4 (exchange j o))) (orders 4) order (rw orders-4 (start .pre .0)))
+    ∙ getD-tab 3 (λ j. numberOf 4 (exchange j (orderOf 4 order))) k 0 (start .pre .1)
 
 pub next-order-spec : {M : Type 1} → statement M
 next-order-spec =

@@ -32,10 +32,11 @@ under-from-requires c κs = search needs
 
 add-count : tie.Need-add-count Inv-loop μ-loop
 add-count c =
-    let x = c .before .before .before .before in
-    let l = x .args .t1 .axes in
-    let k = c .before .before .before .loop .k in
-    let axes : length l ≡ 4 = held l (x .good .0 .1 .1 .0 .1 .0 .1) in
+    let at-loop : tie.At-loop Inv-loop μ-loop = search in
+    let start : tie.Start Inv-loop μ-loop = search in
+    let l = start .args .t1 .axes in
+    let k = at-loop .loop .k in
+    let axes : length l ≡ 4 = held l (start .good .0 .1 .1 .0 .1 .0 .1) in
     record { fits = omega (arith, c .under-from .ensures, under-few l k (omega arith) (getD l k 0)) }
 
 add-k : tie.Need-add-k Inv-loop μ-loop
@@ -46,10 +47,11 @@ loop-less c = search needs
 
 loop-again : tie.Need-loop-again Inv-loop μ-loop
 loop-again c =
-    let x = c .before .before .before .before in
-    let l = x .args .t1 .axes in
-    let k = c .before .before .before .loop .k in
-    let axes : length l ≡ 4 = held l (x .good .0 .1 .1 .0 .1 .0 .1) in (
+    let at-loop : tie.At-loop Inv-loop μ-loop = search in
+    let start : tie.Start Inv-loop μ-loop = search in
+    let l = start .args .t1 .axes in
+    let k = at-loop .loop .k in
+    let axes : length l ≡ 4 = held l (start .good .0 .1 .1 .0 .1 .0 .1) in (
       omega arith,
       omega (arith, c .under-from .ensures, under-few l k (omega arith) (getD l k 0)),
       omega (arith, c .under-from .ensures, falling-front l k (omega arith)),
@@ -57,10 +59,11 @@ loop-again c =
 
 returns : tie.Need-returns Inv-loop μ-loop
 returns c =
-    let x = c .before .before in
-    let l = x .args .t1 .axes in
-    let axes : length l ≡ 4 = held l (x .good .0 .1 .1 .0 .1 .0 .1) in
-    let none : falling (drop (c .before .loop .k) l) ≡ 0 = ap falling (drop-end l (c .before .loop .k) (omega arith)) ∙ unfold falling in refl in
+    let at-loop : tie.At-loop Inv-loop μ-loop = search in
+    let start : tie.Start Inv-loop μ-loop = search in
+    let l = start .args .t1 .axes in
+    let axes : length l ≡ 4 = held l (start .good .0 .1 .1 .0 .1 .0 .1) in
+    let none : falling (drop (at-loop .loop .k) l) ≡ 0 = ap falling (drop-end l (at-loop .loop .k) (omega arith)) ∙ unfold falling in refl in
     omega arith
 
 pub falling-pairs-spec : {M : Type 1} → statement M

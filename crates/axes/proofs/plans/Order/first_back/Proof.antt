@@ -28,11 +28,15 @@ place-of-requires-2 c κs = search needs
 
 returns : tie.Need-returns Inv-loop μ-loop
 returns c =
-    let o = c .before .before .before .before .before .args .self .axes in
-    let k = c .before .before .before .before .loop .k in
+    let after-place-of2 : tie.After-place-of2 Inv-loop μ-loop = search in
+    let after-place-of : tie.After-place-of Inv-loop μ-loop = search in
+    let at-loop : tie.At-loop Inv-loop μ-loop = search in
+    let start : tie.Start Inv-loop μ-loop = search in
+    let o = start .args .self .axes in
+    let k = at-loop .loop .k in
     sym
-    (c .before .before .before .before .loop .inv .1
-    ∙ back-here o 4 k (omega arith) (omega (arith, c .before .place-of2 .ensures, c .before .before .place-of .ensures)))
+    (at-loop .loop .inv .1
+    ∙ back-here o 4 k (omega arith) (omega (arith, after-place-of2 .place-of2 .ensures, after-place-of .place-of .ensures)))
 
 add-k : tie.Need-add-k Inv-loop μ-loop
 add-k c = search needs
@@ -42,18 +46,24 @@ loop-less c = search needs
 
 loop-again : tie.Need-loop-again Inv-loop μ-loop
 loop-again c =
-    let o = c .before .before .before .before .before .args .self .axes in
-    let k = c .before .before .before .before .loop .k in (
+    let after-place-of2 : tie.After-place-of2 Inv-loop μ-loop = search in
+    let after-place-of : tie.After-place-of Inv-loop μ-loop = search in
+    let at-loop : tie.At-loop Inv-loop μ-loop = search in
+    let start : tie.Start Inv-loop μ-loop = search in
+    let o = start .args .self .axes in
+    let k = at-loop .loop .k in (
       omega arith,
-      c .before .before .before .before .loop .inv .1
-          ∙ back-past o 4 k (omega arith) (omega (arith, c .before .place-of2 .ensures, c .before .before .place-of .ensures)),
+      at-loop .loop .inv .1
+          ∙ back-past o 4 k (omega arith) (omega (arith, after-place-of2 .place-of2 .ensures, after-place-of .place-of .ensures)),
     )
 
 returns-2 : tie.Need-returns-2 Inv-loop μ-loop
 returns-2 c =
-    let all : c .before .loop .k ≡ 4 = omega arith in
-    let o = c .before .before .args .self .axes in
-    sym (c .before .loop .inv .1 ∙ ap (λ (k : ℕ). firstBack (4 - k) k o) all ∙ unfold firstBack in refl)
+    let at-loop : tie.At-loop Inv-loop μ-loop = search in
+    let start : tie.Start Inv-loop μ-loop = search in
+    let all : at-loop .loop .k ≡ 4 = omega arith in
+    let o = start .args .self .axes in
+    sym (at-loop .loop .inv .1 ∙ ap (λ (k : ℕ). firstBack (4 - k) k o) all ∙ unfold firstBack in refl)
 
 pub first-back-spec : {M : Type 1} → statement M
 first-back-spec =

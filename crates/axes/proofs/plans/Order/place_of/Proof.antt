@@ -26,11 +26,12 @@ element-copy-out-if1 c = search needs
 
 returns : tie.Need-returns Inv-loop μ-loop
 returns c =
-    let x = c .before .before .before .before in
-    let l = x .args .t1 .axes in
-    let k = c .before .before .before .loop .k in
-    let axes : length l ≡ 4 = held l (x .good .0 .1 .1 .0 .1 .0 .1) in
-    omega (arith, place-here l k (omega arith) (x .args .axis) (c .if1 .taken))
+    let at-loop : tie.At-loop Inv-loop μ-loop = search in
+    let start : tie.Start Inv-loop μ-loop = search in
+    let l = start .args .t1 .axes in
+    let k = at-loop .loop .k in
+    let axes : length l ≡ 4 = held l (start .good .0 .1 .1 .0 .1 .0 .1) in
+    omega (arith, place-here l k (omega arith) (start .args .axis) (c .if1 .taken))
 
 add-k : tie.Need-add-k Inv-loop μ-loop
 add-k c = search needs
@@ -40,19 +41,21 @@ loop-less c = search needs
 
 loop-again : tie.Need-loop-again Inv-loop μ-loop
 loop-again c =
-    let x = c .before .before .before .before in
-    let l = x .args .t1 .axes in
-    let k = c .before .before .before .loop .k in
-    let axes : length l ≡ 4 = held l (x .good .0 .1 .1 .0 .1 .0 .1) in
-    (omega arith, omega (arith, place-past l k (omega arith) (x .args .axis) (c .if1 .left)))
+    let at-loop : tie.At-loop Inv-loop μ-loop = search in
+    let start : tie.Start Inv-loop μ-loop = search in
+    let l = start .args .t1 .axes in
+    let k = at-loop .loop .k in
+    let axes : length l ≡ 4 = held l (start .good .0 .1 .1 .0 .1 .0 .1) in
+    (omega arith, omega (arith, place-past l k (omega arith) (start .args .axis) (c .if1 .left)))
 
 returns-2 : tie.Need-returns-2 Inv-loop μ-loop
 returns-2 c =
-    let x = c .before .before in
-    let l = x .args .t1 .axes in
-    let axes : length l ≡ 4 = held l (x .good .0 .1 .1 .0 .1 .0 .1) in
-    let none : placeOf (x .args .axis) (drop (c .before .loop .k) l) ≡ 0 =
-    ap (placeOf (x .args .axis)) (drop-end l (c .before .loop .k) (omega arith)) ∙ unfold placeOf in refl in
+    let at-loop : tie.At-loop Inv-loop μ-loop = search in
+    let start : tie.Start Inv-loop μ-loop = search in
+    let l = start .args .t1 .axes in
+    let axes : length l ≡ 4 = held l (start .good .0 .1 .1 .0 .1 .0 .1) in
+    let none : placeOf (start .args .axis) (drop (at-loop .loop .k) l) ≡ 0 =
+    ap (placeOf (start .args .axis)) (drop-end l (at-loop .loop .k) (omega arith)) ∙ unfold placeOf in refl in
     omega arith
 
 pub place-of-spec : {M : Type 1} → statement M

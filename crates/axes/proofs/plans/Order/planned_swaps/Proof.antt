@@ -40,7 +40,9 @@ array-write-swaps : tie.Need-array-write-swaps Inv-loop μ-loop
 array-write-swaps c = search needs
 
 relabel-requires : tie.Need-relabel-requires Inv-loop μ-loop
-relabel-requires c κs = omega (arith, c .first-back .ensures, back-few 4 0 (c .before .before .loop .rest .axes))
+relabel-requires c κs =
+    let at-loop : tie.At-loop Inv-loop μ-loop = search in
+    omega (arith, c .first-back .ensures, back-few 4 0 (at-loop .loop .rest .axes))
 
 add-i : tie.Need-add-i Inv-loop μ-loop
 add-i c = search needs
@@ -50,14 +52,16 @@ loop-less c = search needs
 
 loop-again : tie.Need-loop-again Inv-loop μ-loop
 loop-again c =
-    let x = c .before .before .before .before in
-    let l = c .before .before .before .loop in
-    let n = x .args .n in
-    let p = planned n (x .args .self .axes) in
+    let after-first-back : tie.After-first-back Inv-loop μ-loop = search in
+    let at-loop : tie.At-loop Inv-loop μ-loop = search in
+    let start : tie.Start Inv-loop μ-loop = search in
+    let l = at-loop .loop in
+    let n = start .args .n in
+    let p = planned n (start .args .self .axes) in
     let o = l .rest .axes in
-    let k = c .before .first-back .result in
+    let k = after-first-back .first-back .result in
     let back : k ≡ firstBack (length o) 0 o =
-    c .before .first-back .ensures ∙ ap (λ (m : ℕ). firstBack m 0 o) (sym (l .inv .1)) in
+    after-first-back .first-back .ensures ∙ ap (λ (m : ℕ). firstBack m 0 o) (sym (l .inv .1)) in
     let relabels : c .relabel .result .axes ≡ map (relabelled (firstBack (length o) 0 o)) o =
     c .relabel .ensures ∙ ap (λ (j : ℕ). map (relabelled j) o) back in (
       omega arith,
@@ -70,14 +74,15 @@ loop-again c =
 
 returns : tie.Need-returns Inv-loop μ-loop
 returns c =
-    let x = c .before .before in
-    let n = x .args .n in
-    let i = c .before .loop .i in
-    let p = planned n (x .args .self .axes) in
+    let at-loop : tie.At-loop Inv-loop μ-loop = search in
+    let start : tie.Start Inv-loop μ-loop = search in
+    let n = start .args .n in
+    let i = at-loop .loop .i in
+    let p = planned n (start .args .self .axes) in
     let all : i ≡ n = omega arith in
-    c .before .loop .inv .2
+    at-loop .loop .inv .2
     ∙ ap (λ (m : ℕ). tab m (λ j. getD p j 0) ++ drop {A = ℕ} m (replicate 6 0)) all
-    ∙ ap₂ _++_ (entries n p (length-planned n (x .args .self .axes))) (drop-zeros n 6)
+    ∙ ap₂ _++_ (entries n p (length-planned n (start .args .self .axes))) (drop-zeros n 6)
 
 pub planned-swaps-spec : {M : Type 1} → statement M
 planned-swaps-spec =

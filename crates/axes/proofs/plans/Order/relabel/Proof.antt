@@ -44,31 +44,33 @@ loop-less c = search needs
 
 loop-again : tie.Need-loop-again Inv-loop μ-loop
 loop-again c =
-    let x = c .before .before .before .before in
-    let l = x .args .self .axes in
-    let i = c .before .before .loop .i in
-    let axes : length l ≡ 4 = held l (x .good .0 .1 .1 .0 .1 .0 .1) in
-    let f : ℕ → ℕ = λ j. relabelled (x .args .k) (getD l j 0) in
-    let filled = c .before .before .loop .inv .1 in
+    let at-loop : tie.At-loop Inv-loop μ-loop = search in
+    let start : tie.Start Inv-loop μ-loop = search in
+    let l = start .args .self .axes in
+    let i = at-loop .loop .i in
+    let axes : length l ≡ 4 = held l (start .good .0 .1 .1 .0 .1 .0 .1) in
+    let f : ℕ → ℕ = λ j. relabelled (start .args .k) (getD l j 0) in
+    let filled = at-loop .loop .inv .1 in
     let label : c .exchanged-label .result ≡ f i =
     c .exchanged-label .ensures
-    ∙ ap (relabelled (x .args .k)) (ap (λ (t : List ℕ). getD t i 0) filled ∙ overlaid-rest i f l i (omega arith)) in
+    ∙ ap (relabelled (start .args .k)) (ap (λ (t : List ℕ). getD t i 0) filled ∙ overlaid-rest i f l i (omega arith)) in
     (omega arith, ap (λ (t : List ℕ). set t i (c .exchanged-label .result)) filled ∙ ap (set (tab i f ++ drop i l) i) label ∙ tab-more i f l (omega arith))
 
 returns : tie.Need-returns Inv-loop μ-loop
 returns c =
-    let x = c .before .before .before in
-    let l = x .args .self .axes in
-    let i = c .before .loop .i in
-    let axes : length l ≡ 4 = held l (x .good .0 .1 .1 .0 .1 .0 .1) in
-    let f : ℕ → ℕ = λ j. relabelled (x .args .k) (getD l j 0) in
+    let at-loop : tie.At-loop Inv-loop μ-loop = search in
+    let start : tie.Start Inv-loop μ-loop = search in
+    let l = start .args .self .axes in
+    let i = at-loop .loop .i in
+    let axes : length l ≡ 4 = held l (start .good .0 .1 .1 .0 .1 .0 .1) in
+    let f : ℕ → ℕ = λ j. relabelled (start .args .k) (getD l j 0) in
     let all : i ≡ length l = omega arith in
-    c .before .loop .inv .1
+    at-loop .loop .inv .1
     ∙ ap (λ (t : List ℕ). tab i f ++ t) (drop-end l i all)
     ∙ append-nil (tab i f)
     ∙ ap (λ (n : ℕ). tab n f) all
-    ∙ sym (map-tab (relabelled (x .args .k)) (length l) (λ j. getD l j 0))
-    ∙ ap (map (relabelled (x .args .k))) (tab-getD l)
+    ∙ sym (map-tab (relabelled (start .args .k)) (length l) (λ j. getD l j 0))
+    ∙ ap (map (relabelled (start .args .k))) (tab-getD l)
 
 pub relabel-spec : {M : Type 1} → statement M
 relabel-spec =

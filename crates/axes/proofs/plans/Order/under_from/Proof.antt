@@ -36,22 +36,24 @@ loop-less c = search needs
 
 loop-again : tie.Need-loop-again Inv-loop μ-loop
 loop-again c =
-    let x = c .before .before .before .before in
-    let l = x .args .t1 .axes in
-    let k = c .before .before .before .loop .k in
-    let axes : length l ≡ 4 = held l (x .good .0 .1 .1 .0 .1 .0 .1) in
+    let at-loop : tie.At-loop Inv-loop μ-loop = search in
+    let start : tie.Start Inv-loop μ-loop = search in
+    let l = start .args .t1 .axes in
+    let k = at-loop .loop .k in
+    let axes : length l ≡ 4 = held l (start .good .0 .1 .1 .0 .1 .0 .1) in
     ⊎-elim
-    (λ w. (omega arith, omega arith, omega arith, omega (arith, under-here l k (omega arith) (x .args .axis) (w .0 .taken))))
-    (λ w. (omega arith, omega arith, omega arith, omega (arith, under-past l k (omega arith) (x .args .axis) (w .0 .left))))
+    (λ w. (omega arith, omega arith, omega arith, omega (arith, under-here l k (omega arith) (start .args .axis) (w .0 .taken))))
+    (λ w. (omega arith, omega arith, omega arith, omega (arith, under-past l k (omega arith) (start .args .axis) (w .0 .left))))
     (c .if1 .came)
 
 returns : tie.Need-returns Inv-loop μ-loop
 returns c =
-    let x = c .before .before in
-    let l = x .args .t1 .axes in
-    let axes : length l ≡ 4 = held l (x .good .0 .1 .1 .0 .1 .0 .1) in
-    let none : under (x .args .axis) (drop (c .before .loop .k) l) ≡ 0 =
-    ap (under (x .args .axis)) (drop-end l (c .before .loop .k) (omega arith)) ∙ unfold under in refl in
+    let at-loop : tie.At-loop Inv-loop μ-loop = search in
+    let start : tie.Start Inv-loop μ-loop = search in
+    let l = start .args .t1 .axes in
+    let axes : length l ≡ 4 = held l (start .good .0 .1 .1 .0 .1 .0 .1) in
+    let none : under (start .args .axis) (drop (at-loop .loop .k) l) ≡ 0 =
+    ap (under (start .args .axis)) (drop-end l (at-loop .loop .k) (omega arith)) ∙ unfold under in refl in
     omega arith
 
 pub under-from-spec : {M : Type 1} → statement M
