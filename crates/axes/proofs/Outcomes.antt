@@ -10,7 +10,6 @@ use Rattle.layout.specs.Layout.{Laid}
 use Rattle.orders.specs.Numbers.{orderOf}
 use Rattle.orders.proofs.Layouts.{chain-once}
 use Rattle.orders.proofs.Numbers.{order-named}
-use Rattle.orders.proofs.FourAxes.{orders-4}
 use Rattle.refusals.specs.FirstOf.{Check, firstOf}
 use Rattle.refusals.specs.Promise.{Rearranged}
 use Rattle.axes.specs.declared.Answer.{Answer}
@@ -50,7 +49,7 @@ module _ {ds chain xs ss : List ℕ} (axes : length ds ≡ 4) {r r′ : Answer} 
 
 once : {ds xs ys zs : List ℕ} (order : ℕ) → length ds ≡ 4 → order < 24 → Laid ds (orderOf 4 order) xs ys → Laid ds (orderOf 4 order) xs zs → ys ≡ zs
 once {ds} {xs} {ys} {zs} order axes h f g =
-    let (c, e) = order-named 4 order (rw orders-4 h) in
+    let (c, e) = order-named 4 order h in
     chain-once ds axes c (subst (λ (o : List ℕ). Laid ds o xs ys) (sym e) f) (subst (λ (o : List ℕ). Laid ds o xs zs) (sym e) g)
 
 module _ {ds : List ℕ} {order : ℕ} {xs ss : List ℕ} (axes : length ds ≡ 4) {r r′ : Answer} {ys ys′ ts ts′ : List ℕ} where

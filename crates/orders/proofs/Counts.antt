@@ -2,7 +2,7 @@
 -- chain names each label below r stands once, and of two labels exactly one stands before the other.
 use mathlib.Core.Bool.{cond}
 use mathlib.Core.Path.{_≡_, refl, sym, ap, _∙_}
-use mathlib.Core.List.{List, [], _∷_, map}
+use mathlib.Core.List.{List, [], _∷_, _++_, map}
 use Prim.Native.Nat.{ℕ, zero, suc, _+_, _*_, _<_, _≤_}
 use native.Mathlib.Nat.{not-suc-le-zero, le-of-suc-le-suc, mul-comm, mul-add, add-mul, mul-zero, zero-mul}
 use mathlib.Core.Logic.{⊎-elim}
@@ -75,6 +75,25 @@ count-upto zero (suc n) h =
 count-upto (suc a) (suc n) h =
     ap (count (suc a)) (upto-more n)
     ∙ omega (arith, equal-none 0 (suc a) (λ e. omega arith), count-map-suc a (upto n), count-upto a n (le-of-suc-le-suc h))
+
+-- no number stands twice among those below n
+pub count-upto-few : (a n : ℕ) → count a (upto n) ≤ 1
+unfolding count
+count-upto-few a zero = omega arith
+count-upto-few zero (suc n) = omega (arith, ap (count 0) (upto-more n), equal-one 0 0 refl, count-zero-suc (upto n))
+count-upto-few (suc a) (suc n) =
+    omega (
+      arith,
+      ap (count (suc a)) (upto-more n),
+      equal-none 0 (suc a) (λ e. omega arith),
+      count-map-suc a (upto n),
+      count-upto-few a n,
+    )
+
+pub count-append : (a : ℕ) (l m : List ℕ) → count a (l ++ m) ≡ count a l + count a m
+unfolding count
+count-append a [] m = omega arith
+count-append a (x ∷ l) m = omega (arith, count-append a l m)
 
 -- each label below r stands once in an order that a chain names
 pub count-named : (r a : ℕ) (c : List ℕ) → a < r → count a (named r c) ≡ 1

@@ -3,6 +3,7 @@ pub mod Swaps
 pub mod Chains
 pub mod Layouts
 pub mod Listed
+pub mod Distinct
 pub mod Numbers
 pub mod Relabels
 pub mod Counts

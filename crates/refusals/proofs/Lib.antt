@@ -2,3 +2,4 @@ pub mod FirstOf
 pub mod Promise
 pub mod Conditions
 pub mod Calls
+pub mod Scratch
