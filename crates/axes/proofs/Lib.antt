@@ -1,11 +1,10 @@
 pub mod Rows
 pub mod Front
-pub mod Ranges
 pub mod Swaps
 pub mod Grouped
 pub mod Checks
 pub mod Steps
 pub mod Progress
 pub mod Calls
-pub mod Outcomes
+pub mod OneOutcome
 pub mod Demands

@@ -1,15 +1,16 @@
--- The list of orders: how many there are, and that no two are the same. What is listed begins with one of the axes left, and what begins
+-- The list of orders: how many there are, which is the first, and that no two are the same. What is listed begins with one of the axes left, and what begins
 -- with the same axis differs in the rest, since no axis is left twice. By induction on how many axes are taken.
 use mathlib.Core.Path.{_≡_, refl, sym, ap, subst, _∙_}
 use mathlib.Core.List.{List, [], _∷_, _++_, map, List·Memᴰ, List·Memᴰ·not-nil, List·Memᴰ·append-cases, Memᴰ·of-map}
 use mathlib.Core.List.List·Memᴰ.{List·Memᴰ·head, List·Memᴰ·tail}
 use mathlib.Core.Logic.{⊎-elim}
 use Prim.Native.Nat.{ℕ, zero, suc, _+_, _*_, _<_, _≤_}
+use native.Mathlib.Nat.{mul-pos}
 use native.Mathlib.Omega.{arith}
-use lib.ListN.{length, length-append, length-map}
+use lib.ListN.{length, getD, length-append, length-map}
 use Rattle.lists.specs.Tab.{upto}
 use Rattle.lists.proofs.Tab.{length-tab}
-use Rattle.orders.specs.Numbers.{arrangements, orders, orderCount}
+use Rattle.orders.specs.Numbers.{arrangements, orders, orderCount, orderOf}
 use Rattle.orders.proofs.Counts.{equal, equal-one, count, count-append, count-upto-few}
 use Rattle.orders.proofs.Listed.{Taken, Begun, begun}
 use Rattle.orders.proofs.Listed.Taken.{here, past}
@@ -91,3 +92,26 @@ all-count (suc n) l e = begun-count n (all-count n) [] l (omega arith) ∙ ap (�
 pub count-orders : (r : ℕ) → length (orders r) ≡ orderCount r
 unfolding orders
 count-orders r = all-count r (upto r) (length-tab r (λ k. k))
+
+-- there is an order
+pub count-pos : (r : ℕ) → 0 < orderCount r
+count-pos zero = omega arith
+count-pos (suc r) = mul-pos (omega arith) (count-pos r)
+
+first-listed : (n : ℕ) (l : List ℕ) → length l ≡ n → getD (arrangements n [] l) 0 [] ≡ l
+unfolding arrangements
+first-listed zero [] e = refl
+first-listed zero (a ∷ l) e = absurd (omega arith)
+first-listed (suc n) [] e = absurd (omega arith)
+first-listed (suc n) (a ∷ l) e =
+    let here : 0 < length (arrangements n [] l) = omega (arith, all-count n l (omega arith), count-pos n) in
+    begins (arrangements n [] l) here (first-listed n l (omega arith))
+  where
+    begins : (os : List (List ℕ)) → 0 < length os → getD os 0 [] ≡ l → getD (map (λ o. a ∷ o) os ++ arrangements (suc n) (a ∷ []) l) 0 [] ≡ a ∷ l
+    begins [] h f = absurd (omega arith)
+    begins (o ∷ os) h f = ap (λ (m : List ℕ). a ∷ m) f
+
+-- order 0 is 0, 1, .., r - 1
+pub first-order : (r : ℕ) → orderOf r 0 ≡ upto r
+unfolding orderOf orders
+first-order r = first-listed r (upto r) (length-tab r (λ k. k))

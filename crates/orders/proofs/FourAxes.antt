@@ -31,4 +31,4 @@ module _ (k : ℕ) (h : k < 24) where
   plan-is-4 = plan-of-number 4 k h
 
   pub plan-below-4 : Below 3 (planOf (orderOf 4 k))
-  plan-below-4 = plan-of-number-below 3 k h
+  plan-below-4 = plan-of-number-below 4 k h

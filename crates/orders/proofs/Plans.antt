@@ -1,7 +1,7 @@
 -- The computed plan of an order that a chain names is its plan. Its first swap takes one falling pair away, so that the plan is
 -- as long as there are falling pairs and no chain is shorter; a shortest chain begins with a label whose follower stands before it,
 -- and the plan begins with the least such label. By induction on the count of falling pairs.
-use mathlib.Core.Path.{_≡_, refl, sym, ap, _∙_, subst}
+use mathlib.Core.Path.{_≡_, refl, sym, ap, _∙_, subst, subst₂}
 use mathlib.Core.List.{List, [], _∷_, map}
 use mathlib.Core.Bool.{Bool, true, false, cond}
 use mathlib.Core.Logic.{_⊎_, inl, inr, ⊎-elim}
@@ -239,5 +239,12 @@ module _ (r k : ℕ) (h : k < orderCount r) where
   pub plan-places : length (planOf (orderOf r k)) ≤ planPlaces r
   plan-places = rw (length-plan (orderOf r k)) falling-places
 
-pub plan-of-number-below : (m k : ℕ) → k < orderCount (suc m) → Below m (planOf (orderOf (suc m) k))
-plan-of-number-below m k h = let (c, e) = order-named (suc m) k h in subst (λ (o : List ℕ). Below m (planOf o)) e (plan-below m c)
+none-below : {n : ℕ} (l : List ℕ) → length l ≤ 0 → Below n l
+none-below [] h = empty
+none-below (a ∷ l) h = absurd (not-suc-le-zero h)
+
+pub plan-of-number-below : (r k : ℕ) → k < orderCount r → Below (r - 1) (planOf (orderOf r k))
+plan-of-number-below zero k h = none-below (planOf (orderOf 0 k)) (plan-places 0 k h)
+plan-of-number-below (suc m) k h =
+    let (c, e) = order-named (suc m) k h in
+    subst₂ (λ (n : ℕ) (o : List ℕ). Below n (planOf o)) (omega arith) e (plan-below m c)
