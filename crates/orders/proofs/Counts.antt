@@ -117,11 +117,11 @@ pairs-both a b [] p = refl
 pairs-both a b (x ∷ l) p =
     products (equal x a) (equal x b) (count a l) (count b l) (pairs a b l) (pairs b a l) (equal-apart x a b p) (pairs-both a b l p)
 
-place-here : (a x : ℕ) (l : List ℕ) → x ≡ a → placeOf a (x ∷ l) ≡ 0
+pub place-here : (a x : ℕ) (l : List ℕ) → x ≡ a → placeOf a (x ∷ l) ≡ 0
 unfolding placeOf
 place-here a x l e = rw (eq-eqb a x (sym e))
 
-place-past : (a x : ℕ) (l : List ℕ) → (x ≡ a → ⊥) → placeOf a (x ∷ l) ≡ suc (placeOf a l)
+pub place-past : (a x : ℕ) (l : List ℕ) → (x ≡ a → ⊥) → placeOf a (x ∷ l) ≡ suc (placeOf a l)
 unfolding placeOf
 place-past a x l p = rw (ne-eqb a x (λ e. p (sym e)))
 

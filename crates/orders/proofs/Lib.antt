@@ -10,4 +10,3 @@ pub mod Counts
 pub mod Falling
 pub mod Rising
 pub mod Plans
-pub mod FourAxes

@@ -29,11 +29,11 @@ use Rattle.orders.proofs.Rising.{rising}
 abbrev Back : ℕ → List ℕ → Type 0
 Back k o = placeOf (suc k) o < placeOf k o
 
-back-here : (n k : ℕ) (o : List ℕ) → Back k o → firstBack (suc n) k o ≡ k
+pub back-here : (n k : ℕ) (o : List ℕ) → Back k o → firstBack (suc n) k o ≡ k
 unfolding firstBack
 back-here n k o b = rw (lt-ltb (placeOf (suc k) o) (placeOf k o) b)
 
-back-past : (n k : ℕ) (o : List ℕ) → placeOf k o ≤ placeOf (suc k) o → firstBack (suc n) k o ≡ firstBack n (suc k) o
+pub back-past : (n k : ℕ) (o : List ℕ) → placeOf k o ≤ placeOf (suc k) o → firstBack (suc n) k o ≡ firstBack n (suc k) o
 unfolding firstBack
 back-past n k o b = rw (le-ltb (placeOf (suc k) o) (placeOf k o) b)
 
@@ -163,7 +163,7 @@ module _ (r : ℕ) where
       (planned-sooner n (k ∷ c) d (left n c h s) (b .2 ∙ ap (λ (m : ℕ). named r (m ∷ c)) (sym q)) (omega arith)))))
       (lt-or-ge k j)
 
-length-planned : (n : ℕ) (o : List ℕ) → length (planned n o) ≡ n
+pub length-planned : (n : ℕ) (o : List ℕ) → length (planned n o) ≡ n
 unfolding planned
 length-planned zero o = refl
 length-planned (suc n) o = ap suc (length-planned n (map (relabelled (start o)) o))
@@ -211,7 +211,7 @@ unfolding planOf
 plan-below m c = planned-below m (falling (named (suc m) c)) c refl
 
 -- no order has more falling pairs than pairs of places
-under-few : (a : ℕ) (l : List ℕ) → under a l ≤ length l
+pub under-few : (a : ℕ) (l : List ℕ) → under a l ≤ length l
 unfolding under
 under-few a [] = zero-le
 under-few a (x ∷ l) = go (ltb x a) (under-few a l)

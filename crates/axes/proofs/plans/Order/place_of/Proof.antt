@@ -1,11 +1,12 @@
 -- `axes::plans::Order::place_of` meets its contract. The loop's invariant: the axis stands at no place passed.
-use mathlib.Core.Path.{_≡_, refl, ap, _∙_}
+use mathlib.Core.Path.{_≡_, refl}
 use Prim.Native.Nat.{_+_, _≤_, _-_}
 use native.Mathlib.Omega.{arith}
 use lib.ListN.{drop, length}
-use Rattle.layout.specs.Layout.{placeOf}
-use Rattle.axes.proofs.Front.{held, place-here, place-past, drop-end}
 use borrow.Author.Needs.{needs}
+use Rattle.lists.proofs.Front.{drop-end}
+use Rattle.layout.specs.Layout.{placeOf}
+use Rattle.axes.proofs.PlanSteps.{place-found, place-later}
 use Rattle.axes.proofs.plans.Order.place_of.Statement.{statement}
 use Rattle.axes.proofs.plans.Order.place_of.Tie as tie
 
@@ -15,47 +16,30 @@ Inv-loop axis self k₀ k = (k ≤ 4) × (placeOf axis (self .axes) ≡ k + plac
 abbrev μ-loop : tie.MeasureT-loop
 μ-loop axis self k₀ k = 4 - k
 
-loop-holds : tie.Need-loop-holds Inv-loop μ-loop
-loop-holds c = (omega arith, omega arith)
-
-mul-if1 : tie.Need-mul-if1 Inv-loop μ-loop
-mul-if1 c = search needs
-
-element-copy-out-if1 : tie.Need-element-copy-out-if1 Inv-loop μ-loop
-element-copy-out-if1 c = search needs
+axes : (x : tie.Start Inv-loop μ-loop) → length (x .args .t1 .axes) ≡ 4
+axes x = search needs
 
 returns : tie.Need-returns Inv-loop μ-loop
 returns c =
-    let at-loop : tie.At-loop Inv-loop μ-loop = search in
-    let start : tie.Start Inv-loop μ-loop = search in
-    let l = start .args .t1 .axes in
-    let k = at-loop .loop .k in
-    let axes : length l ≡ 4 = held l (start .good .0 .1 .1 .0 .1 .0 .1) in
-    omega (arith, place-here l k (omega arith) (start .args .axis) (c .if1 .taken))
-
-add-k : tie.Need-add-k Inv-loop μ-loop
-add-k c = search needs
-
-loop-less : tie.Need-loop-less Inv-loop μ-loop
-loop-less c = search needs
+    let l : tie.At-loop Inv-loop μ-loop = search in
+    let x : tie.Start Inv-loop μ-loop = search in
+    let four = axes x in
+    omega (arith, place-found (x .args .t1 .axes) (l .loop .k) (omega arith) (x .args .axis) (c .if1 .taken))
 
 loop-again : tie.Need-loop-again Inv-loop μ-loop
 loop-again c =
-    let at-loop : tie.At-loop Inv-loop μ-loop = search in
-    let start : tie.Start Inv-loop μ-loop = search in
-    let l = start .args .t1 .axes in
-    let k = at-loop .loop .k in
-    let axes : length l ≡ 4 = held l (start .good .0 .1 .1 .0 .1 .0 .1) in
-    (omega arith, omega (arith, place-past l k (omega arith) (start .args .axis) (c .if1 .left)))
+    let l : tie.At-loop Inv-loop μ-loop = search in
+    let x : tie.Start Inv-loop μ-loop = search in
+    let four = axes x in
+    (omega arith, omega (arith, place-later (x .args .t1 .axes) (l .loop .k) (omega arith) (x .args .axis) (c .if1 .left)))
 
 returns-2 : tie.Need-returns-2 Inv-loop μ-loop
+unfolding placeOf
 returns-2 c =
-    let at-loop : tie.At-loop Inv-loop μ-loop = search in
-    let start : tie.Start Inv-loop μ-loop = search in
-    let l = start .args .t1 .axes in
-    let axes : length l ≡ 4 = held l (start .good .0 .1 .1 .0 .1 .0 .1) in
-    let none : placeOf (start .args .axis) (drop (at-loop .loop .k) l) ≡ 0 =
-    ap (placeOf (start .args .axis)) (drop-end l (at-loop .loop .k) (omega arith)) ∙ unfold placeOf in refl in
+    let l : tie.At-loop Inv-loop μ-loop = search in
+    let x : tie.Start Inv-loop μ-loop = search in
+    let four = axes x in
+    let none : placeOf (x .args .axis) (drop (l .loop .k) (x .args .t1 .axes)) ≡ 0 = rw (drop-end (x .args .t1 .axes) (l .loop .k) (omega arith)) in
     omega arith
 
 pub place-of-spec : {M : Type 1} → statement M
@@ -64,11 +48,11 @@ place-of-spec =
     (tie.spec
     Inv-loop
     μ-loop
-    loop-holds
-    mul-if1
-    element-copy-out-if1
+    (search needs)
+    (search needs)
+    (search needs)
     returns
-    add-k
-    loop-less
+    (search needs)
+    (search needs)
     loop-again
     returns-2)

@@ -1,12 +1,13 @@
 -- `axes::plans::Order::under_from` meets its contract. The loop's invariant: the count so far and the count of the rest give the count.
-use mathlib.Core.Path.{_≡_, refl, ap, _∙_}
+use mathlib.Core.Path.{_≡_, refl}
 use mathlib.Core.Logic.{⊎-elim}
 use Prim.Native.Nat.{_+_, _≤_, _-_}
 use native.Mathlib.Omega.{arith}
 use lib.ListN.{drop, length}
-use Rattle.orders.specs.Plans.{under}
-use Rattle.axes.proofs.Front.{held, under-here, under-past, drop-end}
 use borrow.Author.Needs.{needs}
+use Rattle.lists.proofs.Front.{drop-end}
+use Rattle.orders.specs.Plans.{under}
+use Rattle.axes.proofs.PlanSteps.{under-one, under-none}
 use Rattle.axes.proofs.plans.Order.under_from.Statement.{statement}
 use Rattle.axes.proofs.plans.Order.under_from.Tie as tie
 
@@ -16,44 +17,26 @@ Inv-loop axis start self count₀ k₀ count k = (start ≤ k) × (k ≤ 4) × (
 abbrev μ-loop : tie.MeasureT-loop
 μ-loop axis start self count₀ k₀ count k = 4 - k
 
-loop-holds : tie.Need-loop-holds Inv-loop μ-loop
-loop-holds c = (omega arith, omega arith, omega arith, omega arith)
-
-mul-if1 : tie.Need-mul-if1 Inv-loop μ-loop
-mul-if1 c = search needs
-
-element-copy-out-if1 : tie.Need-element-copy-out-if1 Inv-loop μ-loop
-element-copy-out-if1 c = search needs
-
-add-count : tie.Need-add-count Inv-loop μ-loop
-add-count c = search needs
-
-add-k : tie.Need-add-k Inv-loop μ-loop
-add-k c = search needs
-
-loop-less : tie.Need-loop-less Inv-loop μ-loop
-loop-less c = search needs
+axes : (x : tie.Start Inv-loop μ-loop) → length (x .args .t1 .axes) ≡ 4
+axes x = search needs
 
 loop-again : tie.Need-loop-again Inv-loop μ-loop
 loop-again c =
-    let at-loop : tie.At-loop Inv-loop μ-loop = search in
-    let start : tie.Start Inv-loop μ-loop = search in
-    let l = start .args .t1 .axes in
-    let k = at-loop .loop .k in
-    let axes : length l ≡ 4 = held l (start .good .0 .1 .1 .0 .1 .0 .1) in
+    let l : tie.At-loop Inv-loop μ-loop = search in
+    let x : tie.Start Inv-loop μ-loop = search in
+    let four = axes x in
     ⊎-elim
-    (λ w. (omega arith, omega arith, omega arith, omega (arith, under-here l k (omega arith) (start .args .axis) (w .0 .taken))))
-    (λ w. (omega arith, omega arith, omega arith, omega (arith, under-past l k (omega arith) (start .args .axis) (w .0 .left))))
+    (λ w. (omega arith, omega arith, omega arith, omega (arith, under-one (x .args .t1 .axes) (l .loop .k) (omega arith) (x .args .axis) (w .0 .taken))))
+    (λ w. (omega arith, omega arith, omega arith, omega (arith, under-none (x .args .t1 .axes) (l .loop .k) (omega arith) (x .args .axis) (w .0 .left))))
     (c .if1 .came)
 
 returns : tie.Need-returns Inv-loop μ-loop
+unfolding under
 returns c =
-    let at-loop : tie.At-loop Inv-loop μ-loop = search in
-    let start : tie.Start Inv-loop μ-loop = search in
-    let l = start .args .t1 .axes in
-    let axes : length l ≡ 4 = held l (start .good .0 .1 .1 .0 .1 .0 .1) in
-    let none : under (start .args .axis) (drop (at-loop .loop .k) l) ≡ 0 =
-    ap (under (start .args .axis)) (drop-end l (at-loop .loop .k) (omega arith)) ∙ unfold under in refl in
+    let l : tie.At-loop Inv-loop μ-loop = search in
+    let x : tie.Start Inv-loop μ-loop = search in
+    let four = axes x in
+    let none : under (x .args .axis) (drop (l .loop .k) (x .args .t1 .axes)) ≡ 0 = rw (drop-end (x .args .t1 .axes) (l .loop .k) (omega arith)) in
     omega arith
 
 pub under-from-spec : {M : Type 1} → statement M
@@ -62,11 +45,11 @@ under-from-spec =
     (tie.spec
     Inv-loop
     μ-loop
-    loop-holds
-    mul-if1
-    element-copy-out-if1
-    add-count
-    add-k
-    loop-less
+    (search needs)
+    (search needs)
+    (search needs)
+    (search needs)
+    (search needs)
+    (search needs)
     loop-again
     returns)
