@@ -1,5 +1,5 @@
 pub mod Filling
-pub mod Held
+pub mod Lifted
 pub mod Family
 pub mod Ran
 pub mod Strided

@@ -10,25 +10,53 @@ returns : tie.Need-returns
 returns c = simp (eq-eqb _ _ (c .if1 .taken))
 
 returns-2 : tie.Need-returns-2
-returns-2 c = simp (ne-eqb _ _ (c .before .if1 .left), lt-ltb _ _ (c .if2 .taken))
+returns-2 c =
+    let else1 : tie.Else1 = search in
+    simp (ne-eqb _ _ (else1 .if1 .left), lt-ltb _ _ (c .if2 .taken))
 
 returns-3 : tie.Need-returns-3
-returns-3 c = simp (ne-eqb _ _ (c .before .before .if1 .left), le-ltb _ _ (c .before .if2 .left), eq-eqb _ _ (c .if3 .taken))
+returns-3 c =
+    let else2 : tie.Else2 = search in
+    let else1 : tie.Else1 = search in
+    simp (ne-eqb _ _ (else1 .if1 .left), le-ltb _ _ (else2 .if2 .left), eq-eqb _ _ (c .if3 .taken))
 
 returns-4 : tie.Need-returns-4
-returns-4 c = simp (ne-eqb _ _ (c .before .before .before .if1 .left), le-ltb _ _ (c .before .before .if2 .left), ne-eqb _ _ (c .before .if3 .left), lt-ltb _ _ (c .if4 .taken))
+returns-4 c =
+    let else3 : tie.Else3 = search in
+    let else2 : tie.Else2 = search in
+    let else1 : tie.Else1 = search in
+    simp (ne-eqb _ _ (else1 .if1 .left), le-ltb _ _ (else2 .if2 .left), ne-eqb _ _ (else3 .if3 .left), lt-ltb _ _ (c .if4 .taken))
 
 mul-words : tie.Need-mul-words
-mul-words c = omega (arith, mul-le-mul (c .before .before .if2 .left) (c .if4 .left))
+mul-words c =
+    let else2 : tie.Else2 = search in
+    omega (arith, mul-le-mul (else2 .if2 .left) (c .if4 .left))
 
 returns-5 : tie.Need-returns-5
-returns-5 c = simp (volume-two, ne-eqb _ _ (c .before .before .before .before .if1 .left), le-ltb _ _ (c .before .before .before .if2 .left), ne-eqb _ _ (c .before .before .if3 .left), le-ltb _ _ (c .before .if4 .left), lt-ltb _ _ (c .if5 .taken))
+returns-5 c =
+    let else4 : tie.Else4 = search in
+    let else3 : tie.Else3 = search in
+    let else2 : tie.Else2 = search in
+    let else1 : tie.Else1 = search in
+    simp (volume-two, ne-eqb _ _ (else1 .if1 .left), le-ltb _ _ (else2 .if2 .left), ne-eqb _ _ (else3 .if3 .left), le-ltb _ _ (else4 .if4 .left), lt-ltb _ _ (c .if5 .taken))
 
 returns-6 : tie.Need-returns-6
-returns-6 c = simp (volume-two, ne-eqb _ _ (c .before .before .before .before .before .if1 .left), le-ltb _ _ (c .before .before .before .before .if2 .left), ne-eqb _ _ (c .before .before .before .if3 .left), le-ltb _ _ (c .before .before .if4 .left), le-ltb _ _ (c .before .if5 .left), lt-ltb _ _ (c .if6 .taken))
+returns-6 c =
+    let else5 : tie.Else5 = search in
+    let else4 : tie.Else4 = search in
+    let else3 : tie.Else3 = search in
+    let else2 : tie.Else2 = search in
+    let else1 : tie.Else1 = search in
+    simp (volume-two, ne-eqb _ _ (else1 .if1 .left), le-ltb _ _ (else2 .if2 .left), ne-eqb _ _ (else3 .if3 .left), le-ltb _ _ (else4 .if4 .left), le-ltb _ _ (else5 .if5 .left), lt-ltb _ _ (c .if6 .taken))
 
 returns-7 : tie.Need-returns-7
-returns-7 c = simp (volume-two, ne-eqb _ _ (c .before .before .before .before .before .if1 .left), le-ltb _ _ (c .before .before .before .before .if2 .left), ne-eqb _ _ (c .before .before .before .if3 .left), le-ltb _ _ (c .before .before .if4 .left), le-ltb _ _ (c .before .if5 .left), le-ltb _ _ (c .if6 .left))
+returns-7 c =
+    let else5 : tie.Else5 = search in
+    let else4 : tie.Else4 = search in
+    let else3 : tie.Else3 = search in
+    let else2 : tie.Else2 = search in
+    let else1 : tie.Else1 = search in
+    simp (volume-two, ne-eqb _ _ (else1 .if1 .left), le-ltb _ _ (else2 .if2 .left), ne-eqb _ _ (else3 .if3 .left), le-ltb _ _ (else4 .if4 .left), le-ltb _ _ (else5 .if5 .left), le-ltb _ _ (c .if6 .left))
 
 pub number-spec : {M : Type 1} → statement M
 number-spec =

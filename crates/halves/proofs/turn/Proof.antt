@@ -23,54 +23,62 @@ fits : (x : lts.Else1 (number-reads.Asked, number-reads.Learnt, tall-reads.Asked
     → Accepted (x .before .before .before .before .args .m) (x .before .before .before .before .args .n) (x .before .before .before .before .args .buf .now)
 fits x = let y = x .before .before .before .before .args in accepted (y .m) (y .n) (y .buf .now) (sym (silent x))
 
-number-requires : tie.Need-number-requires
-number-requires c κs = search needs
-
-same-length : tie.Need-same-length
-same-length c = search needs
-
 returns : tie.Need-returns
-returns c = record { number = c .before .number .ensures; words = λ e. absurd (omega arith); kept = λ e. refl }
+returns c =
+    let after-number : tie.After-number = search in
+    record { number = after-number .number .ensures; words = λ e. absurd (omega arith); kept = λ e. refl }
 
 mul-words : tie.Need-mul-words
 mul-words c = omega (arith, fits c)
 
 slice-relend-prefix-tall : tie.Need-slice-relend-prefix-tall
-slice-relend-prefix-tall c = fits (c .before) .room
+slice-relend-prefix-tall c =
+    let else1 : tie.Else1 = search in
+    fits (else1) .room
 
 slice-aggregate-tall : tie.Need-slice-aggregate-tall
-slice-aggregate-tall c = front-long (fits (c .before .before))
+slice-aggregate-tall c =
+    let else1 : tie.Else1 = search in
+    front-long (fits (else1))
 
 tall-requires : tie.Need-tall-requires
-tall-requires c κs = (front-block (fits (c .before .before)), omega arith)
+tall-requires c κs =
+    let else1 : tie.Else1 = search in
+    (front-block (fits (else1)), omega arith)
 
 slice-relend-prefix-wide : tie.Need-slice-relend-prefix-wide
-slice-relend-prefix-wide c = fits (c .before) .room
+slice-relend-prefix-wide c =
+    let else1 : tie.Else1 = search in
+    fits (else1) .room
 
 slice-aggregate-wide : tie.Need-slice-aggregate-wide
-slice-aggregate-wide c = front-long (fits (c .before .before))
+slice-aggregate-wide c =
+    let else1 : tie.Else1 = search in
+    front-long (fits (else1))
 
 wide-requires : tie.Need-wide-requires
-wide-requires c κs = (front-block (fits (c .before .before)), omega arith)
-
-same-length-2 : tie.Need-same-length-2
-same-length-2 c = search needs
+wide-requires c κs =
+    let else1 : tie.Else1 = search in
+    (front-block (fits (else1)), omega arith)
 
 returns-2 : tie.Need-returns-2
-returns-2 c = record { number = silent (c .before .before .before .before .before); words = λ e. front-turned (fits (c .before .before .before .before .before)) (c .before .before .tall .ensures); kept = λ e. absurd (e refl) }
-
-same-length-3 : tie.Need-same-length-3
-same-length-3 c = search needs
+returns-2 c =
+    let after-tall : tie.After-tall = search in
+    let else1 : tie.Else1 = search in
+    record { number = silent (else1); words = λ e. front-turned (fits (else1)) (after-tall .tall .ensures); kept = λ e. absurd (e refl) }
 
 returns-3 : tie.Need-returns-3
-returns-3 c = record { number = silent (c .before .before .before .before .before); words = λ e. front-turned (fits (c .before .before .before .before .before)) (c .before .before .wide .ensures); kept = λ e. absurd (e refl) }
+returns-3 c =
+    let after-wide : tie.After-wide = search in
+    let else1 : tie.Else1 = search in
+    record { number = silent (else1); words = λ e. front-turned (fits (else1)) (after-wide .wide .ensures); kept = λ e. absurd (e refl) }
 
 pub turn-spec : {M : Type 1} → statement M
 turn-spec =
     tie.close
     (tie.spec
-    number-requires
-    same-length
+    (search needs)
+    (search needs)
     returns
     mul-words
     slice-relend-prefix-tall
@@ -79,7 +87,7 @@ turn-spec =
     slice-relend-prefix-wide
     slice-aggregate-wide
     wide-requires
-    same-length-2
+    (search needs)
     returns-2
-    same-length-3
+    (search needs)
     returns-3)

@@ -13,28 +13,26 @@ abbrev μ-loop : tie.MeasureT-loop
 μ-loop s₀ n i₀ s i = n - i
 
 loop-holds : tie.Need-loop-holds Inv-loop μ-loop
-loop-holds c = (omega arith, done-none (c .before .args .n) (c .before .args .s .now))
+loop-holds c =
+    let start : tie.Start Inv-loop μ-loop = search in
+    (omega arith, done-none (start .args .n) (start .args .s .now))
 
 add-loop : tie.Need-add-loop Inv-loop μ-loop
-add-loop c = omega (arith, c .before .before .pre, side-few (c .before .before .args .n))
-
-cross-requires : tie.Need-cross-requires Inv-loop μ-loop
-cross-requires c κs = search needs
-
-add-i : tie.Need-add-i Inv-loop μ-loop
-add-i c = search needs
-
-loop-less : tie.Need-loop-less Inv-loop μ-loop
-loop-less c = search needs
+add-loop c =
+    let start : tie.Start Inv-loop μ-loop = search in
+    omega (arith, start .pre, side-few (start .args .n))
 
 loop-again : tie.Need-loop-again Inv-loop μ-loop
-loop-again c = (omega arith, done-more (omega arith) (c .before .before .before .before .before .loop .inv .1) (c .before .before .cross .ensures))
-
-same-length : tie.Need-same-length Inv-loop μ-loop
-same-length c = search needs
+loop-again c =
+    let after-cross : tie.After-cross Inv-loop μ-loop = search in
+    let at-loop : tie.At-loop Inv-loop μ-loop = search in
+    (omega arith, done-more (omega arith) (at-loop .loop .inv .1) (after-cross .cross .ensures))
 
 returns : tie.Need-returns Inv-loop μ-loop
-returns c = done-all (c .before .before .before .pre) (omega arith) (c .before .loop .inv .1)
+returns c =
+    let at-loop : tie.At-loop Inv-loop μ-loop = search in
+    let start : tie.Start Inv-loop μ-loop = search in
+    done-all (start .pre) (omega arith) (at-loop .loop .inv .1)
 
 pub square-spec : {M : Type 1} → statement M
 square-spec =
@@ -44,9 +42,9 @@ square-spec =
     μ-loop
     loop-holds
     add-loop
-    cross-requires
-    add-i
-    loop-less
+    (search needs)
+    (search needs)
+    (search needs)
     loop-again
-    same-length
+    (search needs)
     returns)
