@@ -27,7 +27,7 @@ use Rattle.axes.specs.declared.Answer.{Answer}
 use Rattle.axes.specs.declared.Planned.{Planned}
 use Rattle.axes.specs.Answers.{accepted, refused, refusedPlace}
 use Rattle.axes.specs.Promises.{ChainPromise, RequestPromise, PlanPromise}
-use Rattle.axes.proofs.Checks.{BlockAccepted, block-accepted, block-zero, block-few, by-first, by-last, four-checks, ChainAccepted, chain-zero, is-order}
+use Rattle.axes.proofs.Checks.{BlockAccepted, block-accepted, block-zero, block-few, by-four, by-last, ChainAccepted, chain-zero, is-order}
 
 -- a call that is refused and leaves the lent words as they were
 module _ (r : ℕ) {a : Answer} {number place : ℕ} (e : a ≡ refused r number place) (n : number ≡ 0 → ⊥) where
@@ -106,7 +106,7 @@ module _ {r order : ℕ} {q : Planned} (p : PlanPromise r order q) (z : q .numbe
       let c : ChainPromise r ds (planOf o) xs ss a ys ts = subst (λ (t : List ℕ). ChainPromise r ds t xs ss a ys ts) plan-swaps c′ in
       let zero-is : a .number ≡ 0 = c .block .number-is ∙ chain-zero (plan-runs b) in
       let names : named r (planOf o) ≡ o = plan-of-number r order (low-few .0) .names in
-      let asked : firstOf (requestChecks r ds xs ss order) ≡ 0 = by-last (four-checks ds xs ss) (planChecks r order) (sym (block-zero b)) refl ∙ sym (p .number-is) ∙ z in
+      let asked : firstOf (requestChecks r ds xs ss order) ≡ 0 = by-last ds xs ss (planChecks r order) (sym (block-zero b)) refl ∙ sym (p .number-is) ∙ z in
       record {
         block = record {
           number-is = zero-is ∙ sym asked;
@@ -131,10 +131,10 @@ module _ {r order : ℕ} {q : Planned} (p : PlanPromise r order q) (z : q .numbe
       (λ (n : firstOf (passesChecks ds xs ss) ≡ 0 → ⊥).
       let chain = take (q .len) (q .swaps) in
       let first : a .number ≡ firstOf (passesChecks ds xs ss) =
-      c .block .number-is ∙ sym (by-first (four-checks ds xs ss) (check 5 (longChain chain) ∷ check 6 (badSwap r chain) ∷ []) refl n) in
+      c .block .number-is ∙ sym (by-four ds xs ss (check 5 (longChain chain) ∷ check 6 (badSwap r chain) ∷ []) refl n) in
       let left : a .number ≡ 0 → ⊥ = λ e. n (sym first ∙ e) in
       let nowhere : refusedPlace r (a .number) chain ≡ 0 = rw (ne-eqb (a .number) 6 (λ e. omega (arith, first, block-few ds xs ss))) in
       let kept = c .block .kept left in
       rw (kept .0, kept .1)
-      (request-refused r (c .refusal left ∙ ap (refused r (a .number)) nowhere) left (by-first (four-checks ds xs ss) (planChecks r order) first left) refl))
+      (request-refused r (c .refusal left ∙ ap (refused r (a .number)) nowhere) left (by-four ds xs ss (planChecks r order) first left) refl))
       (eq-or-ne (firstOf (passesChecks ds xs ss)) 0)

@@ -5,7 +5,7 @@ use mathlib.Core.Bool.{Bool, true, false, cond, _||_}
 use mathlib.Core.List.{List, [], _∷_, _++_, reverse, reverse-cons}
 use Prim.Native.Nat.{ℕ, zero, suc, _-_, _<_, _≤_}
 use native.Mathlib.Omega.{arith}
-use lib.Dec.{ltb, lit<}
+use lib.Dec.{ltb}
 use lib.ListN.{length, getD, length-reverse}
 use borrow.Author.Tests.{ltb-false, le-ltb}
 use Rattle.orders.specs.Chains.{exchange, follow}
@@ -15,8 +15,8 @@ use Rattle.orders.proofs.Distinct.{count-pos}
 use Rattle.refusals.specs.FirstOf.{Check, firstOf}
 use Rattle.refusals.specs.Conditions.{some, outOfRange, badLength, tooManyWords, shortBuffer, shortScratch, longChain, noSwap, badSwap, noOrder}
 use Rattle.refusals.specs.Scratch.{need}
-use Rattle.refusals.specs.Calls.{blockChecks, passesChecks, chainChecks, requestChecks}
-use Rattle.refusals.proofs.FirstOf.{Refusing, Silent, zero-silent, silent-zero}
+use Rattle.refusals.specs.Calls.{passesChecks, chainChecks, requestChecks}
+use Rattle.refusals.proofs.FirstOf.{Silent, silent-zero, refused-first, accepted-so-far}
 use Rattle.refusals.proofs.FirstOf.Silent.{none, more}
 use Rattle.refusals.proofs.Calls.{passes-accepted, chain-accepted, request-accepted}
 use Rattle.refusals.proofs.Some.{none-at}
@@ -39,33 +39,13 @@ unfolding follow
 some-follow f l [] = refl
 some-follow f l (k ∷ c) = some-follow f (exchange k l) c ∙ some-exchange f k l
 
--- more checks after a list of checks: refused by one of the first, or decided by the last
-refused-first : (cs last : List Check) → (firstOf cs ≡ 0 → ⊥) → firstOf (cs ++ last) ≡ firstOf cs
-refused-first [] last n = absurd (n refl)
-refused-first (c ∷ cs) last n = go (c .holds) n (refused-first cs last)
-  where
-    go : (t : Bool) → (cond t (c .number) (firstOf cs) ≡ 0 → ⊥) → ((firstOf cs ≡ 0 → ⊥) → firstOf (cs ++ last) ≡ firstOf cs)
-        → cond t (c .number) (firstOf (cs ++ last)) ≡ cond t (c .number) (firstOf cs)
-    go true n ih = refl
-    go false n ih = ih n
+-- more checks after the four of a block: refused by one of the four, or decided by the last
+module _ (ds xs ss : List ℕ) (last : List Check) {n : ℕ} (e : n ≡ firstOf (passesChecks ds xs ss)) where
+  pub by-four : (n ≡ 0 → ⊥) → n ≡ firstOf (passesChecks ds xs ss ++ last)
+  by-four k = e ∙ sym (refused-first (passesChecks ds xs ss) last (λ z. k (e ∙ z)))
 
-accepted-so-far : {cs : List Check} (last : List Check) → Silent cs → firstOf (cs ++ last) ≡ firstOf last
-accepted-so-far last none = refl
-accepted-so-far last (more {c} {cs} h s) = rw h (accepted-so-far last s)
-
-module _ {cs : List Check} (f : Refusing cs) (last : List Check) {n : ℕ} (e : n ≡ firstOf cs) where
-  pub by-first : (n ≡ 0 → ⊥) → n ≡ firstOf (cs ++ last)
-  by-first k = e ∙ sym (refused-first cs last (λ z. k (e ∙ z)))
-
-  pub by-last : n ≡ 0 → firstOf (cs ++ last) ≡ firstOf last
-  by-last z = accepted-so-far last (zero-silent f (sym e ∙ z))
-
-module _ (ds xs : List ℕ) where
-  pub three-checks : Refusing (blockChecks ds xs)
-  three-checks = Refusing.more (lit< tt) (Refusing.more (lit< tt) (Refusing.more (lit< tt) Refusing.none))
-
-  pub four-checks : (ss : List ℕ) → Refusing (passesChecks ds xs ss)
-  four-checks ss = Refusing.more (lit< tt) (Refusing.more (lit< tt) (Refusing.more (lit< tt) (Refusing.more (lit< tt) Refusing.none)))
+  pub by-last : n ≡ 0 → firstOf (passesChecks ds xs ss ++ last) ≡ firstOf last
+  by-last z = accepted-so-far last (passes-accepted ds xs ss .0 (sym e ∙ z))
 
 -- none of the four conditions of a block holds
 pub record BlockAccepted (ds xs ss : List ℕ) : Type 0 where

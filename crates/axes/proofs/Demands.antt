@@ -30,7 +30,7 @@ use Rattle.refusals.proofs.Scratch.{need-follow, cleared-past}
 use Rattle.axes.specs.declared.Answer.{Answer}
 use Rattle.axes.specs.declared.Planned.{Planned}
 use Rattle.axes.specs.Promises.{ChainPromise, RequestPromise, PlanPromise}
-use Rattle.axes.proofs.Checks.{BlockAccepted, ChainAccepted, accepts-chain, block-room, block-through, block-zero, chain-zero, next-accepted, joined-accepted, back-accepted, by-last, four-checks}
+use Rattle.axes.proofs.Checks.{BlockAccepted, ChainAccepted, accepts-chain, block-room, block-through, block-zero, chain-zero, next-accepted, joined-accepted, back-accepted, by-last}
 use Rattle.axes.proofs.Calls.{request-of-chain}
 use Rattle.axes.proofs.OneOutcome.{request-once}
 
@@ -161,7 +161,7 @@ module _ {r : ℕ} {ds c xs ss ss′ : List ℕ} {a a′ : Answer} {ys ts zs us 
       let few : Silent (planChecks r (a .order)) =
       Silent.more (le-ltb (orderCount r - 1) (a .order) (omega (arith, low)))
       (Silent.more (le-ltb 6 (length (planOf (orderOf r (a .order)))) (omega (arith, plan-places r (a .order) low))) Silent.none) in
-      q .block .number-is ∙ by-last (four-checks ds xs ss′) (planChecks r (a .order)) (sym (block-zero block)) refl ∙ silent-zero few
+      q .block .number-is ∙ by-last ds xs ss′ (planChecks r (a .order)) (sym (block-zero block)) refl ∙ silent-zero few
 
   pub one-meaning : (a′ .number ≡ 0) × Alike a a′ ys zs
   one-meaning = (

@@ -6,7 +6,7 @@ use borrow.Author.Needs.{needs}
 use Rattle.lists.proofs.Via.{via}
 use Rattle.refusals.specs.FirstOf.{firstOf}
 use Rattle.refusals.specs.Calls.{passesChecks, planChecks}
-use Rattle.axes.proofs.Checks.{BlockAccepted, block-accepted, by-first, by-last, four-checks}
+use Rattle.axes.proofs.Checks.{BlockAccepted, block-accepted, by-four, by-last}
 use Rattle.axes.proofs.Calls.{request-refused, plan-holds, plan-count, plan-accepted, request-met}
 use Rattle.axes.proofs.request.Statement.{statement}
 use Rattle.axes.proofs.request.Tie as tie
@@ -25,7 +25,7 @@ returns c =
     let n : tie.After-passes-number = search in
     let x : tie.Start = search in
     request-refused 4 (c .refusal .ensures) (t .if1 .taken)
-    (by-first (four-checks (x .args .shape .lens) (x .args .buf .now) (x .args .scratch .now)) (planChecks 4 (x .args .order)) (n .passes-number .ensures) (t .if1 .taken))
+    (by-four (x .args .shape .lens) (x .args .buf .now) (x .args .scratch .now) (planChecks 4 (x .args .order)) (n .passes-number .ensures) (t .if1 .taken))
     refl
 
 returns-2 : tie.Need-returns-2
@@ -36,7 +36,7 @@ returns-2 c =
     let x : tie.Start = search in
     request-refused 4 (c .refusal2 .ensures) (t .if2 .taken)
     (p .plan .ensures .number-is
-    ∙ sym (by-last (four-checks (x .args .shape .lens) (x .args .buf .now) (x .args .scratch .now)) (planChecks 4 (x .args .order)) (n .passes-number .ensures) (search)))
+    ∙ sym (by-last (x .args .shape .lens) (x .args .buf .now) (x .args .scratch .now) (planChecks 4 (x .args .order)) (n .passes-number .ensures) (search)))
     refl
 
 array-share-prefix-swaps : tie.Need-array-share-prefix-swaps

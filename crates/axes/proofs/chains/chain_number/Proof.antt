@@ -10,7 +10,7 @@ use Rattle.refusals.specs.FirstOf.{Check, check, firstOf}
 use Rattle.refusals.specs.Conditions.{longChain, noSwap, badSwap}
 use Rattle.refusals.specs.Calls.{passesChecks, chainChecks}
 use Rattle.refusals.proofs.Some.{found-place, no-place}
-use Rattle.axes.proofs.Checks.{by-first, by-last, four-checks}
+use Rattle.axes.proofs.Checks.{by-four, by-last}
 use Rattle.axes.proofs.chains.chain_number.Statement.{statement}
 use Rattle.axes.proofs.chains.chain_number.Tie as tie
 
@@ -22,13 +22,13 @@ module _ (x : tie.Start) where
   -- where the first four find nothing they decide
   decided : {n : ℕ} → n ≡ firstOf (passesChecks (x .args .lens .now) (x .args .buf .now) (x .args .scratch .now)) → n ≡ 0
       → firstOf (chainChecks 4 (x .args .lens .now) (x .args .buf .now) (x .args .scratch .now) (x .args .swaps .now)) ≡ firstOf last
-  decided e z = by-last (four-checks (x .args .lens .now) (x .args .buf .now) (x .args .scratch .now)) last e z
+  decided e z = by-last (x .args .lens .now) (x .args .buf .now) (x .args .scratch .now) last e z
 
 returns : tie.Need-returns
 returns c =
     let n : tie.After-passes-number = search in
     let x : tie.Start = search in
-    by-first (four-checks (x .args .lens .now) (x .args .buf .now) (x .args .scratch .now)) (last x) (n .passes-number .ensures) (search)
+    by-four (x .args .lens .now) (x .args .buf .now) (x .args .scratch .now) (last x) (n .passes-number .ensures) (search)
 
 returns-2 : tie.Need-returns-2
 returns-2 c =
