@@ -20,29 +20,29 @@ use Rattle.orders.proofs.Counts.{place-here, place-past}
 use Rattle.orders.proofs.Plans.{under-few, back-here, back-past, length-planned}
 
 -- an axis is looked for: it stands at none of the first k places
-pub record Sought (r axis : ℕ) (o : List ℕ) (k : ℕ) : Type 0 where
+pub record PlaceSought (r axis : ℕ) (o : List ℕ) (k : ℕ) : Type 0 where
   pub long : length o ≡ r
   pub few : k ≤ r
   pub place : placeOf axis o ≡ k + placeOf axis (drop k o)
 
-pub seek : {r : ℕ} (axis : ℕ) {o : List ℕ} → length o ≡ r → Sought r axis o 0
-seek axis e = record { long = e; few = omega arith; place = omega arith }
+pub seek-place : {r : ℕ} (axis : ℕ) {o : List ℕ} → length o ≡ r → PlaceSought r axis o 0
+seek-place axis e = record { long = e; few = omega arith; place = omega arith }
 
-module _ {r axis : ℕ} {o : List ℕ} {k : ℕ} (s : Sought r axis o k) where
-  pub found : k < r → axis ≡ getD o k 0 → k ≡ placeOf axis o
-  found h e =
+module _ {r axis : ℕ} {o : List ℕ} {k : ℕ} (s : PlaceSought r axis o k) where
+  pub place-seen : k < r → axis ≡ getD o k 0 → k ≡ placeOf axis o
+  place-seen h e =
       let here : placeOf axis (drop k o) ≡ 0 = rw (drop-next o k (omega arith)) (place-here axis (getD o k 0) (drop (k + 1) o) (sym e)) in
       omega arith
 
-  pub not-found : k < r → (axis ≡ getD o k 0 → ⊥) → Sought r axis o (k + 1)
-  not-found h n =
+  pub place-next : k < r → (axis ≡ getD o k 0 → ⊥) → PlaceSought r axis o (k + 1)
+  place-next h n =
       let later : placeOf axis (drop k o) ≡ suc (placeOf axis (drop (k + 1) o)) =
       rw (drop-next o k (omega arith)) (place-past axis (getD o k 0) (drop (k + 1) o) (λ e. n (sym e))) in
       record { long = s .long; few = omega arith; place = omega arith }
 
-  pub nowhere : r ≤ k → r ≡ placeOf axis o
+  pub place-nowhere : r ≤ k → r ≡ placeOf axis o
   unfolding placeOf
-  nowhere h = let none : placeOf axis (drop k o) ≡ 0 = rw (drop-end o k (omega arith)) in omega arith
+  place-nowhere h = let none : placeOf axis (drop k o) ≡ 0 = rw (drop-end o k (omega arith)) in omega arith
 
 -- the axes below one are counted, from a place on
 pub record Counted (r axis start : ℕ) (o : List ℕ) (count k : ℕ) : Type 0 where
@@ -97,18 +97,18 @@ module _ {r : ℕ} {o : List ℕ} {count k : ℕ} (s : Paired r o count k) where
   all-paired h = let none : falling (drop k o) ≡ 0 = rw (drop-end o k (omega arith)) in omega arith
 
 -- the first axis whose follower stands before it is looked for: it is none of the first k
-pub record Back (r : ℕ) (o : List ℕ) (k : ℕ) : Type 0 where
+pub record BackSought (r : ℕ) (o : List ℕ) (k : ℕ) : Type 0 where
   pub few : k ≤ r
   pub first : firstBack r 0 o ≡ firstBack (r - k) k o
 
-module _ {r : ℕ} {o : List ℕ} {k : ℕ} (s : Back r o k) where
-  pub back-found : k < r → placeOf (k + 1) o < placeOf k o → k ≡ firstBack r 0 o
-  back-found h b =
+module _ {r : ℕ} {o : List ℕ} {k : ℕ} (s : BackSought r o k) where
+  pub back-seen : k < r → placeOf (k + 1) o < placeOf k o → k ≡ firstBack r 0 o
+  back-seen h b =
       let more : r - k ≡ suc (r - (k + 1)) = omega arith in
       sym (s .first ∙ rw more (back-here (r - (k + 1)) k o (rw (add-one k) at b)))
 
-  pub back-later : k < r → placeOf k o ≤ placeOf (k + 1) o → Back r o (k + 1)
-  back-later h b =
+  pub back-next : k < r → placeOf k o ≤ placeOf (k + 1) o → BackSought r o (k + 1)
+  back-next h b =
       let more : r - k ≡ suc (r - (k + 1)) = omega arith in
       record { few = omega arith; first = s .first ∙ rw more (back-past (r - (k + 1)) k o (rw (add-one k) at b) ∙ rw (add-one k)) }
 
@@ -163,13 +163,13 @@ module _ {r k : ℕ} {o now : List ℕ} {i : ℕ} (s : Labelled r k o now i) whe
       ∙ ap (map (relabelled k)) (tab-getD o)
 
 -- i of the n swaps of the plan of an order stand in the array, and the plan of the order as it is then labelled is the rest of them
-pub record Begun (r places n : ℕ) (o swaps rest : List ℕ) (i : ℕ) : Type 0 where
+pub record PlanBegun (r places n : ℕ) (o swaps rest : List ℕ) (i : ℕ) : Type 0 where
   pub few : i ≤ n
   pub long : length rest ≡ r
   pub filled : swaps ≡ tab i (λ j. getD (planned n o) j 0) ++ drop i (replicate places 0)
   pub left : planned (n - i) rest ≡ drop i (planned n o)
 
-pub begin-plan : {r : ℕ} (places n : ℕ) {o : List ℕ} → length o ≡ r → Begun r places n o (replicate places 0) o 0
+pub begin-plan : {r : ℕ} (places n : ℕ) {o : List ℕ} → length o ≡ r → PlanBegun r places n o (replicate places 0) o 0
 begin-plan places n {o} e = record { few = omega arith; long = e; filled = refl; left = ap (λ (m : ℕ). planned m o) (sub-zero n) }
 
 drop-zeros : (n m : ℕ) → drop {A = ℕ} n (replicate m 0) ≡ replicate (m - n) 0
@@ -177,7 +177,7 @@ drop-zeros zero m = ap (λ (n : ℕ). replicate n 0) (sym (sub-zero m))
 drop-zeros (suc n) zero = ap (λ (m : ℕ). replicate m 0) (sym (zero-sub (suc n)))
 drop-zeros (suc n) (suc m) = drop-zeros n m ∙ ap (λ (d : ℕ). replicate d 0) (sym (suc-sub-suc m n))
 
-module _ {r places n : ℕ} {o swaps rest : List ℕ} {i : ℕ} (s : Begun r places n o swaps rest i) where
+module _ {r places n : ℕ} {o swaps rest : List ℕ} {i : ℕ} (s : PlanBegun r places n o swaps rest i) where
   swap : ℕ → ℕ
   swap j = getD (planned n o) j 0
 
@@ -194,7 +194,7 @@ module _ {r places n : ℕ} {o swaps rest : List ℕ} {i : ℕ} (s : Begun r pla
       ∙ ap (λ (l : List ℕ). getD l 0 0) (next h)
 
   pub plan-next : i < n → n ≤ places → {k : ℕ} {labelled : List ℕ} → k ≡ firstBack r 0 rest → labelled ≡ map (relabelled k) rest
-      → Begun r places n o (set swaps i k) labelled (i + 1)
+      → PlanBegun r places n o (set swaps i k) labelled (i + 1)
   unfolding swap
   plan-next h room {k} e d =
       let back : k ≡ firstBack (length rest) 0 rest = e ∙ ap (λ (m : ℕ). firstBack m 0 rest) (sym (s .long)) in

@@ -1,10 +1,13 @@
 -- `axes::chain` meets its promise: a refusal changes nothing, and what is accepted runs.
-use mathlib.Core.Path.{_≡_}
+use mathlib.Core.Path.{_≡_, sym}
+use Prim.Native.Nat.{ℕ}
 use native.Mathlib.Omega.{arith}
 use lib.ListN.{length}
 use borrow.Author.Needs.{needs}
 use borrow.Author.Tests.{ne-eqb}
 use Rattle.lists.proofs.Via.{via}
+use Rattle.refusals.specs.FirstOf.{firstOf}
+use Rattle.refusals.specs.Calls.{chainChecks}
 use Rattle.axes.specs.Answers.{refusedPlace}
 use Rattle.axes.proofs.Calls.{chain-refused}
 use Rattle.axes.proofs.chain.Statement.{statement}
@@ -13,12 +16,16 @@ use Rattle.axes.proofs.chain.Tie as tie
 axes : (x : tie.Start) → length (x .args .shape .lens) ≡ 4
 axes x = search needs
 
+-- the number that a test found is that of the checks
+first : (x : tie.Start) {n m : ℕ} → n ≡ firstOf (chainChecks 4 (x .args .shape .lens) (x .args .buf .now) (x .args .scratch .now) (x .args .swaps .now)) → n ≡ m
+    → m ≡ firstOf (chainChecks 4 (x .args .shape .lens) (x .args .buf .now) (x .args .scratch .now) (x .args .swaps .now))
+first x e d = via d e
+
 returns : tie.Need-returns
 returns c =
     let f : tie.After-first-above = search in
-    let t : tie.Then1 = search in
     let n : tie.After-chain-number = search in
-    chain-refused 4 (c .refusal .ensures) (λ e. omega arith) (via (t .if1 .taken) (n .chain-number .ensures)) (f .first-above .ensures)
+    chain-refused 4 (c .refusal .ensures) (λ e. omega arith) (first (search) (n .chain-number .ensures) (search)) (f .first-above .ensures)
 
 returns-2 : tie.Need-returns-2
 returns-2 c =
@@ -45,7 +52,7 @@ chain-spec =
     (search needs)
     (search needs)
     returns-2
-    (λ c κs. let n : tie.After-chain-number = search in via (n .chain-number .ensures) (search))
+    (λ c κs. let n : tie.After-chain-number = search in sym (first (search) (n .chain-number .ensures) (search)))
     (search needs)
     (search needs)
     (λ c. let r : tie.After-run = search in r .run .ensures))

@@ -3,21 +3,21 @@ use mathlib.Core.Path.{refl}
 use Prim.Native.Nat.{_-_}
 use native.Mathlib.Omega.{arith}
 use borrow.Author.Needs.{needs}
-use Rattle.axes.proofs.PlanSteps.{Back, back-found, back-later, back-nowhere}
+use Rattle.axes.proofs.PlanSteps.{BackSought, back-seen, back-next, back-nowhere}
 use Rattle.axes.proofs.plans.Order.first_back.Statement.{statement}
 use Rattle.axes.proofs.plans.Order.first_back.Tie as tie
 
 abbrev Inv-loop : tie.InvT-loop
-Inv-loop self k₀ k = Back 4 (self .axes) k
+Inv-loop self k₀ k = BackSought 4 (self .axes) k
 
 abbrev μ-loop : tie.MeasureT-loop
 μ-loop self k₀ k = 4 - k
 
 returns : tie.Need-returns Inv-loop μ-loop
-returns c = let l : tie.At-loop Inv-loop μ-loop = search in back-found (l .loop .inv) (omega arith) (omega arith)
+returns c = let l : tie.At-loop Inv-loop μ-loop = search in back-seen (l .loop .inv) (omega arith) (omega arith)
 
 loop-again : tie.Need-loop-again Inv-loop μ-loop
-loop-again c = let l : tie.At-loop Inv-loop μ-loop = search in back-later (l .loop .inv) (omega arith) (omega arith)
+loop-again c = let l : tie.At-loop Inv-loop μ-loop = search in back-next (l .loop .inv) (omega arith) (omega arith)
 
 pub first-back-spec : {M : Type 1} → statement M
 first-back-spec =

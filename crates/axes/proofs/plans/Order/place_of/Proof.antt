@@ -4,12 +4,12 @@ use Prim.Native.Nat.{_-_}
 use native.Mathlib.Omega.{arith}
 use lib.ListN.{length}
 use borrow.Author.Needs.{needs}
-use Rattle.axes.proofs.PlanSteps.{Sought, seek, found, not-found, nowhere}
+use Rattle.axes.proofs.PlanSteps.{PlaceSought, seek-place, place-seen, place-next, place-nowhere}
 use Rattle.axes.proofs.plans.Order.place_of.Statement.{statement}
 use Rattle.axes.proofs.plans.Order.place_of.Tie as tie
 
 abbrev Inv-loop : tie.InvT-loop
-Inv-loop axis self k₀ k = Sought 4 axis (self .axes) k
+Inv-loop axis self k₀ k = PlaceSought 4 axis (self .axes) k
 
 abbrev μ-loop : tie.MeasureT-loop
 μ-loop axis self k₀ k = 4 - k
@@ -18,10 +18,10 @@ axes : (x : tie.Start Inv-loop μ-loop) → length (x .args .t1 .axes) ≡ 4
 axes x = search needs
 
 returns : tie.Need-returns Inv-loop μ-loop
-returns c = let l : tie.At-loop Inv-loop μ-loop = search in found (l .loop .inv) (omega arith) (c .if1 .taken)
+returns c = let l : tie.At-loop Inv-loop μ-loop = search in place-seen (l .loop .inv) (omega arith) (c .if1 .taken)
 
 loop-again : tie.Need-loop-again Inv-loop μ-loop
-loop-again c = let l : tie.At-loop Inv-loop μ-loop = search in not-found (l .loop .inv) (omega arith) (c .if1 .left)
+loop-again c = let l : tie.At-loop Inv-loop μ-loop = search in place-next (l .loop .inv) (omega arith) (c .if1 .left)
 
 pub place-of-spec : {M : Type 1} → statement M
 place-of-spec =
@@ -29,11 +29,11 @@ place-of-spec =
     (tie.spec
     Inv-loop
     μ-loop
-    (λ c. seek _ (axes (search)))
+    (λ c. seek-place _ (axes (search)))
     (search needs)
     (search needs)
     returns
     (search needs)
     (search needs)
     loop-again
-    (λ c. let l : tie.At-loop Inv-loop μ-loop = search in nowhere (l .loop .inv) (omega arith)))
+    (λ c. let l : tie.At-loop Inv-loop μ-loop = search in place-nowhere (l .loop .inv) (omega arith)))

@@ -5,12 +5,12 @@ use Prim.Native.Nat.{_-_}
 use native.Mathlib.Omega.{arith}
 use lib.ListN.{length}
 use borrow.Author.Needs.{needs}
-use Rattle.axes.proofs.PlanSteps.{back-few, Begun, begin-plan, plan-next, plan-done}
+use Rattle.axes.proofs.PlanSteps.{back-few, PlanBegun, begin-plan, plan-next, plan-done}
 use Rattle.axes.proofs.plans.Order.planned_swaps.Statement.{statement}
 use Rattle.axes.proofs.plans.Order.planned_swaps.Tie as tie
 
 abbrev Inv-loop : tie.InvT-loop
-Inv-loop n swaps₀ rest₀ i₀ swaps rest i = Begun 4 6 n (rest₀ .axes) swaps (rest .axes) i
+Inv-loop n swaps₀ rest₀ i₀ swaps rest i = PlanBegun 4 6 n (rest₀ .axes) swaps (rest .axes) i
 
 abbrev μ-loop : tie.MeasureT-loop
 μ-loop n swaps₀ rest₀ i₀ swaps rest i = n - i
