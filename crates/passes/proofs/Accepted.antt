@@ -1,6 +1,7 @@
 -- What the calls' checks tell where none holds, and what the block's turn and the cleared scratch are then.
 use mathlib.Core.Path.{_≡_, sym, ap, _∙_}
 use mathlib.Core.List.{List, [], _∷_, _++_}
+use mathlib.Core.Logic.{⊎-elim}
 use Prim.Native.Nat.{ℕ, _+_, _*_, _-_, _/_, _%_, _<_, _≤_}
 use native.Mathlib.Omega.{arith}
 use native.Mathlib.Nat.{le-trans}
@@ -8,6 +9,7 @@ use lib.ListN.{length, getD, drop, replicate, length-drop}
 use borrow.Author.Tests.{lt-ltb, le-ltb}
 use lib.Seq.{ext-getD, getD-drop}
 use lib.Arith.{digits-div, digits-mod, digits-lt}
+use Rattle.lists.proofs.Decide.{eq-or-ne}
 use Rattle.refusals.specs.FirstOf.{Check, check, firstOf}
 use Rattle.refusals.specs.Conditions.{shortScratch}
 use Rattle.refusals.specs.Calls.{blockChecks, passesChecks}
@@ -31,6 +33,10 @@ module _ (ds buffer scratch : List ℕ) where
 
   pub short-refused : firstOf (blockChecks ds buffer) ≡ 0 → length scratch < need ds → 4 ≡ firstOf (passesChecks ds buffer scratch)
   short-refused e h = sym (accepted-so-far room-check (recursion-accepted ds buffer .0 e) ∙ rw (lt-ltb _ _ h))
+
+  pub block-good : firstOf (passesChecks ds buffer scratch) ≡ 0 → firstOf (blockChecks ds buffer) ≡ 0
+  block-good e =
+      ⊎-elim (λ z. z) (λ n. absurd (n (sym (refused-first (blockChecks ds buffer) room-check n) ∙ e))) (eq-or-ne (firstOf (blockChecks ds buffer)) 0)
 
   pub room-passed : firstOf (blockChecks ds buffer) ≡ 0 → need ds ≤ length scratch → 0 ≡ firstOf (passesChecks ds buffer scratch)
   room-passed e h = sym (accepted-so-far room-check (recursion-accepted ds buffer .0 e) ∙ rw (le-ltb _ _ h))
@@ -59,9 +65,6 @@ flat-accepted m n buffer scratch e = go (v .0 .lengths)
       enough = rw (volume-two m n) at (v .0 .enough);
       room = enough-scratch (need (sides m n)) scratch [] (v .1) .0;
     }
-
-pub accepted-by : {m n r : ℕ} (buffer scratch : List ℕ) → r ≡ firstOf (passesChecks (sides m n) buffer scratch) → r ≡ 0 → Accepted m n buffer scratch
-accepted-by {m} {n} buffer scratch e z = flat-accepted m n buffer scratch (sym e ∙ z)
 
 -- the block of a flat call lies at the buffer's start
 pub flat-lies : {m n : ℕ} {buffer scratch : List ℕ} → Accepted m n buffer scratch → Lies m n 0 1 buffer scratch

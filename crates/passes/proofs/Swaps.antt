@@ -1,15 +1,15 @@
 -- The blocks of an adjacent swap are a family: turned one after the other, they are the layout that exchanges the two axes
 -- in the middle.
-use mathlib.Core.Path.{_≡_, refl, sym, ap, ap₂, _∙_, subst}
+use mathlib.Core.Path.{_≡_, sym, ap, ap₂, _∙_, subst}
 use mathlib.Core.List.{List, [], _∷_}
 use Prim.Native.Nat.{ℕ, _+_, _*_, _/_, _%_, _<_, _≤_}
 use native.Mathlib.Omega.{arith}
 use native.Mathlib.Nat.{mul-comm, mul-assoc, mul-add, add-mul, mul-one, mod-lt, div-add-mod', div-lt-iff-lt-mul, pos-of-ne-zero, le-trans, le-mul-of-pos-right, mul-pos}
 use lib.ListN.{length, getD}
 use lib.Arith.{digits-div, digits-mod, digits-lt}
-use mathlib.Core.Bool.{Bool, true, false, _||_}
-use lib.Dec.{ltb, eqb, lit<}
-use borrow.Author.Tests.{ltb-true, ltb-false, eqb-false}
+use mathlib.Core.Bool.{false, _||_}
+use lib.Dec.{eqb, lit<}
+use borrow.Author.Tests.{ltb-false, eqb-false}
 use Rattle.refusals.specs.FirstOf.{check, firstOf}
 use Rattle.refusals.specs.Conditions.{badLength, tooManyWords, shortBuffer, shortScratch}
 use Rattle.refusals.specs.Scratch.{need}

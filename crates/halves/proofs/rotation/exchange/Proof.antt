@@ -3,7 +3,7 @@ use mathlib.Core.Path.{_≡_, refl, ap, _∙_}
 use Prim.Native.Nat.{ℕ, _-_, _≤_}
 use native.Mathlib.Omega.{arith}
 use lib.ListN.{length, length-set}
-use Rattle.halves.specs.Rotation.{exchanged}
+use Rattle.halves.specs.LentSlices.{exchanged}
 use Rattle.halves.proofs.Stretches.{exchange-none, exchange-more}
 use borrow.Author.Needs.{needs}
 use Rattle.halves.proofs.rotation.exchange.Statement.{statement}

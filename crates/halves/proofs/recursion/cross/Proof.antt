@@ -3,11 +3,11 @@ use mathlib.Core.Path.{_≡_}
 use Prim.Native.Nat.{_+_, _*_, _-_, _≤_, _<_}
 use native.Mathlib.Omega.{arith}
 use lib.ListN.{length, length-set}
-use Rattle.halves.specs.Block.{Crossed}
+use Rattle.halves.specs.LentSlices.{Crossed}
 use Rattle.halves.proofs.Diagonal.{places-within, crossed-more}
 use borrow.Author.Needs.{needs}
-use Rattle.halves.proofs.block.cross.Statement.{statement}
-use Rattle.halves.proofs.block.cross.Tie as tie
+use Rattle.halves.proofs.recursion.cross.Statement.{statement}
+use Rattle.halves.proofs.recursion.cross.Tie as tie
 
 abbrev Inv-loop : tie.InvT-loop
 Inv-loop s₀ n i j₀ s j = (i < j) × (j ≤ n) × Crossed n i j s₀ s

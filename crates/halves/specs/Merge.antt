@@ -4,11 +4,6 @@ use mathlib.Core.List.{List}
 use Prim.Native.Nat.{ℕ, _+_, _*_, _<_}
 use lib.ListN.{length, getD}
 
--- the words are n runs of p words and n runs of q words, and n is not 0
-pub record Runs (n p q : ℕ) (xs : List ℕ) : Type 0 where
-  pub some : 0 < n
-  pub fill : length xs ≡ n * (p + q)
-
 -- ys is xs merged: n runs of p words followed by n runs of q words become p, q, p, q and so on;
 -- xs is ys split
 pub record Merged (n p q : ℕ) (xs ys : List ℕ) : Type 0 where

@@ -8,19 +8,19 @@ use Rattle.halves.proofs.Cuts.{Parted, Front, Both, rows-cut, columns-c
 use Rattle.halves.proofs.Turns.{square-fill, square-turned, merge-runs, tall-turned, split-runs, split-parts, wide-turned}
 use Prim.Native.Nat.{ℕ, _-_, _*_, _/_, _<_}
 use lib.ListN.{length}
-use borrow.Fn.Kinds.{In}
+use borrow.Fn.Kinds.{In, Out}
 use borrow.Fn.PlainCycle.{Measures, is, falls, and}
-use Rattle.halves.proofs.block.tall.Reads as tall
-use Rattle.halves.proofs.block.tall.Kinds as tall-kinds
-use Rattle.halves.proofs.block.+tall+wide.Lts-tall as tall-lts
-use Rattle.halves.proofs.block.wide.Reads as wide
-use Rattle.halves.proofs.block.wide.Kinds as wide-kinds
-use Rattle.halves.proofs.block.+tall+wide.Lts-wide as wide-lts
-use Rattle.halves.proofs.block.square.Reads as square-reads
+use Rattle.halves.proofs.recursion.tall.Reads as tall
+use Rattle.halves.proofs.recursion.tall.Kinds as tall-kinds
+use Rattle.halves.proofs.recursion.+tall+wide.Lts-tall as tall-lts
+use Rattle.halves.proofs.recursion.wide.Reads as wide
+use Rattle.halves.proofs.recursion.wide.Kinds as wide-kinds
+use Rattle.halves.proofs.recursion.+tall+wide.Lts-wide as wide-lts
+use Rattle.halves.proofs.recursion.square.Reads as square-reads
 use Rattle.halves.proofs.runs.merge.Reads as merge-reads
 use Rattle.halves.proofs.runs.split.Reads as split-reads
-use Rattle.halves.proofs.block.+tall+wide.{statement}
-use Rattle.halves.proofs.block.+tall+wide.Tie.{close}
+use Rattle.halves.proofs.recursion.+tall+wide.{statement}
+use Rattle.halves.proofs.recursion.+tall+wide.Tie.{close}
 
 abbrev μ-tall : Measures 1 tall-kinds.ps ℕ
 μ-tall κs a = length (a .0 .now)
@@ -48,87 +48,57 @@ wide-calls t = (square-reads.Asked, square-reads.Learnt, split-reads.Asked, spli
 abbrev tall-calls : ℕ → tall-lts.Claims
 tall-calls t = (square-reads.Asked, square-reads.Learnt, tall-below t, tall.Post, wide-below t, wide.Post, merge-reads.Asked, merge-reads.Learnt)
 
--- the places of `tall` that the answers look back to
+-- a place of tall, or a need, at a call of measure t
+abbrev Tall : (tall-lts.Claims → In 1 tall-kinds.ps → Out 1 tall-kinds.ps tall-kinds.r → Type 0) → ℕ → Type 0
+Tall P t = P (tall-calls t) (tall-at t) tall.Post
+
 module _ (t : ℕ) where
-  abbrev TallEntry : Type 0
-  TallEntry = tall-lts.Start (tall-calls t) (tall-at t) tall.Post
-
-  abbrev TallSquare : Type 0
-  TallSquare = tall-lts.After-square (tall-calls t) (tall-at t) tall.Post
-
-  abbrev TallCut : Type 0
-  TallCut = tall-lts.Else1 (tall-calls t) (tall-at t) tall.Post
-
-  abbrev TallFront : Type 0
-  TallFront = tall-lts.Joined2 (tall-calls t) (tall-at t) tall.Post
-
-  abbrev TallBoth : Type 0
-  TallBoth = tall-lts.Joined3 (tall-calls t) (tall-at t) tall.Post
-
-  abbrev TallMerge : Type 0
-  TallMerge = tall-lts.After-merge (tall-calls t) (tall-at t) tall.Post
-
   -- the rows are cut
-  tall-parts : (x : TallCut) → let a = x .before .before .args in Parted (a .m / 2 * a .n) (a .m / 2) (a .n) (a .m - a .m / 2) (a .n) (a .s .now)
+  tall-parts : (x : Tall tall-lts.Else1 t) → let a = x .before .before .args in Parted (a .m / 2 * a .n) (a .m / 2) (a .n) (a .m - a .m / 2) (a .n) (a .s .now)
   tall-parts x = rows-cut (x .before .before .pre .1 .0) (omega arith)
 
   -- the first part is back
-  tall-front : (x : TallFront) → let a = x .before .before .before .args in Front (a .m / 2 * a .n) (a .m / 2) (a .n) (a .s .now) (x .if2 .s)
+  tall-front : (x : Tall tall-lts.Joined2 t) → let a = x .before .before .before .args in Front (a .m / 2 * a .n) (a .m / 2) (a .n) (a .s .now) (x .if2 .s)
   tall-front x = ⊎-elim
       (λ w. record { part = w .2 .last .0; turn = w .2 .ensures; back = w .5 })
       (λ w. record { part = w .2 .last .0; turn = w .2 .ensures; back = w .5 })
       (x .if2 .came)
 
   -- both are
-  tall-both : (x : TallBoth)
+  tall-both : (x : Tall tall-lts.Joined3 t)
       → let a = x .before .before .before .before .args in Both (a .m / 2 * a .n) (a .m / 2) (a .n) (a .m - a .m / 2) (a .n) (a .s .now) (x .if3 .s)
   tall-both x = both-back (tall-parts (search)) (tall-front (search)) (⊎-elim
       (λ w. record { part = w .2 .last .0; turn = w .2 .ensures; back = w .5 })
       (λ w. record { part = w .2 .last .0; turn = w .2 .ensures; back = w .5 })
       (x .if3 .came))
 
-  tall-square-requires : tall-lts.Need-square-requires (tall-calls t) (tall-at t) tall.Post
-  tall-square-requires c κs = let x : TallEntry = search in square-fill (x .pre .1 .0) (omega arith)
+  tall-square-requires : Tall tall-lts.Need-square-requires t
+  tall-square-requires c κs = let x : Tall tall-lts.Start t = search in square-fill (x .pre .1 .0) (omega arith)
 
-  tall-returns : tall-lts.Need-returns (tall-calls t) (tall-at t) tall.Post
-  tall-returns c = let q : TallSquare = search in square-turned (omega arith) (q .square .ensures)
+  tall-returns : Tall tall-lts.Need-returns t
+  tall-returns c = let q : Tall tall-lts.After-square t = search in square-turned (omega arith) (q .square .ensures)
 
-  tall-merge-requires : tall-lts.Need-merge-requires (tall-calls t) (tall-at t) tall.Post
-  tall-merge-requires c κs = let x : TallEntry = search in merge-runs (x .pre .1 .0) (omega arith) (tall-both (search))
+  tall-merge-requires : Tall tall-lts.Need-merge-requires t
+  tall-merge-requires c κs = let x : Tall tall-lts.Start t = search in merge-runs (x .pre .1 .0) (omega arith) (tall-both (search))
 
-  tall-returns-2 : tall-lts.Need-returns-2 (tall-calls t) (tall-at t) tall.Post
+  tall-returns-2 : Tall tall-lts.Need-returns-2 t
   tall-returns-2 c =
-      let m : TallMerge = search in
-      let x : TallEntry = search in
+      let m : Tall tall-lts.After-merge t = search in
+      let x : Tall tall-lts.Start t = search in
       tall-turned (x .pre .1 .0) (omega arith) (tall-both (search)) (m .merge .ensures)
 
--- the places of `wide` that the answers look back to
+-- a place of wide, or a need, at a call of measure t
+abbrev Wide : (wide-lts.Claims → In 1 wide-kinds.ps → Out 1 wide-kinds.ps wide-kinds.r → Type 0) → ℕ → Type 0
+Wide P t = P (wide-calls t) (wide-at t) wide.Post
+
 module _ (t : ℕ) where
-  abbrev WideEntry : Type 0
-  WideEntry = wide-lts.Start (wide-calls t) (wide-at t) wide.Post
-
-  abbrev WideSquare : Type 0
-  WideSquare = wide-lts.After-square (wide-calls t) (wide-at t) wide.Post
-
-  abbrev WideSplit : Type 0
-  WideSplit = wide-lts.After-split (wide-calls t) (wide-at t) wide.Post
-
-  abbrev WideFront : Type 0
-  WideFront = wide-lts.Joined2 (wide-calls t) (wide-at t) wide.Post
-
-  abbrev WideWide : Type 0
-  WideWide = wide-lts.After-wide2 (wide-calls t) (wide-at t) wide.Post
-
-  abbrev WideTall : Type 0
-  WideTall = wide-lts.After-tall2 (wide-calls t) (wide-at t) wide.Post
-
   -- the block is split and its columns are cut
-  wide-parts : (x : WideSplit)
+  wide-parts : (x : Wide wide-lts.After-split t)
       → let a = x .before .before .before .before .args in Parted (a .m * (a .n / 2)) (a .m) (a .n / 2) (a .m) (a .n - a .n / 2) (x .split .last .0)
-  wide-parts x = let e : WideEntry = search in split-parts (e .pre .1 .0) (omega arith) (x .split .ensures)
+  wide-parts x = let e : Wide wide-lts.Start t = search in split-parts (e .pre .1 .0) (omega arith) (x .split .ensures)
 
   -- the first part is back
-  wide-front : (x : WideFront)
+  wide-front : (x : Wide wide-lts.Joined2 t)
       → let s = x .before .before .before in
       let a = s .before .before .before .before .args in
       Front (a .m * (a .n / 2)) (a .m) (a .n / 2) (s .split .last .0) (x .if2 .s)
@@ -137,31 +107,31 @@ module _ (t : ℕ) where
       (λ w. record { part = w .2 .last .0; turn = w .2 .ensures; back = w .5 })
       (x .if2 .came)
 
-  wide-square-requires : wide-lts.Need-square-requires (wide-calls t) (wide-at t) wide.Post
-  wide-square-requires c κs = let x : WideEntry = search in square-fill (x .pre .1 .0) (omega arith)
+  wide-square-requires : Wide wide-lts.Need-square-requires t
+  wide-square-requires c κs = let x : Wide wide-lts.Start t = search in square-fill (x .pre .1 .0) (omega arith)
 
-  wide-returns : wide-lts.Need-returns (wide-calls t) (wide-at t) wide.Post
-  wide-returns c = let q : WideSquare = search in square-turned (omega arith) (q .square .ensures)
+  wide-returns : Wide wide-lts.Need-returns t
+  wide-returns c = let q : Wide wide-lts.After-square t = search in square-turned (omega arith) (q .square .ensures)
 
-  wide-mul-cut : wide-lts.Need-mul-cut (wide-calls t) (wide-at t) wide.Post
-  wide-mul-cut c = let x : WideEntry = search in omega (arith, cut-within (columns-cut (x .pre .1 .0) (omega arith)))
+  wide-mul-cut : Wide wide-lts.Need-mul-cut t
+  wide-mul-cut c = let x : Wide wide-lts.Start t = search in omega (arith, cut-within (columns-cut (x .pre .1 .0) (omega arith)))
 
-  wide-split-requires : wide-lts.Need-split-requires (wide-calls t) (wide-at t) wide.Post
-  wide-split-requires c κs = let x : WideEntry = search in split-runs (x .pre .1 .0) (omega arith)
+  wide-split-requires : Wide wide-lts.Need-split-requires t
+  wide-split-requires c κs = let x : Wide wide-lts.Start t = search in split-runs (x .pre .1 .0) (omega arith)
 
-  wide-returns-2 : wide-lts.Need-returns-2 (wide-calls t) (wide-at t) wide.Post
+  wide-returns-2 : Wide wide-lts.Need-returns-2 t
   wide-returns-2 c =
-      let w : WideWide = search in
-      let s : WideSplit = search in
-      let x : WideEntry = search in
+      let w : Wide wide-lts.After-wide2 t = search in
+      let s : Wide wide-lts.After-split t = search in
+      let x : Wide wide-lts.Start t = search in
       wide-turned (x .pre .1 .0) (omega arith) (s .split .ensures)
       (both-back (wide-parts s) (wide-front (search)) (record { part = w .wide2 .last .0; turn = w .wide2 .ensures; back = refl }))
 
-  wide-returns-3 : wide-lts.Need-returns-3 (wide-calls t) (wide-at t) wide.Post
+  wide-returns-3 : Wide wide-lts.Need-returns-3 t
   wide-returns-3 c =
-      let w : WideTall = search in
-      let s : WideSplit = search in
-      let x : WideEntry = search in
+      let w : Wide wide-lts.After-tall2 t = search in
+      let s : Wide wide-lts.After-split t = search in
+      let x : Wide wide-lts.Start t = search in
       wide-turned (x .pre .1 .0) (omega arith) (s .split .ensures)
       (both-back (wide-parts s) (wide-front (search)) (record { part = w .tall2 .last .0; turn = w .tall2 .ensures; back = refl }))
 

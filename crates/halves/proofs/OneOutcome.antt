@@ -8,9 +8,9 @@ use Rattle.lists.proofs.Decide.{eq-or-ne}
 use Rattle.flat.proofs.Turn.{one-turn}
 use Rattle.halves.specs.Promise.{TurnPromise}
 
-pub one-outcome : {m n r r′ : ℕ} {before after after′ : List ℕ} → TurnPromise m n before r after → TurnPromise m n before r′ after′
+pub turn-once : {m n r r′ : ℕ} {before after after′ : List ℕ} → TurnPromise m n before r after → TurnPromise m n before r′ after′
     → (r ≡ r′) × (after ≡ after′)
-one-outcome {m} {n} {r} {r′} {before} {after} {after′} p q =
+turn-once {m} {n} {r} {r′} {before} {after} {after′} p q =
     let one : r ≡ r′ = p .number ∙ sym (q .number) in
     ⊎-elim
     (λ (e : r ≡ 0). (one, one-turn {m = m} {n = n} (p .words e) (q .words (sym one ∙ e))))

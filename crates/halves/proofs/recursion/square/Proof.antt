@@ -3,8 +3,8 @@ use Prim.Native.Nat.{_-_, _≤_}
 use native.Mathlib.Omega.{arith}
 use Rattle.halves.proofs.Diagonal.{side-few, Done, done-none, done-more, done-all}
 use borrow.Author.Needs.{needs}
-use Rattle.halves.proofs.block.square.Statement.{statement}
-use Rattle.halves.proofs.block.square.Tie as tie
+use Rattle.halves.proofs.recursion.square.Statement.{statement}
+use Rattle.halves.proofs.recursion.square.Tie as tie
 
 abbrev Inv-loop : tie.InvT-loop
 Inv-loop s₀ n i₀ s i = (i ≤ n) × Done n i s₀ s
