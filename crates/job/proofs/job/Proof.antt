@@ -13,7 +13,9 @@ read-requires c κs = search needs
 
 cast-write-refusal : tie.Need-cast-write-refusal
 cast-write-refusal c =
-    let t = turned-away (c .before .before .before .read .ensures) (c .before .if1 .taken) in
+    let then1 : tie.Then1 = search in
+    let after-read : tie.After-read = search in
+    let t = turned-away (after-read .read .ensures) (then1 .if1 .taken) in
     omega (arith, t .bounded .near)
 
 write-refusal-requires : tie.Need-write-refusal-requires
@@ -21,15 +23,24 @@ write-refusal-requires c κs = search needs
 
 returns : tie.Need-returns
 returns c =
-    let s = c .before .before .before .before .before .before .before .before in
-    let long : length (s .args .out .now) ≡ 16384 = omega (arith, c .before .write-refusal-arg .given) in
-    met-refused long (turned-away (c .before .before .before .before .before .read .ensures) (c .before .before .before .if1 .taken)) (c .write-refusal .ensures)
+    let after-write-refusal-arg : tie.After-write-refusal-arg = search in
+    let then1 : tie.Then1 = search in
+    let after-read : tie.After-read = search in
+    let start : tie.Start = search in
+    let long : length (start .args .out .now) ≡ 16384 = omega (arith, after-write-refusal-arg .write-refusal-arg .given) in
+    met-refused long (turned-away (after-read .read .ensures) (then1 .if1 .taken)) (c .write-refusal .ensures)
 
 array-share-prefix-swaps : tie.Need-array-share-prefix-swaps
-array-share-prefix-swaps c = taken (c .before .before .before .before .before .before .read .ensures) (c .before .before .before .before .if1 .left) .1 .inside
+array-share-prefix-swaps c =
+    let else1 : tie.Else1 = search in
+    let after-read : tie.After-read = search in
+    taken (after-read .read .ensures) (else1 .if1 .left) .1 .inside
 
 slice-aggregate-chain : tie.Need-slice-aggregate-chain
-slice-aggregate-chain c = sym (taken (c .before .before .before .before .before .before .before .read .ensures) (c .before .before .before .before .before .if1 .left) .1 .count)
+slice-aggregate-chain c =
+    let else1 : tie.Else1 = search in
+    let after-read : tie.After-read = search in
+    sym (taken (after-read .read .ensures) (else1 .if1 .left) .1 .count)
 
 chain-requires : tie.Need-chain-requires
 chain-requires c κs = search needs
@@ -39,11 +50,17 @@ write-requires c κs = search needs
 
 returns-2 : tie.Need-returns-2
 returns-2 c =
-    let s = c .before .before .before .before .before .before .before .before .before .before .before .before .before .before .before .before in
-    let words : length (s .args .words .now) ≡ 1024 = omega (arith, c .before .before .before .before .before .before .before .before .before .before .before .before .before .before .read-arg .given) in
-    let room : length (s .args .scratch .now) ≡ 1024 = omega (arith, c .before .before .before .before .before .before .before .chain-arg2 .given) in
-    let long : length (s .args .out .now) ≡ 16384 = omega (arith, c .before .write-arg3 .given) in
-    met-accepted words room long (taken (c .before .before .before .before .before .before .before .before .before .before .before .before .before .read .ensures) (c .before .before .before .before .before .before .before .before .before .before .before .if1 .left) .1) (c .before .before .before .before .before .chain .ensures) (c .write .ensures)
+    let after-write-arg3 : tie.After-write-arg3 = search in
+    let after-chain : tie.After-chain = search in
+    let after-chain-arg2 : tie.After-chain-arg2 = search in
+    let else1 : tie.Else1 = search in
+    let after-read : tie.After-read = search in
+    let after-read-arg : tie.After-read-arg = search in
+    let start : tie.Start = search in
+    let words : length (start .args .words .now) ≡ 1024 = omega (arith, after-read-arg .read-arg .given) in
+    let room : length (start .args .scratch .now) ≡ 1024 = omega (arith, after-chain-arg2 .chain-arg2 .given) in
+    let long : length (start .args .out .now) ≡ 16384 = omega (arith, after-write-arg3 .write-arg3 .given) in
+    met-accepted words room long (taken (after-read .read .ensures) (else1 .if1 .left) .1) (after-chain .chain .ensures) (c .write .ensures)
 
 pub job-spec : {M : Type 1} → statement M
 job-spec =

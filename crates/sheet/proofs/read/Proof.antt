@@ -25,11 +25,16 @@ lens c = c .before .before .shape-at .result .lens
 first : (c : tie.Else1)
     → shapeLine (c .before .before .before .before .before .args .words .now) (c .before .before .before .before .before .args .bytes .now)
     ≡ Step.go (lens c) (drop (c .before .before .shape-at .result .next) (c .before .before .before .before .before .args .bytes .now))
-first c = c .before .before .shape-at .ensures (c .before .before .before .before .before .args .words .now) refl .right (c .if1 .left)
+first c =
+    let after-shape-at : tie.After-shape-at = search in
+    let start : tie.Start = search in
+    after-shape-at .shape-at .ensures (start .args .words .now) refl .right (c .if1 .left)
 
 shape : (c : tie.Else1)
     → ShapeRead (c .before .before .before .before .before .args .words .now) (c .before .before .before .before .before .args .bytes .now) (lens c) (drop (c .before .before .shape-at .result .next) (c .before .before .before .before .before .args .bytes .now))
-shape c = shape-read (c .before .before .before .before .before .args .words .now) (c .before .before .before .before .before .args .bytes .now) (first c)
+shape c =
+    let start : tie.Start = search in
+    shape-read (start .args .words .now) (start .args .bytes .now) (first c)
 
 -- what follows line 1
 abbrev from-chain : tie.Else2 → List ℕ
@@ -37,18 +42,24 @@ from-chain c = drop (c .before .before .before .before .before .shape-at .result
 
 second : (c : tie.Else2)
     → chainLine (from-chain c) ≡ Step.go (wordsOf (chainLine (from-chain c))) (drop (c .before .before .chain-at .result .next) (c .before .before .before .before .before .before .before .before .args .bytes .now))
-second c = c .before .before .chain-at .ensures .step .right (c .if2 .left)
+second c =
+    let after-chain-at : tie.After-chain-at = search in
+    after-chain-at .chain-at .ensures .step .right (c .if2 .left)
 
 -- the rows are those of the lengths
 sized : (c : tie.After-row-count)
     → rowLines 3 (c .row-count .result) (getD (lens (c .before .before .before .before .before)) 3 0) (drop (c .before .before .before .before .chain-at .result .next) (c .before .before .before .before .before .before .before .before .before .before .args .bytes .now))
     ≡ rowLines 3 (rowCount (lens (c .before .before .before .before .before))) (rowWidth (lens (c .before .before .before .before .before))) (drop (c .before .before .before .before .chain-at .result .next) (c .before .before .before .before .before .before .before .before .before .before .args .bytes .now))
-sized c = rw (c .row-count .ensures, width-four (lens (c .before .before .before .before .before)) (shape (c .before .before .before .before .before) .held .long))
+sized c =
+    let else1 : tie.Else1 = search in
+    rw (c .row-count .ensures, width-four (lens (else1)) (shape (else1) .held .long))
 
 judged : (c : tie.Else3)
     → rowLines 3 (c .before .before .before .row-count .result) (getD (lens (c .before .before .before .before .before .before .before .before)) 3 0) (drop (c .before .before .before .before .before .before .before .chain-at .result .next) (c .before .before .before .before .before .before .before .before .before .before .before .before .before .args .bytes .now))
     ≡ Step.go (wordsOf (rowLines 3 (c .before .before .before .row-count .result) (getD (lens (c .before .before .before .before .before .before .before .before)) 3 0) (drop (c .before .before .before .before .before .before .before .chain-at .result .next) (c .before .before .before .before .before .before .before .before .before .before .before .before .before .args .bytes .now)))) []
-judged c = let j = c .before .before .rows-at in j .ensures .right (not-false (j .result .ok) (c .if3 .left))
+judged c =
+    let after-rows-at : tie.After-rows-at = search in
+    let j = after-rows-at .rows-at in j .ensures .right (not-false (j .result .ok) (c .if3 .left))
 
 shape-at-requires : tie.Need-shape-at-requires
 shape-at-requires c κs = search needs
@@ -58,39 +69,50 @@ refused-requires c κs = search needs
 
 returns : tie.Need-returns
 returns c =
-    let h = c .before .before .before .shape-at in
-    let a = c .before .before .before .before .before .before .args in
+    let then1 : tie.Then1 = search in
+    let after-shape-at : tie.After-shape-at = search in
+    let start : tie.Start = search in
+    let h = after-shape-at .shape-at in
+    let a = start .args in
     read-refused (a .words .now) (a .bytes .now)
-    (first-refuses (a .words .now) (a .bytes .now) (h .ensures (a .words .now) refl .wrong (c .before .if1 .taken)))
+    (first-refuses (a .words .now) (a .bytes .now) (h .ensures (a .words .now) refl .wrong (then1 .if1 .taken)))
     (c .refused .ensures)
 
 chain-at-requires : tie.Need-chain-at-requires
-chain-at-requires c κs = let s = c .before .before .before .before .before in c .before .before .shape-at .ensures (s .args .words .now) refl .inside
+chain-at-requires c κs =
+    let after-shape-at : tie.After-shape-at = search in
+    let start : tie.Start = search in
+    after-shape-at .shape-at .ensures (start .args .words .now) refl .inside
 
 refused-requires-2 : tie.Need-refused-requires-2
 refused-requires-2 c κs = search needs
 
 returns-2 : tie.Need-returns-2
 returns-2 c =
-    let h = c .before .before .before in
-    let d = h .before in
-    let a = d .before .before .before .before .before .args in
+    let then2 : tie.Then2 = search in
+    let after-chain-at : tie.After-chain-at = search in
+    let else1 : tie.Else1 = search in
+    let start : tie.Start = search in
+    let a = start .args in
     read-refused (a .words .now) (a .bytes .now)
-    (second-refuses (a .words .now) (a .bytes .now) (first d) (h .chain-at .ensures .step .wrong (c .before .if2 .taken)))
+    (second-refuses (a .words .now) (a .bytes .now) (first else1) (after-chain-at .chain-at .ensures .step .wrong (then2 .if2 .taken)))
     (c .refused2 .ensures)
 
 row-count-requires : tie.Need-row-count-requires
-row-count-requires c κs = shape (c .before .before .before .before) .lengths
+row-count-requires c κs =
+    let else1 : tie.Else1 = search in
+    shape (else1) .lengths
 
 array-read-n : tie.Need-array-read-n
 array-read-n c = search needs
 
 rows-at-requires : tie.Need-rows-at-requires
 rows-at-requires c κs =
-    let d = c .before .before .before .before .before in
-    let s = shape d in (
-      c .before .before .before .before .chain-at .ensures .step .inside,
-      omega (arith, c .row-count .ensures, s .few-words, rows-le-words (lens d) (omega (arith, s .held .long)) (s .lengths)),
+    let after-chain-at : tie.After-chain-at = search in
+    let else1 : tie.Else1 = search in
+    let s = shape else1 in (
+      after-chain-at .chain-at .ensures .step .inside,
+      omega (arith, c .row-count .ensures, s .few-words, rows-le-words (lens else1) (omega (arith, s .held .long)) (s .lengths)),
     )
 
 refused-requires-3 : tie.Need-refused-requires-3
@@ -98,58 +120,68 @@ refused-requires-3 c κs = search needs
 
 returns-3 : tie.Need-returns-3
 returns-3 c =
-    let j = c .before .before .before in
-    let k = j .before in
-    let d = k .before .before .before .before .before in
-    let a = d .before .before .before .before .before .args in
-    let bad = j .rows-at .ensures .wrong (not-true (j .rows-at .result .ok) (c .before .if3 .taken)) in
+    let then3 : tie.Then3 = search in
+    let after-rows-at : tie.After-rows-at = search in
+    let after-row-count : tie.After-row-count = search in
+    let else2 : tie.Else2 = search in
+    let else1 : tie.Else1 = search in
+    let start : tie.Start = search in
+    let a = start .args in
+    let bad = after-rows-at .rows-at .ensures .wrong (not-true (after-rows-at .rows-at .result .ok) (then3 .if3 .taken)) in
     read-refused (a .words .now) (a .bytes .now)
-    (rows-refuse (a .words .now) (a .bytes .now) (first d) (second (k .before .before)) (rw (sized k) at bad))
+    (rows-refuse (a .words .now) (a .bytes .now) (first else1) (second (else2)) (rw (sized after-row-count) at bad))
     (c .refused3 .ensures)
 
 store-rows-requires : tie.Need-store-rows-requires
 store-rows-requires c κs =
-    let e = c .before in
-    let k = e .before .before .before in
-    let d = k .before .before .before .before .before in
-    let s = shape d in (
-      k .before .before .before .before .chain-at .ensures .step .inside,
+    let else3 : tie.Else3 = search in
+    let after-row-count : tie.After-row-count = search in
+    let after-chain-at : tie.After-chain-at = search in
+    let else1 : tie.Else1 = search in
+    let s = shape else1 in (
+      after-chain-at .chain-at .ensures .step .inside,
       omega (
         arith,
-        ap (λ (n : ℕ). n * getD (lens d) 3 0) (k .row-count .ensures),
-        ap (λ (n : ℕ). rowCount (lens d) * n) (width-four (lens d) (s .held .long)),
-        rows-volume (lens d) (omega (arith, s .held .long)),
+        ap (λ (n : ℕ). n * getD (lens else1) 3 0) (after-row-count .row-count .ensures),
+        ap (λ (n : ℕ). rowCount (lens else1) * n) (width-four (lens else1) (s .held .long)),
+        rows-volume (lens else1) (omega (arith, s .held .long)),
         s .room,
       ),
-      record { rows = judged e },
+      record { rows = judged else3 },
     )
 
 same-length : tie.Need-same-length
 same-length c =
-    let e = c .before .before .before .before .before in
-    let k = e .before .before .before in
-    ap length (c .before .before .before .store-rows .ensures) ∙ length-sets (c .before .before .before .before .before .before .before .before .before .before .before .before .before .before .before .before .before .before .args .words .now) 0
-    (wordsOf (rowLines 3 (k .row-count .result) (getD (lens (k .before .before .before .before .before)) 3 0) (drop (k .before .before .before .before .chain-at .result .next) (c .before .before .before .before .before .before .before .before .before .before .before .before .before .before .before .before .before .before .args .bytes .now))))
+    let after-store-rows : tie.After-store-rows = search in
+    let after-row-count : tie.After-row-count = search in
+    let after-chain-at : tie.After-chain-at = search in
+    let else1 : tie.Else1 = search in
+    let start : tie.Start = search in
+    ap length (after-store-rows .store-rows .ensures) ∙ length-sets (start .args .words .now) 0
+    (wordsOf (rowLines 3 (after-row-count .row-count .result) (getD (lens (else1)) 3 0) (drop (after-chain-at .chain-at .result .next) (start .args .bytes .now))))
 
 returns-4 : tie.Need-returns-4
 returns-4 c =
-    let e = c .before .before .before .before .before in
-    let k = e .before .before .before in
-    let q = k .before .before in
-    let d = q .before .before .before in
-    let a = d .before .before .before .before .before .args in
-    let s = shape d in
-    let t = q .before .before .chain-at .ensures in
-    let rows = sym (sized k) ∙ judged e in
-    read-accepted (a .words .now) (a .bytes .now) (all-right (a .words .now) (a .bytes .now) (first d) (second q) rows)
-    (rw (t .padded (q .if2 .left), t .counted (q .if2 .left)))
+    let after-store-rows : tie.After-store-rows = search in
+    let else3 : tie.Else3 = search in
+    let after-row-count : tie.After-row-count = search in
+    let else2 : tie.Else2 = search in
+    let after-chain-at : tie.After-chain-at = search in
+    let else1 : tie.Else1 = search in
+    let start : tie.Start = search in
+    let a = start .args in
+    let s = shape else1 in
+    let t = after-chain-at .chain-at .ensures in
+    let rows = sym (sized after-row-count) ∙ judged else3 in
+    read-accepted (a .words .now) (a .bytes .now) (all-right (a .words .now) (a .bytes .now) (first else1) (second else2) rows)
+    (rw (t .padded (else2 .if2 .left), t .counted (else2 .if2 .left)))
     (omega (
       arith,
-      rows-text 3 (rowCount (lens d)) (rowWidth (lens d)) (drop (q .before .before .chain-at .result .next) (a .bytes .now)) rows .long,
-      rows-volume (lens d) (omega (arith, s .held .long)),
+      rows-text 3 (rowCount (lens else1)) (rowWidth (lens else1)) (drop (after-chain-at .chain-at .result .next) (a .bytes .now)) rows .long,
+      rows-volume (lens else1) (omega (arith, s .held .long)),
       s .room,
     ))
-    (c .before .before .before .store-rows .ensures)
+    (after-store-rows .store-rows .ensures)
 
 pub read-spec : {M : Type 1} → statement M
 read-spec =

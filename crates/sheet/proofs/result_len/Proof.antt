@@ -12,57 +12,69 @@ use Rattle.sheet.proofs.result_len.Statement.{statement}
 use Rattle.sheet.proofs.result_len.Tie as tie
 
 lens-len-requires : tie.Need-lens-len-requires
-lens-len-requires c κs = c .before .pre .lengths
+lens-len-requires c κs =
+    let start : tie.Start = search in
+    start .pre .lengths
 
 add-head : tie.Need-add-head
 add-head c =
-    let s = c .before .before in
-    let four : length (s .args .lens) ≡ 4 = omega arith in
-    omega (arith, four, c .lens-len .ensures, fields-few (c .before .before .args .lens))
+    let start : tie.Start = search in
+    let four : length (start .args .lens) ≡ 4 = omega arith in
+    omega (arith, four, c .lens-len .ensures, fields-few (start .args .lens))
 
 digits-of-requires : tie.Need-digits-of-requires
-digits-of-requires c κs = omega (arith, c .before .before .pre .ordered)
+digits-of-requires c κs =
+    let start : tie.Start = search in
+    omega (arith, start .pre .ordered)
 
 add-head-2 : tie.Need-add-head-2
 add-head-2 c =
-    let s = c .before .before .before in
-    let four : length (s .args .lens) ≡ 4 = omega arith in
-    omega (arith, four, c .before .lens-len .ensures, fields-few (c .before .before .before .args .lens), c .digits-of .ensures, decimal-few (c .before .before .before .args .order))
+    let after-lens-len : tie.After-lens-len = search in
+    let start : tie.Start = search in
+    let four : length (start .args .lens) ≡ 4 = omega arith in
+    omega (arith, four, after-lens-len .lens-len .ensures, fields-few (start .args .lens), c .digits-of .ensures, decimal-few (start .args .order))
 
 mul-result : tie.Need-mul-result
 mul-result c =
-    let s = c .before .before .before in
-    let four : length (s .args .lens) ≡ 4 = omega arith in
-    omega (arith, four, s .pre .counted, s .pre .sized, s .pre .few, rows-le-words (s .args .lens) (omega (arith, four)) (s .pre .lengths))
+    let start : tie.Start = search in
+    let four : length (start .args .lens) ≡ 4 = omega arith in
+    omega (arith, four, start .pre .counted, start .pre .sized, start .pre .few, rows-le-words (start .args .lens) (omega (arith, four)) (start .pre .lengths))
 
 add-result : tie.Need-add-result
 add-result c =
-    let s = c .before .before .before in
-    let four : length (s .args .lens) ≡ 4 = omega arith in
-    omega (arith, four, c .before .lens-len .ensures, fields-few (c .before .before .before .args .lens), c .digits-of .ensures, decimal-few (c .before .before .before .args .order), s .pre .counted, s .pre .sized, s .pre .few, rows-le-words (s .args .lens) (omega (arith, four)) (s .pre .lengths))
+    let after-lens-len : tie.After-lens-len = search in
+    let start : tie.Start = search in
+    let four : length (start .args .lens) ≡ 4 = omega arith in
+    omega (arith, four, after-lens-len .lens-len .ensures, fields-few (start .args .lens), c .digits-of .ensures, decimal-few (start .args .order), start .pre .counted, start .pre .sized, start .pre .few, rows-le-words (start .args .lens) (omega (arith, four)) (start .pre .lengths))
 
 words-len-requires : tie.Need-words-len-requires
-words-len-requires c κs = let p = c .before .before .before .pre in (p .room, p .few)
+words-len-requires c κs =
+    let start : tie.Start = search in
+    let p = start .pre in (p .room, p .few)
 
 add-result-2 : tie.Need-add-result-2
 add-result-2 c =
-    let s = c .before .before .before .before in
-    let four : length (s .args .lens) ≡ 4 = omega arith in
-    omega (arith, four, c .before .before .lens-len .ensures, fields-few (c .before .before .before .before .args .lens), c .before .digits-of .ensures, decimal-few (c .before .before .before .before .args .order), s .pre .counted, s .pre .sized, s .pre .few, rows-le-words (s .args .lens) (omega (arith, four)) (s .pre .lengths), c .words-len .ensures, fields-few (take (s .args .size) (s .args .words .now)), length-take-le (s .args .size) (s .args .words .now) (s .pre .room))
+    let after-digits-of : tie.After-digits-of = search in
+    let after-lens-len : tie.After-lens-len = search in
+    let start : tie.Start = search in
+    let four : length (start .args .lens) ≡ 4 = omega arith in
+    omega (arith, four, after-lens-len .lens-len .ensures, fields-few (start .args .lens), after-digits-of .digits-of .ensures, decimal-few (start .args .order), start .pre .counted, start .pre .sized, start .pre .few, rows-le-words (start .args .lens) (omega (arith, four)) (start .pre .lengths), c .words-len .ensures, fields-few (take (start .args .size) (start .args .words .now)), length-take-le (start .args .size) (start .args .words .now) (start .pre .room))
 
 returns : tie.Need-returns
 returns c =
-    let s = c .before .before .before .before in
-    let four : length (s .args .lens) ≡ 4 = omega arith in
-    let ws = ap (λ (n : ℕ). length (fields (take n (s .args .words .now)))) (s .pre .sized) in
+    let after-digits-of : tie.After-digits-of = search in
+    let after-lens-len : tie.After-lens-len = search in
+    let start : tie.Start = search in
+    let four : length (start .args .lens) ≡ 4 = omega arith in
+    let ws = ap (λ (n : ℕ). length (fields (take n (start .args .words .now)))) (start .pre .sized) in
     omega (
       arith,
-      c .before .before .lens-len .ensures,
-      c .before .digits-of .ensures,
+      after-lens-len .lens-len .ensures,
+      after-digits-of .digits-of .ensures,
       c .words-len .ensures,
       ws,
-      s .pre .counted,
-      length-measured (s .args .lens) (s .args .order) (s .args .words .now) (omega (arith, four)),
+      start .pre .counted,
+      length-measured (start .args .lens) (start .args .order) (start .args .words .now) (omega (arith, four)),
     )
 
 pub result-len-spec : {M : Type 1} → statement M

@@ -17,20 +17,30 @@ use Rattle.sheet.proofs.write.Statement.{statement}
 use Rattle.sheet.proofs.write.Tie as tie
 
 good : (c : tie.Else1) → badLength (c .before .before .before .before .args .t1) ≡ false
-good c = sym (c .before .bad-length .ensures) ∙ c .if1 .left
+good c =
+    let after-bad-length : tie.After-bad-length = search in
+    sym (after-bad-length .bad-length .ensures) ∙ c .if1 .left
 
 few : (c : tie.Else2) → volume (c .before .before .before .before .before .before .args .t1) ≤ 1024
-few c = omega (arith, c .before .volume-of .ensures, c .if2 .left)
+few c =
+    let after-volume-of : tie.After-volume-of = search in
+    omega (arith, after-volume-of .volume-of .ensures, c .if2 .left)
 
 enough : (c : tie.Else3) → volume (c .before .before .before .before .before .before .before .args .t1) ≤ length (c .before .before .before .before .before .before .before .args .words .now)
-enough c = omega (arith, c .before .before .volume-of .ensures, c .if3 .left)
+enough c =
+    let after-volume-of : tie.After-volume-of = search in
+    omega (arith, after-volume-of .volume-of .ensures, c .if3 .left)
 
 four : (c : tie.Else5) → length (c .before .before .before .before .before .before .before .before .before .before .before .args .t1) ≡ 4
-four c = let s = c .before .before .before .before .before .before .before .before .before .before .before in omega (arith, s .good)
+four c =
+    let start : tie.Start = search in
+    omega (arith, start .good)
 
 -- the buffer has room for the text
 roomy : (c : tie.Else5) → Room (c .before .before .before .before .before .before .before .before .before .before .before .args .out .now) 0 (resultText (c .before .before .before .before .before .before .before .before .before .before .before .args .t1) (c .before .before .before .before .before .before .before .before .before .before .before .args .order) (c .before .before .before .before .before .before .before .before .before .before .before .args .words .now))
-roomy c = record { fits = omega (arith, c .before .result-len .ensures, c .if5 .left) }
+roomy c =
+    let after-result-len : tie.After-result-len = search in
+    record { fits = omega (arith, after-result-len .result-len .ensures, c .if5 .left) }
 
 bad-length-requires : tie.Need-bad-length-requires
 bad-length-requires c κs = search needs
@@ -40,10 +50,12 @@ nothing-written-requires c κs = search needs
 
 returns : tie.Need-returns
 returns c =
-    let d = c .before in
-    let a = d .before .before .before .before .args in
+    let then1 : tie.Then1 = search in
+    let after-bad-length : tie.After-bad-length = search in
+    let start : tie.Start = search in
+    let a = start .args in
     write-refused (a .t1) (a .order) (a .words .now) (a .out .now) 1 refl (c .nothing-written .ensures)
-    (number-1 (a .t1) (a .order) (a .words .now) (a .out .now) (sym (d .before .bad-length .ensures) ∙ d .if1 .taken))
+    (number-1 (a .t1) (a .order) (a .words .now) (a .out .now) (sym (after-bad-length .bad-length .ensures) ∙ then1 .if1 .taken))
 
 volume-of-requires : tie.Need-volume-of-requires
 volume-of-requires c κs = good c
@@ -53,43 +65,60 @@ nothing-written-requires-2 c κs = search needs
 
 returns-2 : tie.Need-returns-2
 returns-2 c =
-    let d = c .before in
-    let a = d .before .before .before .before .before .before .args in
+    let then2 : tie.Then2 = search in
+    let after-volume-of : tie.After-volume-of = search in
+    let else1 : tie.Else1 = search in
+    let start : tie.Start = search in
+    let a = start .args in
     write-refused (a .t1) (a .order) (a .words .now) (a .out .now) 11 refl (c .nothing-written2 .ensures)
-    (number-11 (a .t1) (a .order) (a .words .now) (a .out .now) (good (d .before .before)) (omega (arith, d .before .volume-of .ensures, d .if2 .taken)))
+    (number-11 (a .t1) (a .order) (a .words .now) (a .out .now) (good (else1)) (omega (arith, after-volume-of .volume-of .ensures, then2 .if2 .taken)))
 
 nothing-written-requires-3 : tie.Need-nothing-written-requires-3
 nothing-written-requires-3 c κs = search needs
 
 returns-3 : tie.Need-returns-3
 returns-3 c =
-    let d = c .before in
-    let a = d .before .before .before .before .before .before .before .args in
+    let then3 : tie.Then3 = search in
+    let else2 : tie.Else2 = search in
+    let after-volume-of : tie.After-volume-of = search in
+    let else1 : tie.Else1 = search in
+    let start : tie.Start = search in
+    let a = start .args in
     write-refused (a .t1) (a .order) (a .words .now) (a .out .now) 3 refl (c .nothing-written3 .ensures)
-    (number-3 (a .t1) (a .order) (a .words .now) (a .out .now) (good (d .before .before .before)) (few (d .before)) (omega (arith, d .before .before .volume-of .ensures, d .if3 .taken)))
+    (number-3 (a .t1) (a .order) (a .words .now) (a .out .now) (good (else1)) (few (else2)) (omega (arith, after-volume-of .volume-of .ensures, then3 .if3 .taken)))
 
 nothing-written-requires-4 : tie.Need-nothing-written-requires-4
 nothing-written-requires-4 c κs = search needs
 
 returns-4 : tie.Need-returns-4
 returns-4 c =
-    let d = c .before in
-    let a = d .before .before .before .before .before .before .before .before .args in
+    let then4 : tie.Then4 = search in
+    let else3 : tie.Else3 = search in
+    let else2 : tie.Else2 = search in
+    let else1 : tie.Else1 = search in
+    let start : tie.Start = search in
+    let a = start .args in
     write-refused (a .t1) (a .order) (a .words .now) (a .out .now) 7 refl (c .nothing-written4 .ensures)
-    (number-7 (a .t1) (a .order) (a .words .now) (a .out .now) (good (d .before .before .before .before)) (few (d .before .before)) (enough (d .before)) (d .if4 .taken))
+    (number-7 (a .t1) (a .order) (a .words .now) (a .out .now) (good (else1)) (few (else2)) (enough (else3)) (then4 .if4 .taken))
 
 row-count-requires : tie.Need-row-count-requires
-row-count-requires c κs = good (c .before .before .before .before)
+row-count-requires c κs =
+    let else1 : tie.Else1 = search in
+    good (else1)
 
 result-len-requires : tie.Need-result-len-requires
 result-len-requires c κs =
-    let d = c .before in
+    let else4 : tie.Else4 = search in
+    let else3 : tie.Else3 = search in
+    let else2 : tie.Else2 = search in
+    let after-volume-of : tie.After-volume-of = search in
+    let else1 : tie.Else1 = search in
     record {
-      lengths = good (d .before .before .before .before);
-      few = d .before .before .if2 .left;
-      room = d .before .if3 .left;
-      ordered = d .if4 .left;
-      sized = d .before .before .before .volume-of .ensures;
+      lengths = good (else1);
+      few = else2 .if2 .left;
+      room = else3 .if3 .left;
+      ordered = else4 .if4 .left;
+      sized = after-volume-of .volume-of .ensures;
       counted = c .row-count .ensures;
     }
 
@@ -98,38 +127,57 @@ nothing-written-requires-5 c κs = search needs
 
 returns-5 : tie.Need-returns-5
 returns-5 c =
-    let d = c .before in
-    let a = d .before .before .before .before .before .before .before .before .before .before .before .args in
+    let then5 : tie.Then5 = search in
+    let after-result-len : tie.After-result-len = search in
+    let else4 : tie.Else4 = search in
+    let else3 : tie.Else3 = search in
+    let else2 : tie.Else2 = search in
+    let else1 : tie.Else1 = search in
+    let start : tie.Start = search in
+    let a = start .args in
     write-refused (a .t1) (a .order) (a .words .now) (a .out .now) 24 refl (c .nothing-written5 .ensures)
-    (number-24 (a .t1) (a .order) (a .words .now) (a .out .now) (good (d .before .before .before .before .before .before .before)) (few (d .before .before .before .before .before)) (enough (d .before .before .before .before)) (d .before .before .before .if4 .left) (omega (arith, d .before .result-len .ensures, d .if5 .taken)))
+    (number-24 (a .t1) (a .order) (a .words .now) (a .out .now) (good (else1)) (few (else2)) (enough (else3)) (else4 .if4 .left) (omega (arith, after-result-len .result-len .ensures, then5 .if5 .taken)))
 
 array-read-result : tie.Need-array-read-result
 array-read-result c = search needs
 
 result-requires : tie.Need-result-requires
 result-requires c κs =
-    let e = c .before in
-    let a = e .before .before .before .before .before .before .before .before .before .before .before .args in
-    let rows = ap (λ (n : ℕ). n * getD (a .t1) 3 0) (e .before .before .row-count .ensures) in
-    let wide = ap (λ (n : ℕ). rowCount (a .t1) * n) (width-four (a .t1) (four e)) in
+    let else5 : tie.Else5 = search in
+    let after-row-count : tie.After-row-count = search in
+    let else4 : tie.Else4 = search in
+    let else3 : tie.Else3 = search in
+    let else1 : tie.Else1 = search in
+    let start : tie.Start = search in
+    let a = start .args in
+    let rows = ap (λ (n : ℕ). n * getD (a .t1) 3 0) (after-row-count .row-count .ensures) in
+    let wide = ap (λ (n : ℕ). rowCount (a .t1) * n) (width-four (a .t1) (four else5)) in
     record {
-      lengths = good (e .before .before .before .before .before .before .before);
-      ordered = omega (arith, e .before .before .before .if4 .left);
-      counted = e .before .before .row-count .ensures;
-      wide = width-four (a .t1) (four e);
-      enough = omega (arith, rows, wide, rows-volume (a .t1) (omega (arith, four e)), enough (e .before .before .before .before));
-      room = roomy e;
+      lengths = good (else1);
+      ordered = omega (arith, else4 .if4 .left);
+      counted = after-row-count .row-count .ensures;
+      wide = width-four (a .t1) (four else5);
+      enough = omega (arith, rows, wide, rows-volume (a .t1) (omega (arith, four else5)), enough (else3));
+      room = roomy else5;
     }
 
 same-length : tie.Need-same-length
-same-length c = put-length (c .before .before .result .ensures)
+same-length c =
+    let after-result : tie.After-result = search in
+    put-length (after-result .result .ensures)
 
 returns-6 : tie.Need-returns-6
 returns-6 c =
-    let e = c .before .before .before .before in
-    let a = e .before .before .before .before .before .before .before .before .before .before .before .args in
-    write-accepted (a .t1) (a .order) (a .words .now) (a .out .now) (c .before .before .result .result)
-    (number-0 (a .t1) (a .order) (a .words .now) (a .out .now) (good (e .before .before .before .before .before .before .before)) (few (e .before .before .before .before .before)) (enough (e .before .before .before .before)) (e .before .before .before .if4 .left) (omega (arith, roomy e .fits))) (omega (arith, roomy e .fits)) (c .before .before .result .ensures)
+    let after-result : tie.After-result = search in
+    let else5 : tie.Else5 = search in
+    let else4 : tie.Else4 = search in
+    let else3 : tie.Else3 = search in
+    let else2 : tie.Else2 = search in
+    let else1 : tie.Else1 = search in
+    let start : tie.Start = search in
+    let a = start .args in
+    write-accepted (a .t1) (a .order) (a .words .now) (a .out .now) (after-result .result .result)
+    (number-0 (a .t1) (a .order) (a .words .now) (a .out .now) (good (else1)) (few (else2)) (enough (else3)) (else4 .if4 .left) (omega (arith, roomy else5 .fits))) (omega (arith, roomy else5 .fits)) (after-result .result .ensures)
 
 pub write-spec : {M : Type 1} → statement M
 write-spec =

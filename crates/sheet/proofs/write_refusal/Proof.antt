@@ -11,22 +11,31 @@ refusal-len-requires c κs = search needs
 
 returns : tie.Need-returns
 returns c =
-    let a = c .before .before .before .args in
-    refusal-short (a .number) (a .place) (a .out .now) (omega (arith, c .before .refusal-len .ensures, c .if1 .taken))
+    let after-refusal-len : tie.After-refusal-len = search in
+    let start : tie.Start = search in
+    let a = start .args in
+    refusal-short (a .number) (a .place) (a .out .now) (omega (arith, after-refusal-len .refusal-len .ensures, c .if1 .taken))
 
 put-refusal-requires : tie.Need-put-refusal-requires
 put-refusal-requires c κs =
-    let s = c .before .before .before .before in
-    (omega arith, omega arith, record { fits = omega (arith, c .before .before .refusal-len .ensures, c .before .if1 .left) })
+    let else1 : tie.Else1 = search in
+    let after-refusal-len : tie.After-refusal-len = search in
+    (omega arith, omega arith, record { fits = omega (arith, after-refusal-len .refusal-len .ensures, else1 .if1 .left) })
 
 same-length : tie.Need-same-length
-same-length c = put-length (c .before .before .put-refusal .ensures)
+same-length c =
+    let after-put-refusal : tie.After-put-refusal = search in
+    put-length (after-put-refusal .put-refusal .ensures)
 
 returns-2 : tie.Need-returns-2
 returns-2 c =
-    let a = c .before .before .before .before .before .before .before .args in
-    refusal-fits (a .number) (a .place) (a .out .now) (c .before .before .put-refusal .result)
-    (omega (arith, c .before .before .before .before .before .refusal-len .ensures, c .before .before .before .before .if1 .left)) (c .before .before .put-refusal .ensures)
+    let after-put-refusal : tie.After-put-refusal = search in
+    let else1 : tie.Else1 = search in
+    let after-refusal-len : tie.After-refusal-len = search in
+    let start : tie.Start = search in
+    let a = start .args in
+    refusal-fits (a .number) (a .place) (a .out .now) (after-put-refusal .put-refusal .result)
+    (omega (arith, after-refusal-len .refusal-len .ensures, else1 .if1 .left)) (after-put-refusal .put-refusal .ensures)
 
 pub write-refusal-spec : {M : Type 1} → statement M
 write-refusal-spec =

@@ -26,7 +26,8 @@ array-share-prefix-bytes c = search needs
 
 slice-aggregate-job : tie.Need-slice-aggregate-job
 slice-aggregate-job c =
-    let i = c .before .before .before .before .read-input in
+    let after-read-input : tie.After-read-input = search in
+    let i = after-read-input .read-input in
     sym (length-take-le (i .result .count) (i .last .0) (i .ensures))
 
 job-requires : tie.Need-job-requires
@@ -37,7 +38,8 @@ array-share-prefix-out c = text-inside (c .job .ensures)
 
 slice-aggregate-write-all : tie.Need-slice-aggregate-write-all
 slice-aggregate-write-all c =
-    let j = c .before .job in
+    let after-job : tie.After-job = search in
+    let j = after-job .job in
     sym (length-take-le (j .result) (j .last .1 .1 .1 .0) (text-inside (j .ensures)))
 
 write-all-requires : tie.Need-write-all-requires

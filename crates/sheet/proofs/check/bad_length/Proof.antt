@@ -28,8 +28,10 @@ array-read-if1 c = search needs
 
 returns : tie.Need-returns Inv-loop μ-loop
 returns c =
-    let l = c .before .before .loop in
-    let lens = c .before .before .before .args .t1 in
+    let at-loop : tie.At-loop Inv-loop μ-loop = search in
+    let start : tie.Start Inv-loop μ-loop = search in
+    let l = at-loop .loop in
+    let lens = start .args .t1 in
     sym (l .inv .1 ∙ some-here outOfRange lens (l .i) (omega arith) (range-zero (getD lens (l .i) 0) (c .if1 .taken)))
 
 mul-if2 : tie.Need-mul-if2 Inv-loop μ-loop
@@ -40,9 +42,12 @@ array-read-if2 c = search needs
 
 returns-2 : tie.Need-returns-2 Inv-loop μ-loop
 returns-2 c =
-    let l = c .before .before .before .loop in
-    let lens = c .before .before .before .before .args .t1 in
-    sym (l .inv .1 ∙ some-here outOfRange lens (l .i) (omega arith) (range-above (getD lens (l .i) 0) (c .before .if1 .left) (c .if2 .taken)))
+    let else1 : tie.Else1 Inv-loop μ-loop = search in
+    let at-loop : tie.At-loop Inv-loop μ-loop = search in
+    let start : tie.Start Inv-loop μ-loop = search in
+    let l = at-loop .loop in
+    let lens = start .args .t1 in
+    sym (l .inv .1 ∙ some-here outOfRange lens (l .i) (omega arith) (range-above (getD lens (l .i) 0) (else1 .if1 .left) (c .if2 .taken)))
 
 add-i : tie.Need-add-i Inv-loop μ-loop
 add-i c = search needs
@@ -52,16 +57,21 @@ loop-less c = search needs
 
 loop-again : tie.Need-loop-again Inv-loop μ-loop
 loop-again c =
-    let l = c .before .before .before .loop in
-    let lens = c .before .before .before .before .args .t1 in (
+    let else1 : tie.Else1 Inv-loop μ-loop = search in
+    let at-loop : tie.At-loop Inv-loop μ-loop = search in
+    let start : tie.Start Inv-loop μ-loop = search in
+    let l = at-loop .loop in
+    let lens = start .args .t1 in (
       omega arith,
-      l .inv .1 ∙ some-later outOfRange lens (l .i) (omega arith) (range-in (getD lens (l .i) 0) (c .before .if1 .left) (c .if2 .left)),
+      l .inv .1 ∙ some-later outOfRange lens (l .i) (omega arith) (range-in (getD lens (l .i) 0) (else1 .if1 .left) (c .if2 .left)),
     )
 
 returns-3 : tie.Need-returns-3 Inv-loop μ-loop
 returns-3 c =
-    let l = c .before .loop in
-    sym (l .inv .1 ∙ some-end outOfRange (c .before .before .args .t1) (l .i) (omega arith))
+    let at-loop : tie.At-loop Inv-loop μ-loop = search in
+    let start : tie.Start Inv-loop μ-loop = search in
+    let l = at-loop .loop in
+    sym (l .inv .1 ∙ some-end outOfRange (start .args .t1) (l .i) (omega arith))
 
 pub bad-length-spec : {M : Type 1} → statement M
 bad-length-spec =

@@ -30,14 +30,16 @@ array-read-if1 c = search needs
 
 returns : tie.Need-returns Inv-loop μ-loop
 returns c =
-    let l = c .before .before .loop in
-    let s = c .before .before .before in
-    let xs = take (s .args .n) (s .args .t1) in
+    let in-loop : tie.In-loop Inv-loop μ-loop = search in
+    let at-loop : tie.At-loop Inv-loop μ-loop = search in
+    let start : tie.Start Inv-loop μ-loop = search in
+    let l = at-loop .loop in
+    let xs = take (start .args .n) (start .args .t1) in
     omega (
       arith,
       l .inv .1,
-      place-here (noSwap 4) xs (l .i) (omega (arith, length-take-le (s .args .n) (s .args .t1) (omega arith)))
-          (rw (getD-take (s .args .n) (s .args .t1) (l .i) 0 (c .before .loop-test .taken)) (lt-ltb 2 (getD (s .args .t1) (l .i) 0) (c .if1 .taken))),
+      place-here (noSwap 4) xs (l .i) (omega (arith, length-take-le (start .args .n) (start .args .t1) (omega arith)))
+          (rw (getD-take (start .args .n) (start .args .t1) (l .i) 0 (in-loop .loop-test .taken)) (lt-ltb 2 (getD (start .args .t1) (l .i) 0) (c .if1 .taken))),
     )
 
 add-i : tie.Need-add-i Inv-loop μ-loop
@@ -48,26 +50,29 @@ loop-less c = search needs
 
 loop-again : tie.Need-loop-again Inv-loop μ-loop
 loop-again c =
-    let l = c .before .before .loop in
-    let s = c .before .before .before in
-    let xs = take (s .args .n) (s .args .t1) in (
+    let in-loop : tie.In-loop Inv-loop μ-loop = search in
+    let at-loop : tie.At-loop Inv-loop μ-loop = search in
+    let start : tie.Start Inv-loop μ-loop = search in
+    let l = at-loop .loop in
+    let xs = take (start .args .n) (start .args .t1) in (
       omega arith,
       omega (
         arith,
         l .inv .1,
-        place-later (noSwap 4) xs (l .i) (omega (arith, length-take-le (s .args .n) (s .args .t1) (omega arith)))
-            (rw (getD-take (s .args .n) (s .args .t1) (l .i) 0 (c .before .loop-test .taken)) (le-ltb 2 (getD (s .args .t1) (l .i) 0) (c .if1 .left))),
+        place-later (noSwap 4) xs (l .i) (omega (arith, length-take-le (start .args .n) (start .args .t1) (omega arith)))
+            (rw (getD-take (start .args .n) (start .args .t1) (l .i) 0 (in-loop .loop-test .taken)) (le-ltb 2 (getD (start .args .t1) (l .i) 0) (c .if1 .left))),
       ),
     )
 
 returns-2 : tie.Need-returns-2 Inv-loop μ-loop
 returns-2 c =
-    let l = c .before .loop in
-    let s = c .before .before in
+    let at-loop : tie.At-loop Inv-loop μ-loop = search in
+    let start : tie.Start Inv-loop μ-loop = search in
+    let l = at-loop .loop in
     omega (
       arith,
       l .inv .1,
-      place-end (noSwap 4) (take (s .args .n) (s .args .t1)) (l .i) (omega (arith, length-take-le (s .args .n) (s .args .t1) (omega arith))),
+      place-end (noSwap 4) (take (start .args .n) (start .args .t1)) (l .i) (omega (arith, length-take-le (start .args .n) (start .args .t1) (omega arith))),
     )
 
 pub first-bad-spec : {M : Type 1} → statement M

@@ -6,16 +6,19 @@ use Rattle.sheet.proofs.field.field_at.Statement.{statement}
 use Rattle.sheet.proofs.field.field_at.Tie as tie
 
 returns : tie.Need-returns
-returns c = let a = c .before .before .args in at-none (field-end (a .bytes .now) (a .at) (c .if1 .taken))
+returns c =
+    let start : tie.Start = search in
+    let a = start .args in at-none (field-end (a .bytes .now) (a .at) (c .if1 .taken))
 
 shared-slice-read-if2 : tie.Need-shared-slice-read-if2
 shared-slice-read-if2 c = search needs
 
 returns-2 : tie.Need-returns-2
 returns-2 c =
-    let e = c .before .before in
-    let a = e .before .before .args in
-    at-none (field-other (a .bytes .now) (a .at) (e .if1 .left) (c .if2 .taken))
+    let else1 : tie.Else1 = search in
+    let start : tie.Start = search in
+    let a = start .args in
+    at-none (field-other (a .bytes .now) (a .at) (else1 .if1 .left) (c .if2 .taken))
 
 add-number-at : tie.Need-add-number-at
 add-number-at c = search needs
@@ -25,9 +28,11 @@ number-at-requires c κs = search needs
 
 returns-3 : tie.Need-returns-3
 returns-3 c =
-    let e = c .before .before .before in
-    let a = e .before .before .args in
-    at-same (field-step (a .bytes .now) (a .at) (e .if1 .left) (c .before .if2 .left)) (c .number-at .ensures)
+    let else2 : tie.Else2 = search in
+    let else1 : tie.Else1 = search in
+    let start : tie.Start = search in
+    let a = start .args in
+    at-same (field-step (a .bytes .now) (a .at) (else1 .if1 .left) (else2 .if2 .left)) (c .number-at .ensures)
 
 pub field-at-spec : {M : Type 1} → statement M
 field-at-spec =

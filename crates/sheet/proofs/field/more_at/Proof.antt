@@ -25,22 +25,28 @@ shared-slice-read-b : tie.Need-shared-slice-read-b Inv-loop μ-loop
 shared-slice-read-b c = search needs
 
 cast-b : tie.Need-cast-b Inv-loop μ-loop
-cast-b c = omega (arith, c .shared-slice-known .given (c .before .before .loop .p))
+cast-b c =
+    let at-loop : tie.At-loop Inv-loop μ-loop = search in
+    omega (arith, c .shared-slice-known .given (at-loop .loop .p))
 
 returns : tie.Need-returns Inv-loop μ-loop
 returns c =
-    let w = c .before .before in
-    let l = w .before .loop in
+    let in-loop : tie.In-loop Inv-loop μ-loop = search in
+    let at-loop : tie.At-loop Inv-loop μ-loop = search in
+    let start : tie.Start Inv-loop μ-loop = search in
+    let l = at-loop .loop in
     at-found (l .p)
-    (l .inv .2 ∙ more-below (w .before .before .args .bytes .now) (l .p) (w .loop-test .taken) (l .value) (c .if1 .taken))
+    (l .inv .2 ∙ more-below (start .args .bytes .now) (l .p) (in-loop .loop-test .taken) (l .value) (c .if1 .taken))
     (l .inv .0)
 
 returns-2 : tie.Need-returns-2 Inv-loop μ-loop
 returns-2 c =
-    let w = c .before .before .before in
-    let l = w .before .loop in
+    let in-loop : tie.In-loop Inv-loop μ-loop = search in
+    let at-loop : tie.At-loop Inv-loop μ-loop = search in
+    let start : tie.Start Inv-loop μ-loop = search in
+    let l = at-loop .loop in
     at-found (l .p)
-    (l .inv .2 ∙ more-above (w .before .before .args .bytes .now) (l .p) (w .loop-test .taken) (l .value) (c .if2 .taken))
+    (l .inv .2 ∙ more-above (start .args .bytes .now) (l .p) (in-loop .loop-test .taken) (l .value) (c .if2 .taken))
     (l .inv .0)
 
 mul-w : tie.Need-mul-w Inv-loop μ-loop
@@ -51,12 +57,16 @@ add-w c = search needs
 
 returns-3 : tie.Need-returns-3 Inv-loop μ-loop
 returns-3 c =
-    let w = c .before .before .before .before in
-    let l = w .before .loop in
+    let else2 : tie.Else2 Inv-loop μ-loop = search in
+    let else1 : tie.Else1 Inv-loop μ-loop = search in
+    let in-loop : tie.In-loop Inv-loop μ-loop = search in
+    let at-loop : tie.At-loop Inv-loop μ-loop = search in
+    let start : tie.Start Inv-loop μ-loop = search in
+    let l = at-loop .loop in
     at-none
     (l .inv .2
-    ∙ more-over (w .before .before .args .bytes .now) (l .p) (w .loop-test .taken) (l .value) (c .before .before .if1 .left)
-    (c .before .if2 .left) (c .if3 .taken))
+    ∙ more-over (start .args .bytes .now) (l .p) (in-loop .loop-test .taken) (l .value) (else1 .if1 .left)
+    (else2 .if2 .left) (c .if3 .taken))
 
 add-p : tie.Need-add-p Inv-loop μ-loop
 add-p c = search needs
@@ -66,19 +76,25 @@ loop-less c = search needs
 
 loop-again : tie.Need-loop-again Inv-loop μ-loop
 loop-again c =
-    let w = c .before .before .before .before in
-    let l = w .before .loop in (
+    let else2 : tie.Else2 Inv-loop μ-loop = search in
+    let else1 : tie.Else1 Inv-loop μ-loop = search in
+    let in-loop : tie.In-loop Inv-loop μ-loop = search in
+    let at-loop : tie.At-loop Inv-loop μ-loop = search in
+    let start : tie.Start Inv-loop μ-loop = search in
+    let l = at-loop .loop in (
       omega arith,
       c .if3 .left,
       l .inv .2
-          ∙ more-step (w .before .before .args .bytes .now) (l .p) (w .loop-test .taken) (l .value) (c .before .before .if1 .left)
-          (c .before .if2 .left) (c .if3 .left),
+          ∙ more-step (start .args .bytes .now) (l .p) (in-loop .loop-test .taken) (l .value) (else1 .if1 .left)
+          (else2 .if2 .left) (c .if3 .left),
     )
 
 returns-4 : tie.Need-returns-4 Inv-loop μ-loop
 returns-4 c =
-    let l = c .before .loop in
-    at-found (l .p) (l .inv .2 ∙ more-end (c .before .before .args .bytes .now) (l .p) (l .value) (c .loop-test .left)) (l .inv .0)
+    let at-loop : tie.At-loop Inv-loop μ-loop = search in
+    let start : tie.Start Inv-loop μ-loop = search in
+    let l = at-loop .loop in
+    at-found (l .p) (l .inv .2 ∙ more-end (start .args .bytes .now) (l .p) (l .value) (c .loop-test .left)) (l .inv .0)
 
 pub more-at-spec : {M : Type 1} → statement M
 more-at-spec =

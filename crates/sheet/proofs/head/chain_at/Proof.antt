@@ -32,36 +32,44 @@ swaps c = numbersOf (readLine chainWord (tabs (bs c)) (bs c))
 found-line : (c : tie.Else1)
     → readLine chainWord (tabs (bs c)) (bs c) ≡ Found.found (swaps c) (drop (c .before .before .line-at .result .next) (c .before .before .before .before .before .before .args .bytes .now))
 found-line c =
-    let l = c .before .before .line-at in
-    let t = c .before .before .before .before .tabs-at in
+    let after-line-at : tie.After-line-at = search in
+    let after-tabs-at : tie.After-tabs-at = search in
+    let l = after-line-at .line-at in
+    let t = after-tabs-at .tabs-at in
     rw (t .ensures) at (l .ensures .right (not-false (l .result .ok) (c .if1 .left)))
 
 counted : (c : tie.Else1) → length (swaps c) ≡ c .before .before .before .before .tabs-at .result
-counted c = line-text chainWord (tabs (bs c)) (bs c) (found-line c) .long ∙ sym (c .before .before .before .before .tabs-at .ensures)
+counted c =
+    let after-tabs-at : tie.After-tabs-at = search in
+    line-text chainWord (tabs (bs c)) (bs c) (found-line c) .long ∙ sym (after-tabs-at .tabs-at .ensures)
 
 fields : (c : tie.Else1)
     → (c .before .before .before .before .before .before .args .at + 5 ≤ length (c .before .before .before .before .before .before .args .bytes .now))
     × (readFields (c .before .before .before .before .tabs-at .result) (drop (c .before .before .before .before .before .before .args .at + 5) (c .before .before .before .before .before .before .args .bytes .now))
     ≡ Found.found (swaps c) (lineFeed ∷ drop (c .before .before .line-at .result .next) (c .before .before .before .before .before .before .args .bytes .now)))
 fields c =
-    let s = c .before .before .before .before .before .before in
-    let f = line-fields (s .args .bytes .now) (s .args .at) chainWord (tabs (bs c)) (s .pre) (found-line c) in
-    (f .0, rw (c .before .before .before .before .tabs-at .ensures) (f .1))
+    let after-tabs-at : tie.After-tabs-at = search in
+    let start : tie.Start = search in
+    let f = line-fields (start .args .bytes .now) (start .args .at) chainWord (tabs (bs c)) (start .pre) (found-line c) in
+    (f .0, rw (after-tabs-at .tabs-at .ensures) (f .1))
 
 -- the swaps that were fetched are those numbers, then zeros
 fetched : (c : tie.After-values-at)
     → c .values-at .result ≡ swaps (c .before .before) ++ replicate (32 - c .before .before .before .before .before .before .tabs-at .result) 0
 fetched c =
+    let else1 : tie.Else1 = search in
+    let after-tabs-at : tie.After-tabs-at = search in
     c .values-at .ensures
-    ∙ ap (λ (x : Found (List ℕ)). numbersOf x ++ replicate (32 - c .before .before .before .before .before .before .tabs-at .result) 0) (fields (c .before .before) .1)
+    ∙ ap (λ (x : Found (List ℕ)). numbersOf x ++ replicate (32 - after-tabs-at .tabs-at .result) 0) (fields (else1) .1)
 
 first : (c : tie.After-first-bad) → c .first-bad .result ≡ firstPlace (noSwap 4) (swaps (c .before .before .before))
 first c =
-    let v = c .before in
-    let d = v .before .before in
-    let n = d .before .before .before .before .tabs-at .result in
-    c .first-bad .ensures ∙ ap (λ (l : List ℕ). firstPlace (noSwap 4) (take n l)) (fetched v)
-    ∙ ap (firstPlace (noSwap 4)) (take-at (swaps d) (replicate (32 - n) 0) n (counted d))
+    let after-values-at : tie.After-values-at = search in
+    let else1 : tie.Else1 = search in
+    let after-tabs-at : tie.After-tabs-at = search in
+    let n = after-tabs-at .tabs-at .result in
+    c .first-bad .ensures ∙ ap (λ (l : List ℕ). firstPlace (noSwap 4) (take n l)) (fetched after-values-at)
+    ∙ ap (firstPlace (noSwap 4)) (take-at (swaps else1) (replicate (32 - n) 0) n (counted else1))
 
 tabs-at-requires : tie.Need-tabs-at-requires
 tabs-at-requires c κs = search needs
@@ -77,26 +85,32 @@ no-chain-requires c κs = search needs
 
 returns : tie.Need-returns
 returns c =
-    let d = c .before .before .before in
-    let t = d .before .before in
-    let s = t .before .before in
-    let bs = drop (s .args .at) (s .args .bytes .now) in
-    let bad : readLine chainWord (t .tabs-at .result) bs ≡ Found.none = d .line-at .ensures .wrong (not-true (d .line-at .result .ok) (c .before .if1 .taken)) in
-    chain-no 10 2 (c .no-chain .ensures) (λ z. omega arith) (chain-form bs (rw (t .tabs-at .ensures) at bad))
+    let then1 : tie.Then1 = search in
+    let after-line-at : tie.After-line-at = search in
+    let after-tabs-at : tie.After-tabs-at = search in
+    let start : tie.Start = search in
+    let bs = drop (start .args .at) (start .args .bytes .now) in
+    let bad : readLine chainWord (after-tabs-at .tabs-at .result) bs ≡ Found.none = after-line-at .line-at .ensures .wrong (not-true (after-line-at .line-at .result .ok) (then1 .if1 .taken)) in
+    chain-no 10 2 (c .no-chain .ensures) (λ z. omega arith) (chain-form bs (rw (after-tabs-at .tabs-at .ensures) at bad))
 
 no-chain-requires-2 : tie.Need-no-chain-requires-2
 no-chain-requires-2 c κs = search needs
 
 returns-2 : tie.Need-returns-2
 returns-2 c =
-    let d = c .before .before in
-    chain-no 5 0 (c .no-chain2 .ensures) (λ z. omega arith) (chain-long (bs d) (found-line d) (omega (arith, counted d, c .before .if2 .taken)))
+    let then2 : tie.Then2 = search in
+    let else1 : tie.Else1 = search in
+    chain-no 5 0 (c .no-chain2 .ensures) (λ z. omega arith) (chain-long (bs else1) (found-line else1) (omega (arith, counted else1, then2 .if2 .taken)))
 
 add-values-at : tie.Need-add-values-at
-add-values-at c = omega (arith, fields (c .before) .0)
+add-values-at c =
+    let else1 : tie.Else1 = search in
+    omega (arith, fields (else1) .0)
 
 values-at-requires : tie.Need-values-at-requires
-values-at-requires c κs = (omega (arith, c .if2 .left), record { found = rw (fields (c .before) .1) })
+values-at-requires c κs =
+    let else1 : tie.Else1 = search in
+    (omega (arith, c .if2 .left), record { found = rw (fields (else1) .1) })
 
 first-bad-requires : tie.Need-first-bad-requires
 first-bad-requires c κs = search needs
@@ -106,29 +120,33 @@ no-chain-requires-3 c κs = search needs
 
 returns-3 : tie.Need-returns-3
 returns-3 c =
-    let k = c .before .before in
-    let v = k .before in
-    let d = v .before .before in
-    let bad : badSwap 4 (swaps d) ≡ true =
-    some-place (noSwap 4) (swaps d) ∙ lt-ltb (firstPlace (noSwap 4) (swaps d)) (length (swaps d)) (omega (arith, counted d, first k, c .before .if3 .taken)) in
-    chain-no 6 (k .first-bad .result) (c .no-chain3 .ensures) (λ z. omega arith)
-    (chain-bad (bs d) (found-line d) (omega (arith, counted d, v .before .if2 .left)) bad ∙ ap (Step.refuse 6) (sym (first k)))
+    let then3 : tie.Then3 = search in
+    let after-first-bad : tie.After-first-bad = search in
+    let else2 : tie.Else2 = search in
+    let else1 : tie.Else1 = search in
+    let bad : badSwap 4 (swaps else1) ≡ true =
+    some-place (noSwap 4) (swaps else1) ∙ lt-ltb (firstPlace (noSwap 4) (swaps else1)) (length (swaps else1)) (omega (arith, counted else1, first after-first-bad, then3 .if3 .taken)) in
+    chain-no 6 (after-first-bad .first-bad .result) (c .no-chain3 .ensures) (λ z. omega arith)
+    (chain-bad (bs else1) (found-line else1) (omega (arith, counted else1, else2 .if2 .left)) bad ∙ ap (Step.refuse 6) (sym (first after-first-bad)))
 
 returns-4 : tie.Need-returns-4
 returns-4 c =
-    let k = c .before in
-    let v = k .before in
-    let d = v .before .before in
-    let next = d .before .before .line-at .result .next in
-    let none : badSwap 4 (swaps d) ≡ false =
-    some-place (noSwap 4) (swaps d) ∙ le-ltb (firstPlace (noSwap 4) (swaps d)) (length (swaps d)) (omega (arith, counted d, first k, c .if3 .left)) in
-    let e : chainLine (bs d) ≡ Step.go (swaps d) (drop next (d .before .before .before .before .before .before .args .bytes .now)) =
-    chain-right (bs d) (found-line d) (omega (arith, counted d, v .before .if2 .left)) none in
-    let w : wordsOf (chainLine (bs d)) ≡ swaps d = rw e in
+    let after-first-bad : tie.After-first-bad = search in
+    let after-values-at : tie.After-values-at = search in
+    let else2 : tie.Else2 = search in
+    let else1 : tie.Else1 = search in
+    let after-line-at : tie.After-line-at = search in
+    let start : tie.Start = search in
+    let next = after-line-at .line-at .result .next in
+    let none : badSwap 4 (swaps else1) ≡ false =
+    some-place (noSwap 4) (swaps else1) ∙ le-ltb (firstPlace (noSwap 4) (swaps else1)) (length (swaps else1)) (omega (arith, counted else1, first after-first-bad, c .if3 .left)) in
+    let e : chainLine (bs else1) ≡ Step.go (swaps else1) (drop next (start .args .bytes .now)) =
+    chain-right (bs else1) (found-line else1) (omega (arith, counted else1, else2 .if2 .left)) none in
+    let w : wordsOf (chainLine (bs else1)) ≡ swaps else1 = rw e in
     record {
-      step = step-go next (rw e) (d .before .before .line-at .ensures .inside);
-      padded = λ z. rw w (fetched v ∙ ap (λ (n : ℕ). swaps d ++ replicate (32 - n) 0) (sym (counted d)));
-      counted = λ z. rw w (sym (counted d));
+      step = step-go next (rw e) (after-line-at .line-at .ensures .inside);
+      padded = λ z. rw w (fetched after-values-at ∙ ap (λ (n : ℕ). swaps else1 ++ replicate (32 - n) 0) (sym (counted else1)));
+      counted = λ z. rw w (sym (counted else1));
     }
 
 pub chain-at-spec : {M : Type 1} → statement M

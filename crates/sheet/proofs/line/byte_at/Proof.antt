@@ -12,7 +12,9 @@ returns : tie.Need-returns
 returns c = search needs
 
 returns-2 : tie.Need-returns-2
-returns-2 c = sym (List·getD-eq-default (c .before .args .bytes .now) 0 {n = c .before .args .p} (c .if1 .left))
+returns-2 c =
+    let start : tie.Start = search in
+    sym (List·getD-eq-default (start .args .bytes .now) 0 {n = start .args .p} (c .if1 .left))
 
 pub byte-at-spec : {M : Type 1} → statement M
 byte-at-spec = tie.close (tie.spec shared-slice-read-result returns returns-2)

@@ -22,17 +22,21 @@ abbrev μ-loop : tie.MeasureT-loop
     n - i
 
 loop-holds : tie.Need-loop-holds Inv-loop μ-loop
-loop-holds c = let a = c .before .args in (omega arith, c .before .pre, got (no-field (drop (a .at) (a .bytes .now))))
+loop-holds c =
+    let start : tie.Start Inv-loop μ-loop = search in
+    let a = start .args in (omega arith, start .pre, got (no-field (drop (a .at) (a .bytes .now))))
 
 field-at-requires : tie.Need-field-at-requires Inv-loop μ-loop
 field-at-requires c κs = search needs
 
 returns : tie.Need-returns Inv-loop μ-loop
 returns c =
-    let f = c .before .before in
-    let l = f .before .before .loop in
-    let a = f .before .before .before .before .args in
-    let bad = f .field-at .ensures .wrong (not-true (f .field-at .result .ok) (c .if1 .taken)) in
+    let after-field-at : tie.After-field-at Inv-loop μ-loop = search in
+    let at-loop : tie.At-loop Inv-loop μ-loop = search in
+    let start : tie.Start Inv-loop μ-loop = search in
+    let l = at-loop .loop in
+    let a = start .args in
+    let bad = after-field-at .field-at .ensures .wrong (not-true (after-field-at .field-at .result .ok) (c .if1 .taken)) in
     at-none (fields-stop (l .i) (a .n) (drop (a .at) (a .bytes .now)) (l .inv .2) bad (omega arith))
 
 add-i : tie.Need-add-i Inv-loop μ-loop
@@ -43,16 +47,20 @@ loop-less c = search needs
 
 loop-again : tie.Need-loop-again Inv-loop μ-loop
 loop-again c =
-    let f = c .before .before in
-    let l = f .before .before .loop in
-    let a = f .before .before .before .before .args in
-    let good = f .field-at .ensures .right (not-false (f .field-at .result .ok) (c .if1 .left)) in
-    (omega arith, f .field-at .ensures .inside, got (fields-more (l .i) (drop (a .at) (a .bytes .now)) (l .inv .2) good))
+    let after-field-at : tie.After-field-at Inv-loop μ-loop = search in
+    let at-loop : tie.At-loop Inv-loop μ-loop = search in
+    let start : tie.Start Inv-loop μ-loop = search in
+    let l = at-loop .loop in
+    let a = start .args in
+    let good = after-field-at .field-at .ensures .right (not-false (after-field-at .field-at .result .ok) (c .if1 .left)) in
+    (omega arith, after-field-at .field-at .ensures .inside, got (fields-more (l .i) (drop (a .at) (a .bytes .now)) (l .inv .2) good))
 
 returns-2 : tie.Need-returns-2 Inv-loop μ-loop
 returns-2 c =
-    let l = c .before .loop in
-    let a = c .before .before .before .args in
+    let at-loop : tie.At-loop Inv-loop μ-loop = search in
+    let start : tie.Start Inv-loop μ-loop = search in
+    let l = at-loop .loop in
+    let a = start .args in
     let e : l .i ≡ a .n = omega arith in
     at-found (l .p) (rw (← e) (l .inv .2)) (l .inv .1)
 

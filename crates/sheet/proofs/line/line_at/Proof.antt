@@ -21,14 +21,16 @@ use Rattle.sheet.proofs.line.line_at.Tie as tie
 stands : (c : tie.Else1)
     → same (take (length (c .before .before .before .before .args .word .now)) (drop (c .before .before .before .before .args .at) (c .before .before .before .before .args .bytes .now)))
     (c .before .before .before .before .args .word .now) ≡ true
-stands c = sym (c .before .word-at .ensures) ∙ not-false (c .before .word-at .result) (c .if1 .left)
+stands c =
+    let after-word-at : tie.After-word-at = search in
+    sym (after-word-at .word-at .ensures) ∙ not-false (after-word-at .word-at .result) (c .if1 .left)
 
 inside : (c : tie.Else1)
     → c .before .before .before .before .args .at + length (c .before .before .before .before .args .word .now)
     ≤ length (c .before .before .before .before .args .bytes .now)
 inside c =
-    let s = c .before .before .before .before in
-    word-inside (s .args .bytes .now) (s .args .at) (s .args .word .now) (s .pre) (stands c)
+    let start : tie.Start = search in
+    word-inside (start .args .bytes .now) (start .args .at) (start .args .word .now) (start .pre) (stands c)
 
 -- the numbers of the line, and that what follows them is left to be closed
 abbrev numbers : tie.Else2 → List ℕ
@@ -41,20 +43,24 @@ fielded : (c : tie.Else2)
     (drop (c .before .before .before .before .before .before .before .args .at) (c .before .before .before .before .before .before .before .args .bytes .now))
     ≡ closed (numbers c) (drop (c .before .before .fields-at .result .next) (c .before .before .before .before .before .before .before .args .bytes .now))
 fielded c =
-    let f = c .before .before in
-    let a = f .before .before .before .before .before .args in
-    let good = f .fields-at .ensures .right (not-false (f .fields-at .result .ok) (c .if2 .left)) in
-    past-word (a .bytes .now) (a .at) (a .word .now) (a .n) (stands (f .before)) ∙ rw good
+    let after-fields-at : tie.After-fields-at = search in
+    let else1 : tie.Else1 = search in
+    let start : tie.Start = search in
+    let a = start .args in
+    let good = after-fields-at .fields-at .ensures .right (not-false (after-fields-at .fields-at .result .ok) (c .if2 .left)) in
+    past-word (a .bytes .now) (a .at) (a .word .now) (a .n) (stands (else1)) ∙ rw good
 
 -- the LF stands behind the fields
 feed : (c : tie.Else3)
     → (getD (c .before .before .before .before .before .before .before .before .before .args .bytes .now) (c .before .before .before .before .fields-at .result .next) 0 ≡ lineFeed)
     × (c .before .before .before .before .fields-at .result .next < length (c .before .before .before .before .before .before .before .before .before .args .bytes .now))
 feed c =
-    let d = c .before .before in
-    let bytes = d .before .before .before .before .before .before .before .args .bytes .now in
-    let p = d .before .before .fields-at .result .next in
-    let e : getD bytes p 0 ≡ lineFeed = sym (c .before .byte-at .ensures) ∙ c .if3 .left in
+    let after-byte-at : tie.After-byte-at = search in
+    let after-fields-at : tie.After-fields-at = search in
+    let start : tie.Start = search in
+    let bytes = start .args .bytes .now in
+    let p = after-fields-at .fields-at .result .next in
+    let e : getD bytes p 0 ≡ lineFeed = sym (after-byte-at .byte-at .ensures) ∙ c .if3 .left in
     (e, byte-inside bytes p e (omega arith))
 
 word-at-requires : tie.Need-word-at-requires
@@ -62,9 +68,10 @@ word-at-requires c κs = search needs
 
 returns : tie.Need-returns
 returns c =
-    let w = c .before in
-    let a = w .before .before .before .args in
-    at-none (no-word (a .bytes .now) (a .at) (a .word .now) (a .n) (sym (w .word-at .ensures) ∙ not-true (w .word-at .result) (c .if1 .taken)))
+    let after-word-at : tie.After-word-at = search in
+    let start : tie.Start = search in
+    let a = start .args in
+    at-none (no-word (a .bytes .now) (a .at) (a .word .now) (a .n) (sym (after-word-at .word-at .ensures) ∙ not-true (after-word-at .word-at .result) (c .if1 .taken)))
 
 add-fields-at : tie.Need-add-fields-at
 add-fields-at c = omega (arith, inside c)
@@ -74,32 +81,37 @@ fields-at-requires c κs = inside c
 
 returns-2 : tie.Need-returns-2
 returns-2 c =
-    let f = c .before .before in
-    let e = f .before in
-    let a = e .before .before .before .before .args in
-    let bad = f .fields-at .ensures .wrong (not-true (f .fields-at .result .ok) (c .if2 .taken)) in
-    at-none (past-word (a .bytes .now) (a .at) (a .word .now) (a .n) (stands e) ∙ rw bad)
+    let after-fields-at : tie.After-fields-at = search in
+    let else1 : tie.Else1 = search in
+    let start : tie.Start = search in
+    let a = start .args in
+    let bad = after-fields-at .fields-at .ensures .wrong (not-true (after-fields-at .fields-at .result .ok) (c .if2 .taken)) in
+    at-none (past-word (a .bytes .now) (a .at) (a .word .now) (a .n) (stands else1) ∙ rw bad)
 
 byte-at-requires : tie.Need-byte-at-requires
 byte-at-requires c κs = search needs
 
 returns-3 : tie.Need-returns-3
 returns-3 c =
-    let e = c .before in
-    let d = e .before in
-    let a = d .before .before .before .before .before .before .before .args in
-    at-none (fielded d ∙ not-closed (a .bytes .now) (d .before .before .fields-at .result .next) (numbers d) (λ z. c .if3 .taken (e .byte-at .ensures ∙ z)))
+    let after-byte-at : tie.After-byte-at = search in
+    let else2 : tie.Else2 = search in
+    let after-fields-at : tie.After-fields-at = search in
+    let start : tie.Start = search in
+    let a = start .args in
+    at-none (fielded else2 ∙ not-closed (a .bytes .now) (after-fields-at .fields-at .result .next) (numbers else2) (λ z. c .if3 .taken (after-byte-at .byte-at .ensures ∙ z)))
 
 add-t10 : tie.Need-add-t10
 add-t10 c = omega (arith, feed c .1)
 
 returns-4 : tie.Need-returns-4
 returns-4 c =
-    let d = c .before .before in
-    let p = d .before .before .fields-at .result .next in
-    let a = d .before .before .before .before .before .before .before .args in
+    let else2 : tie.Else2 = search in
+    let after-fields-at : tie.After-fields-at = search in
+    let start : tie.Start = search in
+    let p = after-fields-at .fields-at .result .next in
+    let a = start .args in
     at-found (p + 1)
-    (got (fielded d ∙ closed-feed (a .bytes .now) p (feed c .1) (numbers d) (feed c .0)))
+    (got (fielded else2 ∙ closed-feed (a .bytes .now) p (feed c .1) (numbers else2) (feed c .0)))
     (omega (arith, feed c .1))
 
 pub line-at-spec : {M : Type 1} → statement M

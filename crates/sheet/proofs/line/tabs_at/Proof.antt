@@ -26,9 +26,11 @@ shared-slice-read-b c = search needs
 
 returns : tie.Need-returns Inv-loop μ-loop
 returns c =
-    let w = c .before .before in
-    let l = w .before .loop in
-    omega (arith, l .inv .2, tabs-feed (w .before .before .args .bytes .now) (l .p) (w .loop-test .taken) (c .if1 .taken))
+    let in-loop : tie.In-loop Inv-loop μ-loop = search in
+    let at-loop : tie.At-loop Inv-loop μ-loop = search in
+    let start : tie.Start Inv-loop μ-loop = search in
+    let l = at-loop .loop in
+    omega (arith, l .inv .2, tabs-feed (start .args .bytes .now) (l .p) (in-loop .loop-test .taken) (c .if1 .taken))
 
 add-count : tie.Need-add-count Inv-loop μ-loop
 add-count c = search needs
@@ -41,18 +43,23 @@ loop-less c = search needs
 
 loop-again : tie.Need-loop-again Inv-loop μ-loop
 loop-again c =
-    let w = c .before .before .before in
-    let l = w .before .loop in
-    let bytes = w .before .before .args .bytes .now in
+    let else1 : tie.Else1 Inv-loop μ-loop = search in
+    let in-loop : tie.In-loop Inv-loop μ-loop = search in
+    let at-loop : tie.At-loop Inv-loop μ-loop = search in
+    let start : tie.Start Inv-loop μ-loop = search in
+    let l = at-loop .loop in
+    let bytes = start .args .bytes .now in
     ⊎-elim
-    (λ h. (omega arith, omega arith, omega (arith, h, l .inv .2, tabs-tab bytes (l .p) (w .loop-test .taken) (h .0 .taken))))
-    (λ h. (omega arith, omega arith, omega (arith, h, l .inv .2, tabs-other bytes (l .p) (w .loop-test .taken) (c .before .if1 .left) (h .0 .left))))
+    (λ h. (omega arith, omega arith, omega (arith, h, l .inv .2, tabs-tab bytes (l .p) (in-loop .loop-test .taken) (h .0 .taken))))
+    (λ h. (omega arith, omega arith, omega (arith, h, l .inv .2, tabs-other bytes (l .p) (in-loop .loop-test .taken) (else1 .if1 .left) (h .0 .left))))
     (c .if2 .came)
 
 returns-2 : tie.Need-returns-2 Inv-loop μ-loop
 returns-2 c =
-    let l = c .before .loop in
-    omega (arith, l .inv .2, tabs-end (c .before .before .args .bytes .now) (l .p) (c .loop-test .left))
+    let at-loop : tie.At-loop Inv-loop μ-loop = search in
+    let start : tie.Start Inv-loop μ-loop = search in
+    let l = at-loop .loop in
+    omega (arith, l .inv .2, tabs-end (start .args .bytes .now) (l .p) (c .loop-test .left))
 
 pub tabs-at-spec : {M : Type 1} → statement M
 tabs-at-spec =

@@ -22,10 +22,14 @@ sub-if1 : tie.Need-sub-if1 Inv-loop μ-loop
 sub-if1 c = search needs
 
 returns : tie.Need-returns Inv-loop μ-loop
-returns c = let a = c .before .args in sym (word-short (a .bytes .now) (a .at) (a .word .now) (c .before .pre) (c .if1 .taken))
+returns c =
+    let start : tie.Start Inv-loop μ-loop = search in
+    let a = start .args in sym (word-short (a .bytes .now) (a .at) (a .word .now) (start .pre) (c .if1 .taken))
 
 loop-holds : tie.Need-loop-holds Inv-loop μ-loop
-loop-holds c = let a = c .before .args in (omega arith, refl, omega arith, word-start (a .bytes .now) (a .at) (a .word .now))
+loop-holds c =
+    let start : tie.Start Inv-loop μ-loop = search in
+    let a = start .args in (omega arith, refl, omega arith, word-start (a .bytes .now) (a .at) (a .word .now))
 
 add-if2 : tie.Need-add-if2 Inv-loop μ-loop
 add-if2 c = search needs
@@ -38,9 +42,10 @@ shared-slice-read-if2-2 c = search needs
 
 returns-2 : tie.Need-returns-2 Inv-loop μ-loop
 returns-2 c =
-    let w = c .before .before .before in
-    let l = w .before .loop in
-    let a = w .before .before .before .args in
+    let at-loop : tie.At-loop Inv-loop μ-loop = search in
+    let start : tie.Start Inv-loop μ-loop = search in
+    let l = at-loop .loop in
+    let a = start .args in
     sym (l .inv .3 ∙ word-other (a .bytes .now) (a .at) (a .word .now) (l .i) (omega arith) (omega arith) (c .if2 .taken))
 
 add-i : tie.Need-add-i Inv-loop μ-loop
@@ -51,15 +56,18 @@ loop-less c = search needs
 
 loop-again : tie.Need-loop-again Inv-loop μ-loop
 loop-again c =
-    let w = c .before .before .before in
-    let l = w .before .loop in
-    let a = w .before .before .before .args in
+    let at-loop : tie.At-loop Inv-loop μ-loop = search in
+    let start : tie.Start Inv-loop μ-loop = search in
+    let l = at-loop .loop in
+    let a = start .args in
     (omega arith, l .inv .1, l .inv .2, l .inv .3 ∙ word-step (a .bytes .now) (a .at) (a .word .now) (l .i) (omega arith) (omega arith) (c .if2 .left))
 
 returns-3 : tie.Need-returns-3 Inv-loop μ-loop
 returns-3 c =
-    let l = c .before .loop in
-    let a = c .before .before .before .args in
+    let at-loop : tie.At-loop Inv-loop μ-loop = search in
+    let start : tie.Start Inv-loop μ-loop = search in
+    let l = at-loop .loop in
+    let a = start .args in
     let e : l .i ≡ length (a .word .now) = omega arith in
     sym (l .inv .3 ∙ ap (agrees (a .bytes .now) (a .at) (a .word .now)) e ∙ word-end (a .bytes .now) (a .at) (a .word .now))
 

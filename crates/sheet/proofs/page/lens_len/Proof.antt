@@ -31,15 +31,23 @@ array-read-digits-of : tie.Need-array-read-digits-of Inv-loop μ-loop
 array-read-digits-of c = search needs
 
 digits-of-requires : tie.Need-digits-of-requires Inv-loop μ-loop
-digits-of-requires c κs = let s = c .before .before in omega (arith, length-bound (s .args .t1) (c .before .loop .i) (omega arith) (s .pre))
+digits-of-requires c κs =
+    let at-loop : tie.At-loop Inv-loop μ-loop = search in
+    let start : tie.Start Inv-loop μ-loop = search in
+    omega (arith, length-bound (start .args .t1) (at-loop .loop .i) (omega arith) (start .pre))
 
 add-total : tie.Need-add-total Inv-loop μ-loop
-add-total c = omega (arith, c .digits-of .ensures, decimal-few (getD (c .before .before .before .args .t1) (c .before .before .loop .i) 0))
+add-total c =
+    let at-loop : tie.At-loop Inv-loop μ-loop = search in
+    let start : tie.Start Inv-loop μ-loop = search in
+    omega (arith, c .digits-of .ensures, decimal-few (getD (start .args .t1) (at-loop .loop .i) 0))
 
 add-total-2 : tie.Need-add-total-2 Inv-loop μ-loop
 add-total-2 c =
-    let lens = c .before .before .before .args .t1 in
-    let l = c .before .before .loop in
+    let at-loop : tie.At-loop Inv-loop μ-loop = search in
+    let start : tie.Start Inv-loop μ-loop = search in
+    let lens = start .args .t1 in
+    let l = at-loop .loop in
     omega (arith, c .digits-of .ensures, decimal-few (getD lens (l .i) 0), l .inv .1, fields-few lens)
 
 add-i : tie.Need-add-i Inv-loop μ-loop
@@ -50,14 +58,18 @@ loop-less c = search needs
 
 loop-again : tie.Need-loop-again Inv-loop μ-loop
 loop-again c =
-    let lens = c .before .before .before .args .t1 in
-    let l = c .before .before .loop in
+    let at-loop : tie.At-loop Inv-loop μ-loop = search in
+    let start : tie.Start Inv-loop μ-loop = search in
+    let lens = start .args .t1 in
+    let l = at-loop .loop in
     (omega arith, omega (arith, c .digits-of .ensures, l .inv .1, measure-next lens (l .i) (omega arith)))
 
 returns : tie.Need-returns Inv-loop μ-loop
 returns c =
-    let l = c .before .loop in
-    omega (arith, l .inv .1, ap length (no-fields (c .before .before .args .t1) (l .i) (omega arith)))
+    let at-loop : tie.At-loop Inv-loop μ-loop = search in
+    let start : tie.Start Inv-loop μ-loop = search in
+    let l = at-loop .loop in
+    omega (arith, l .inv .1, ap length (no-fields (start .args .t1) (l .i) (omega arith)))
 
 pub lens-len-spec : {M : Type 1} → statement M
 lens-len-spec =

@@ -12,20 +12,33 @@ use Rattle.sheet.proofs.page.put_order.Tie as tie
 -- the line is put
 whole : tie.Need-returns
 whole c =
-    line-put orderWord (c .before .before .before .before .before .before .before .before .before .before .before .before .before .before .args .order ∷ []) (c .before .before .before .before .before .before .before .before .before .before .before .before .before .before .pre .1) (c .before .before .before .before .before .before .before .before .before .before .put-word .ensures) (rw (fields-one (c .before .before .before .before .before .before .before .before .before .before .before .before .before .before .args .order)) (c .before .before .before .before .before .before .put-field .ensures))
-    (c .before .before .put-end .ensures)
+    let after-put-end : tie.After-put-end = search in
+    let after-put-field : tie.After-put-field = search in
+    let after-put-word : tie.After-put-word = search in
+    let start : tie.Start = search in
+    line-put orderWord (start .args .order ∷ []) (start .pre .1) (after-put-word .put-word .ensures) (rw (fields-one (start .args .order)) (after-put-field .put-field .ensures))
+    (after-put-end .put-end .ensures)
 
 slice-aggregate-put-word : tie.Need-slice-aggregate-put-word
 slice-aggregate-put-word c = refl
 
 put-word-requires : tie.Need-put-word-requires
-put-word-requires c κs = word-room orderWord (c .before .before .before .args .order ∷ []) (c .before .before .before .pre .1)
+put-word-requires c κs =
+    let start : tie.Start = search in
+    word-room orderWord (start .args .order ∷ []) (start .pre .1)
 
 put-field-requires : tie.Need-put-field-requires
-put-field-requires c κs = (c .before .before .before .before .before .before .before .pre .0, rw (fields-one (c .before .before .before .before .before .before .before .args .order)) at (fields-room orderWord (c .before .before .before .before .before .before .before .args .order ∷ []) (c .before .before .before .before .before .before .before .pre .1) (c .before .before .before .put-word .ensures)))
+put-field-requires c κs =
+    let after-put-word : tie.After-put-word = search in
+    let start : tie.Start = search in
+    (start .pre .0, rw (fields-one (start .args .order)) at (fields-room orderWord (start .args .order ∷ []) (start .pre .1) (after-put-word .put-word .ensures)))
 
 put-end-requires : tie.Need-put-end-requires
-put-end-requires c κs = end-room orderWord (c .before .before .before .before .before .before .before .before .before .before .before .args .order ∷ []) (c .before .before .before .before .before .before .before .before .before .before .before .pre .1) (c .before .before .before .before .before .before .before .put-word .ensures) (rw (fields-one (c .before .before .before .before .before .before .before .before .before .before .before .args .order)) (c .before .before .before .put-field .ensures))
+put-end-requires c κs =
+    let after-put-field : tie.After-put-field = search in
+    let after-put-word : tie.After-put-word = search in
+    let start : tie.Start = search in
+    end-room orderWord (start .args .order ∷ []) (start .pre .1) (after-put-word .put-word .ensures) (rw (fields-one (start .args .order)) (after-put-field .put-field .ensures))
 
 same-length : tie.Need-same-length
 same-length c = put-length (whole c)

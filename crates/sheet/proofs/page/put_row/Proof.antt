@@ -11,20 +11,33 @@ use Rattle.sheet.proofs.page.put_row.Tie as tie
 -- the line is put
 whole : tie.Need-returns
 whole c =
-    line-put rowWord (take (c .before .before .before .before .before .before .before .before .before .before .before .before .before .before .before .args .n) (drop (c .before .before .before .before .before .before .before .before .before .before .before .before .before .before .before .args .from) (c .before .before .before .before .before .before .before .before .before .before .before .before .before .before .before .args .words .now))) (c .before .before .before .before .before .before .before .before .before .before .before .before .before .before .before .pre .1) (c .before .before .before .before .before .before .before .before .before .before .put-word .ensures) (c .before .before .before .before .before .before .put-words .ensures)
-    (c .before .before .put-end .ensures)
+    let after-put-end : tie.After-put-end = search in
+    let after-put-words : tie.After-put-words = search in
+    let after-put-word : tie.After-put-word = search in
+    let start : tie.Start = search in
+    line-put rowWord (take (start .args .n) (drop (start .args .from) (start .args .words .now))) (start .pre .1) (after-put-word .put-word .ensures) (after-put-words .put-words .ensures)
+    (after-put-end .put-end .ensures)
 
 slice-aggregate-put-word : tie.Need-slice-aggregate-put-word
 slice-aggregate-put-word c = refl
 
 put-word-requires : tie.Need-put-word-requires
-put-word-requires c κs = word-room rowWord (take (c .before .before .before .before .args .n) (drop (c .before .before .before .before .args .from) (c .before .before .before .before .args .words .now))) (c .before .before .before .before .pre .1)
+put-word-requires c κs =
+    let start : tie.Start = search in
+    word-room rowWord (take (start .args .n) (drop (start .args .from) (start .args .words .now))) (start .pre .1)
 
 put-words-requires : tie.Need-put-words-requires
-put-words-requires c κs = (c .before .before .before .before .before .before .before .before .pre .0, fields-room rowWord (take (c .before .before .before .before .before .before .before .before .args .n) (drop (c .before .before .before .before .before .before .before .before .args .from) (c .before .before .before .before .before .before .before .before .args .words .now))) (c .before .before .before .before .before .before .before .before .pre .1) (c .before .before .before .put-word .ensures))
+put-words-requires c κs =
+    let after-put-word : tie.After-put-word = search in
+    let start : tie.Start = search in
+    (start .pre .0, fields-room rowWord (take (start .args .n) (drop (start .args .from) (start .args .words .now))) (start .pre .1) (after-put-word .put-word .ensures))
 
 put-end-requires : tie.Need-put-end-requires
-put-end-requires c κs = end-room rowWord (take (c .before .before .before .before .before .before .before .before .before .before .before .before .args .n) (drop (c .before .before .before .before .before .before .before .before .before .before .before .before .args .from) (c .before .before .before .before .before .before .before .before .before .before .before .before .args .words .now))) (c .before .before .before .before .before .before .before .before .before .before .before .before .pre .1) (c .before .before .before .before .before .before .before .put-word .ensures) (c .before .before .before .put-words .ensures)
+put-end-requires c κs =
+    let after-put-words : tie.After-put-words = search in
+    let after-put-word : tie.After-put-word = search in
+    let start : tie.Start = search in
+    end-room rowWord (take (start .args .n) (drop (start .args .from) (start .args .words .now))) (start .pre .1) (after-put-word .put-word .ensures) (after-put-words .put-words .ensures)
 
 same-length : tie.Need-same-length
 same-length c = put-length (whole c)

@@ -24,26 +24,31 @@ abbrev μ-loop : tie.MeasureT-loop
 
 loop-holds : tie.Need-loop-holds Inv-loop μ-loop
 loop-holds c =
-    let s = c .before .before in
-    let z : s .args .count - 0 ≡ s .args .count = omega arith in
-    (omega arith, rw z (omega (arith, s .pre .0)), rw z (leads-start (s .pre .1)))
+    let start : tie.Start Inv-loop μ-loop = search in
+    let z : start .args .count - 0 ≡ start .args .count = omega arith in
+    (omega arith, rw z (omega (arith, start .pre .0)), rw z (leads-start (start .pre .1)))
 
 put-row-requires : tie.Need-put-row-requires Inv-loop μ-loop
 put-row-requires c κs =
-    let l = c .before .before .loop in
-    let a = c .before .before .before .before .before .args in
-    let room = room-left (a .count) (a .n) (l .i) (c .before .loop-test .taken) in (
+    let in-loop : tie.In-loop Inv-loop μ-loop = search in
+    let at-loop : tie.At-loop Inv-loop μ-loop = search in
+    let start : tie.Start Inv-loop μ-loop = search in
+    let l = at-loop .loop in
+    let a = start .args in
+    let room = room-left (a .count) (a .n) (l .i) (in-loop .loop-test .taken) in (
       omega (arith, room, l .inv .1),
       leads-room (line rowWord (take (a .n) (drop (l .from) (a .words .now)))) (rowsText (a .count - (l .i + 1)) (a .n) (drop (l .from + a .n) (a .words .now)))
-          (leads-same (rows-next (a .count) (a .n) (l .i) (l .from) (a .words .now) (c .before .loop-test .taken)) (l .inv .2)),
+          (leads-same (rows-next (a .count) (a .n) (l .i) (l .from) (a .words .now) (in-loop .loop-test .taken)) (l .inv .2)),
     )
 
 add-from : tie.Need-add-from Inv-loop μ-loop
 add-from c =
-    let w = c .before .before .before .before in
-    let l = w .before .loop in
-    let a = w .before .before .before .before .args in
-    omega (arith, room-left (a .count) (a .n) (l .i) (w .loop-test .taken), l .inv .1)
+    let in-loop : tie.In-loop Inv-loop μ-loop = search in
+    let at-loop : tie.At-loop Inv-loop μ-loop = search in
+    let start : tie.Start Inv-loop μ-loop = search in
+    let l = at-loop .loop in
+    let a = start .args in
+    omega (arith, room-left (a .count) (a .n) (l .i) (in-loop .loop-test .taken), l .inv .1)
 
 add-i : tie.Need-add-i Inv-loop μ-loop
 add-i c = search needs
@@ -53,24 +58,31 @@ loop-less c = search needs
 
 loop-again : tie.Need-loop-again Inv-loop μ-loop
 loop-again c =
-    let w = c .before .before .before .before in
-    let l = w .before .loop in
-    let a = w .before .before .before .before .args in
-    let room = room-left (a .count) (a .n) (l .i) (w .loop-test .taken) in (
+    let after-put-row : tie.After-put-row Inv-loop μ-loop = search in
+    let in-loop : tie.In-loop Inv-loop μ-loop = search in
+    let at-loop : tie.At-loop Inv-loop μ-loop = search in
+    let start : tie.Start Inv-loop μ-loop = search in
+    let l = at-loop .loop in
+    let a = start .args in
+    let room = room-left (a .count) (a .n) (l .i) (in-loop .loop-test .taken) in (
       omega arith,
       omega (arith, room, l .inv .1),
       leads-step (line rowWord (take (a .n) (drop (l .from) (a .words .now)))) (rowsText (a .count - (l .i + 1)) (a .n) (drop (l .from + a .n) (a .words .now)))
-          (leads-same (rows-next (a .count) (a .n) (l .i) (l .from) (a .words .now) (w .loop-test .taken)) (l .inv .2))
-          (c .before .before .put-row .ensures),
+          (leads-same (rows-next (a .count) (a .n) (l .i) (l .from) (a .words .now) (in-loop .loop-test .taken)) (l .inv .2))
+          (after-put-row .put-row .ensures),
     )
 
 same-length : tie.Need-same-length Inv-loop μ-loop
-same-length c = c .before .loop .inv .2 .same
+same-length c =
+    let at-loop : tie.At-loop Inv-loop μ-loop = search in
+    at-loop .loop .inv .2 .same
 
 returns : tie.Need-returns Inv-loop μ-loop
 returns c =
-    let l = c .before .loop in
-    let a = c .before .before .before .before .args in
+    let at-loop : tie.At-loop Inv-loop μ-loop = search in
+    let start : tie.Start Inv-loop μ-loop = search in
+    let l = at-loop .loop in
+    let a = start .args in
     let e : l .i ≡ a .count = omega arith in
     let none : rowsText (a .count - l .i) (a .n) (drop (l .from) (a .words .now)) ≡ [] = rw e (no-rows (a .count) (a .n) (drop (l .from) (a .words .now))) in
     leads-end (leads-same none (l .inv .2))

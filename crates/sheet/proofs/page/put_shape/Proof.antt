@@ -11,20 +11,33 @@ use Rattle.sheet.proofs.page.put_shape.Tie as tie
 -- the line is put
 whole : tie.Need-returns
 whole c =
-    line-put shapeWord (c .before .before .before .before .before .before .before .before .before .before .before .before .before .before .args .lens) (c .before .before .before .before .before .before .before .before .before .before .before .before .before .before .pre .1) (c .before .before .before .before .before .before .before .before .before .before .put-word .ensures) (c .before .before .before .before .before .before .put-lens .ensures)
-    (c .before .before .put-end .ensures)
+    let after-put-end : tie.After-put-end = search in
+    let after-put-lens : tie.After-put-lens = search in
+    let after-put-word : tie.After-put-word = search in
+    let start : tie.Start = search in
+    line-put shapeWord (start .args .lens) (start .pre .1) (after-put-word .put-word .ensures) (after-put-lens .put-lens .ensures)
+    (after-put-end .put-end .ensures)
 
 slice-aggregate-put-word : tie.Need-slice-aggregate-put-word
 slice-aggregate-put-word c = refl
 
 put-word-requires : tie.Need-put-word-requires
-put-word-requires c κs = word-room shapeWord (c .before .before .before .args .lens) (c .before .before .before .pre .1)
+put-word-requires c κs =
+    let start : tie.Start = search in
+    word-room shapeWord (start .args .lens) (start .pre .1)
 
 put-lens-requires : tie.Need-put-lens-requires
-put-lens-requires c κs = (c .before .before .before .before .before .before .before .pre .0, fields-room shapeWord (c .before .before .before .before .before .before .before .args .lens) (c .before .before .before .before .before .before .before .pre .1) (c .before .before .before .put-word .ensures))
+put-lens-requires c κs =
+    let after-put-word : tie.After-put-word = search in
+    let start : tie.Start = search in
+    (start .pre .0, fields-room shapeWord (start .args .lens) (start .pre .1) (after-put-word .put-word .ensures))
 
 put-end-requires : tie.Need-put-end-requires
-put-end-requires c κs = end-room shapeWord (c .before .before .before .before .before .before .before .before .before .before .before .args .lens) (c .before .before .before .before .before .before .before .before .before .before .before .pre .1) (c .before .before .before .before .before .before .before .put-word .ensures) (c .before .before .before .put-lens .ensures)
+put-end-requires c κs =
+    let after-put-lens : tie.After-put-lens = search in
+    let after-put-word : tie.After-put-word = search in
+    let start : tie.Start = search in
+    end-room shapeWord (start .args .lens) (start .pre .1) (after-put-word .put-word .ensures) (after-put-lens .put-lens .ensures)
 
 same-length : tie.Need-same-length
 same-length c = put-length (whole c)

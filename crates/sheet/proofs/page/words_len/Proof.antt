@@ -31,27 +31,35 @@ shared-slice-read-digits-of : tie.Need-shared-slice-read-digits-of Inv-loop μ-l
 shared-slice-read-digits-of c = search needs
 
 cast-digits-of : tie.Need-cast-digits-of Inv-loop μ-loop
-cast-digits-of c = omega (arith, c .shared-slice-known2 .given (c .before .before .loop .i))
+cast-digits-of c =
+    let at-loop : tie.At-loop Inv-loop μ-loop = search in
+    omega (arith, c .shared-slice-known2 .given (at-loop .loop .i))
 
 digits-of-requires : tie.Need-digits-of-requires Inv-loop μ-loop
-digits-of-requires c κs = omega (arith, c .shared-slice-known2 .given (c .before .before .loop .i))
+digits-of-requires c κs =
+    let at-loop : tie.At-loop Inv-loop μ-loop = search in
+    omega (arith, c .shared-slice-known2 .given (at-loop .loop .i))
 
 add-total : tie.Need-add-total Inv-loop μ-loop
-add-total c = omega (arith, c .digits-of .ensures, decimal-few (getD (c .before .before .before .before .before .args .words .now) (c .before .before .before .loop .i) 0))
+add-total c =
+    let at-loop : tie.At-loop Inv-loop μ-loop = search in
+    let start : tie.Start Inv-loop μ-loop = search in
+    omega (arith, c .digits-of .ensures, decimal-few (getD (start .args .words .now) (at-loop .loop .i) 0))
 
 add-total-2 : tie.Need-add-total-2 Inv-loop μ-loop
 add-total-2 c =
-    let s = c .before .before .before .before .before in
-    let l = c .before .before .before .loop in
-    let ws = take (s .args .n) (s .args .words .now) in
+    let at-loop : tie.At-loop Inv-loop μ-loop = search in
+    let start : tie.Start Inv-loop μ-loop = search in
+    let l = at-loop .loop in
+    let ws = take (start .args .n) (start .args .words .now) in
     omega (
       arith,
       c .digits-of .ensures,
-      decimal-few (getD (s .args .words .now) (l .i) 0),
+      decimal-few (getD (start .args .words .now) (l .i) 0),
       l .inv .1,
       fields-few ws,
-      s .pre .1,
-      length-take-le (s .args .n) (s .args .words .now) (s .pre .0),
+      start .pre .1,
+      length-take-le (start .args .n) (start .args .words .now) (start .pre .0),
     )
 
 add-i : tie.Need-add-i Inv-loop μ-loop
@@ -62,20 +70,23 @@ loop-less c = search needs
 
 loop-again : tie.Need-loop-again Inv-loop μ-loop
 loop-again c =
-    let s = c .before .before .before .before .before in
-    let l = c .before .before .before .loop in
-    let ws = take (s .args .n) (s .args .words .now) in
-    let long = length-take-le (s .args .n) (s .args .words .now) (s .pre .0) in
-    let v : length (decimal (getD ws (l .i) 0)) ≡ length (decimal (getD (s .args .words .now) (l .i) 0)) =
-    ap (λ (x : ℕ). length (decimal x)) (getD-take (s .args .n) (s .args .words .now) (l .i) 0 (c .before .before .loop-test .taken)) in
+    let in-loop : tie.In-loop Inv-loop μ-loop = search in
+    let at-loop : tie.At-loop Inv-loop μ-loop = search in
+    let start : tie.Start Inv-loop μ-loop = search in
+    let l = at-loop .loop in
+    let ws = take (start .args .n) (start .args .words .now) in
+    let long = length-take-le (start .args .n) (start .args .words .now) (start .pre .0) in
+    let v : length (decimal (getD ws (l .i) 0)) ≡ length (decimal (getD (start .args .words .now) (l .i) 0)) =
+    ap (λ (x : ℕ). length (decimal x)) (getD-take (start .args .n) (start .args .words .now) (l .i) 0 (in-loop .loop-test .taken)) in
     (omega arith, omega (arith, v, c .digits-of .ensures, l .inv .1, measure-next ws (l .i) (omega (arith, long))))
 
 returns : tie.Need-returns Inv-loop μ-loop
 returns c =
-    let l = c .before .loop in
-    let s = c .before .before .before in
-    let long = length-take-le (s .args .n) (s .args .words .now) (s .pre .0) in
-    omega (arith, l .inv .1, ap length (no-fields (take (s .args .n) (s .args .words .now)) (l .i) (omega (arith, long))))
+    let at-loop : tie.At-loop Inv-loop μ-loop = search in
+    let start : tie.Start Inv-loop μ-loop = search in
+    let l = at-loop .loop in
+    let long = length-take-le (start .args .n) (start .args .words .now) (start .pre .0) in
+    omega (arith, l .inv .1, ap length (no-fields (take (start .args .n) (start .args .words .now)) (l .i) (omega (arith, long))))
 
 pub words-len-spec : {M : Type 1} → statement M
 words-len-spec =

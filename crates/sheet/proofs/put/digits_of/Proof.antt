@@ -23,18 +23,24 @@ loop-holds : tie.Need-loop-holds Inv-loop μ-loop
 loop-holds c = (omega arith, omega arith)
 
 add-count : tie.Need-add-count Inv-loop μ-loop
-add-count c = omega (arith, c .before .loop .inv .1, decimal-few (c .before .before .args .v))
+add-count c =
+    let at-loop : tie.At-loop Inv-loop μ-loop = search in
+    let start : tie.Start Inv-loop μ-loop = search in
+    omega (arith, at-loop .loop .inv .1, decimal-few (start .args .v))
 
 loop-less : tie.Need-loop-less Inv-loop μ-loop
 loop-less c = search needs
 
 loop-again : tie.Need-loop-again Inv-loop μ-loop
 loop-again c =
-    let l = c .before .loop in
+    let at-loop : tie.At-loop Inv-loop μ-loop = search in
+    let l = at-loop .loop in
     (omega arith, omega (arith, l .inv .1, length-last (l .left) (c .loop-test .taken) (omega arith)))
 
 returns : tie.Need-returns Inv-loop μ-loop
-returns c = let l = c .before .loop in omega (arith, l .inv .1, length-one (l .left) (c .loop-test .left))
+returns c =
+    let at-loop : tie.At-loop Inv-loop μ-loop = search in
+    let l = at-loop .loop in omega (arith, l .inv .1, length-one (l .left) (c .loop-test .left))
 
 pub digits-of-spec : {M : Type 1} → statement M
 digits-of-spec =

@@ -9,19 +9,31 @@ use Rattle.sheet.proofs.put.put_field.Statement.{statement}
 use Rattle.sheet.proofs.put.put_field.Tie as tie
 
 slice-write-out : tie.Need-slice-write-out
-slice-write-out c = field-in (c .before .args .v) (c .before .pre .1)
+slice-write-out c =
+    let start : tie.Start = search in
+    field-in (start .args .v) (start .pre .1)
 
 add-put-number : tie.Need-add-put-number
-add-put-number c = omega (arith, field-in (c .before .before .args .v) (c .before .before .pre .1))
+add-put-number c =
+    let start : tie.Start = search in
+    omega (arith, field-in (start .args .v) (start .pre .1))
 
 put-number-requires : tie.Need-put-number-requires
-put-number-requires c κs = (c .before .before .pre .0, field-room (c .before .before .args .v) (c .before .before .pre .1))
+put-number-requires c κs =
+    let start : tie.Start = search in
+    (start .pre .0, field-room (start .args .v) (start .pre .1))
 
 same-length : tie.Need-same-length
-same-length c = put-length (field-put (c .before .before .before .before .before .args .v) (c .before .before .before .before .before .pre .1) (c .before .before .put-number .ensures))
+same-length c =
+    let after-put-number : tie.After-put-number = search in
+    let start : tie.Start = search in
+    put-length (field-put (start .args .v) (start .pre .1) (after-put-number .put-number .ensures))
 
 returns : tie.Need-returns
-returns c = field-put (c .before .before .before .before .before .args .v) (c .before .before .before .before .before .pre .1) (c .before .before .put-number .ensures)
+returns c =
+    let after-put-number : tie.After-put-number = search in
+    let start : tie.Start = search in
+    field-put (start .args .v) (start .pre .1) (after-put-number .put-number .ensures)
 
 pub put-field-spec : {M : Type 1} → statement M
 put-field-spec =

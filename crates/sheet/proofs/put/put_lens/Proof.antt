@@ -21,7 +21,9 @@ abbrev μ-loop : tie.MeasureT-loop
     4 - i
 
 loop-holds : tie.Need-loop-holds Inv-loop μ-loop
-loop-holds c = (omega arith, leads-start (c .before .pre .1))
+loop-holds c =
+    let start : tie.Start Inv-loop μ-loop = search in
+    (omega arith, leads-start (start .pre .1))
 
 mul-put-field : tie.Need-mul-put-field Inv-loop μ-loop
 mul-put-field c = search needs
@@ -31,10 +33,11 @@ array-read-put-field c = search needs
 
 put-field-requires : tie.Need-put-field-requires Inv-loop μ-loop
 put-field-requires c κs =
-    let l = c .before .before .loop in
-    let s = c .before .before .before .before in
-    let lens = s .args .t3 in (
-      omega (arith, length-bound lens (l .i) (omega arith) (s .pre .0)),
+    let at-loop : tie.At-loop Inv-loop μ-loop = search in
+    let start : tie.Start Inv-loop μ-loop = search in
+    let l = at-loop .loop in
+    let lens = start .args .t3 in (
+      omega (arith, length-bound lens (l .i) (omega arith) (start .pre .0)),
       leads-room (field (getD lens (l .i) 0)) (fields (drop (l .i + 1) lens)) (leads-same (fields-next lens (l .i) (omega arith)) (l .inv .1)),
     )
 
@@ -46,20 +49,27 @@ loop-less c = search needs
 
 loop-again : tie.Need-loop-again Inv-loop μ-loop
 loop-again c =
-    let l = c .before .before .before .before .before .loop in
-    let lens = c .before .before .before .before .before .before .before .args .t3 in (
+    let after-put-field : tie.After-put-field Inv-loop μ-loop = search in
+    let at-loop : tie.At-loop Inv-loop μ-loop = search in
+    let start : tie.Start Inv-loop μ-loop = search in
+    let l = at-loop .loop in
+    let lens = start .args .t3 in (
       omega arith,
       leads-step (field (getD lens (l .i) 0)) (fields (drop (l .i + 1) lens)) (leads-same (fields-next lens (l .i) (omega arith)) (l .inv .1))
-          (c .before .before .put-field .ensures),
+          (after-put-field .put-field .ensures),
     )
 
 same-length : tie.Need-same-length Inv-loop μ-loop
-same-length c = c .before .loop .inv .1 .same
+same-length c =
+    let at-loop : tie.At-loop Inv-loop μ-loop = search in
+    at-loop .loop .inv .1 .same
 
 returns : tie.Need-returns Inv-loop μ-loop
 returns c =
-    let l = c .before .loop in
-    leads-end (leads-same (no-fields (c .before .before .before .args .t3) (l .i) (omega arith)) (l .inv .1))
+    let at-loop : tie.At-loop Inv-loop μ-loop = search in
+    let start : tie.Start Inv-loop μ-loop = search in
+    let l = at-loop .loop in
+    leads-end (leads-same (no-fields (start .args .t3) (l .i) (omega arith)) (l .inv .1))
 
 pub put-lens-spec : {M : Type 1} → statement M
 put-lens-spec =

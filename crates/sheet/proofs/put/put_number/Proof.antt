@@ -24,18 +24,20 @@ digits-of-requires : tie.Need-digits-of-requires Inv-loop μ-loop
 digits-of-requires c κs = search needs
 
 add-next : tie.Need-add-next Inv-loop μ-loop
-add-next c = let s = c .before .before in omega (arith, c .digits-of .ensures, s .pre .1 .fits)
+add-next c =
+    let start : tie.Start Inv-loop μ-loop = search in
+    omega (arith, c .digits-of .ensures, start .pre .1 .fits)
 
 loop-holds : tie.Need-loop-holds Inv-loop μ-loop
 loop-holds c =
-    let s = c .before .before in
-    let e : s .args .at + c .digits-of .result - s .args .at ≡ length (decimal (s .args .v)) = omega (arith, c .digits-of .ensures) in (
+    let start : tie.Start Inv-loop μ-loop = search in
+    let e : start .args .at + c .digits-of .result - start .args .at ≡ length (decimal (start .args .v)) = omega (arith, c .digits-of .ensures) in (
       omega arith,
       omega arith,
-      ap (λ (n : ℕ). s .args .at + n) (c .digits-of .ensures),
-      omega (arith, c .digits-of .ensures, s .pre .1 .fits),
+      ap (λ (n : ℕ). start .args .at + n) (c .digits-of .ensures),
+      omega (arith, c .digits-of .ensures, start .pre .1 .fits),
       refl,
-      rw (e, spell-decimal (s .args .v) (s .pre .0)),
+      rw (e, spell-decimal (start .args .v) (start .pre .0)),
     )
 
 sub-p : tie.Need-sub-p Inv-loop μ-loop
@@ -55,8 +57,10 @@ loop-less c = search needs
 
 loop-again : tie.Need-loop-again Inv-loop μ-loop
 loop-again c =
-    let l = c .before .loop in
-    let at = c .before .before .before .before .args .at in
+    let at-loop : tie.At-loop Inv-loop μ-loop = search in
+    let start : tie.Start Inv-loop μ-loop = search in
+    let l = at-loop .loop in
+    let at = start .args .at in
     let k : l .p - at ≡ suc (l .p - 1 - at) = omega arith in
     let q : at + (l .p - 1 - at) ≡ l .p - 1 = omega arith in
     let back : sets (l .out) at (spell (l .p - at) (l .left)) ≡ sets (set (l .out) (l .p - 1) (48 + l .left % 10)) at (spell (l .p - 1 - at) (l .left / 10)) =
@@ -70,12 +74,16 @@ loop-again c =
     )
 
 same-length : tie.Need-same-length Inv-loop μ-loop
-same-length c = c .before .loop .inv .4
+same-length c =
+    let at-loop : tie.At-loop Inv-loop μ-loop = search in
+    at-loop .loop .inv .4
 
 returns : tie.Need-returns Inv-loop μ-loop
 returns c =
-    let l = c .before .loop in
-    let a = c .before .before .before .before .args in
+    let at-loop : tie.At-loop Inv-loop μ-loop = search in
+    let start : tie.Start Inv-loop μ-loop = search in
+    let l = at-loop .loop in
+    let a = start .args in
     let z : l .p - a .at ≡ 0 = omega arith in
     record { place = l .inv .2; bytes = rw (z, no-digits (l .left)) at (l .inv .5) }
 

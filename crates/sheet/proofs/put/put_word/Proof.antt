@@ -42,8 +42,10 @@ loop-less c = search needs
 
 loop-again : tie.Need-loop-again Inv-loop μ-loop
 loop-again c =
-    let l = c .before .before .loop in
-    let a = c .before .before .before .args in
+    let at-loop : tie.At-loop Inv-loop μ-loop = search in
+    let start : tie.Start Inv-loop μ-loop = search in
+    let l = at-loop .loop in
+    let a = start .args in
     let b = getD (a .word .now) (l .i) 0 in
     let put : Put (l .out) (a .at + l .i) (b ∷ []) (a .at + (l .i + 1)) (set (l .out) (a .at + l .i) b) = record { place = omega arith; bytes = refl } in
     (omega arith, refl, leads-step (b ∷ []) (drop (l .i + 1) (a .word .now)) (leads-same (drop-next (a .word .now) (l .i) (omega arith)) (l .inv .2)) put)
@@ -56,8 +58,10 @@ same-length c = search needs
 
 returns : tie.Need-returns Inv-loop μ-loop
 returns c =
-    let l = c .before .loop in
-    let a = c .before .before .args in
+    let at-loop : tie.At-loop Inv-loop μ-loop = search in
+    let start : tie.Start Inv-loop μ-loop = search in
+    let l = at-loop .loop in
+    let a = start .args in
     let e : l .i ≡ length (a .word .now) = omega arith in
     let none : drop (l .i) (a .word .now) ≡ [] = rw e (drop-length (a .word .now)) in
     rw (← e) (leads-end (leads-same none (l .inv .2)))

@@ -20,7 +20,9 @@ abbrev μ-loop : tie.MeasureT-loop
     n - i
 
 loop-holds : tie.Need-loop-holds Inv-loop μ-loop
-loop-holds c = (omega arith, leads-start (c .before .before .pre .1))
+loop-holds c =
+    let start : tie.Start Inv-loop μ-loop = search in
+    (omega arith, leads-start (start .pre .1))
 
 add-put-field : tie.Need-add-put-field Inv-loop μ-loop
 add-put-field c = search needs
@@ -33,18 +35,21 @@ shared-slice-read-put-field c = search needs
 
 cast-put-field : tie.Need-cast-put-field Inv-loop μ-loop
 cast-put-field c =
-    let a = c .before .before .before .before .before .before .args in
-    omega (arith, c .shared-slice-known2 .given (a .from + c .before .before .before .loop .i))
+    let at-loop : tie.At-loop Inv-loop μ-loop = search in
+    let start : tie.Start Inv-loop μ-loop = search in
+    let a = start .args in
+    omega (arith, c .shared-slice-known2 .given (a .from + at-loop .loop .i))
 
 put-field-requires : tie.Need-put-field-requires Inv-loop μ-loop
 put-field-requires c κs =
-    let l = c .before .before .before .loop in
-    let s = c .before .before .before .before .before .before in
-    let a = s .args in
+    let at-loop : tie.At-loop Inv-loop μ-loop = search in
+    let start : tie.Start Inv-loop μ-loop = search in
+    let l = at-loop .loop in
+    let a = start .args in
     let ws = take (a .n) (drop (a .from) (a .words .now)) in (
       omega (arith, c .shared-slice-known2 .given (a .from + l .i)),
       leads-room (field (getD (a .words .now) (a .from + l .i) 0)) (fields (drop (l .i + 1) ws))
-          (leads-same (words-next (a .words .now) (a .from) (a .n) (s .pre .0) (l .i) (omega arith)) (l .inv .1)),
+          (leads-same (words-next (a .words .now) (a .from) (a .n) (start .pre .0) (l .i) (omega arith)) (l .inv .1)),
     )
 
 add-i : tie.Need-add-i Inv-loop μ-loop
@@ -55,25 +60,30 @@ loop-less c = search needs
 
 loop-again : tie.Need-loop-again Inv-loop μ-loop
 loop-again c =
-    let l = c .before .before .before .before .before .before .loop in
-    let s = c .before .before .before .before .before .before .before .before .before in
-    let a = s .args in
+    let after-put-field : tie.After-put-field Inv-loop μ-loop = search in
+    let at-loop : tie.At-loop Inv-loop μ-loop = search in
+    let start : tie.Start Inv-loop μ-loop = search in
+    let l = at-loop .loop in
+    let a = start .args in
     let ws = take (a .n) (drop (a .from) (a .words .now)) in (
       omega arith,
       leads-step (field (getD (a .words .now) (a .from + l .i) 0)) (fields (drop (l .i + 1) ws))
-          (leads-same (words-next (a .words .now) (a .from) (a .n) (s .pre .0) (l .i) (omega arith)) (l .inv .1))
-          (c .before .before .put-field .ensures),
+          (leads-same (words-next (a .words .now) (a .from) (a .n) (start .pre .0) (l .i) (omega arith)) (l .inv .1))
+          (after-put-field .put-field .ensures),
     )
 
 same-length : tie.Need-same-length Inv-loop μ-loop
-same-length c = c .before .loop .inv .1 .same
+same-length c =
+    let at-loop : tie.At-loop Inv-loop μ-loop = search in
+    at-loop .loop .inv .1 .same
 
 returns : tie.Need-returns Inv-loop μ-loop
 returns c =
-    let l = c .before .loop in
-    let s = c .before .before .before .before in
-    let a = s .args in
-    let long = length-part (a .words .now) (a .from) (a .n) (s .pre .0) in
+    let at-loop : tie.At-loop Inv-loop μ-loop = search in
+    let start : tie.Start Inv-loop μ-loop = search in
+    let l = at-loop .loop in
+    let a = start .args in
+    let long = length-part (a .words .now) (a .from) (a .n) (start .pre .0) in
     leads-end (leads-same (no-fields (take (a .n) (drop (a .from) (a .words .now))) (l .i) (omega (arith, long))) (l .inv .1))
 
 pub put-words-spec : {M : Type 1} → statement M

@@ -8,29 +8,41 @@ use Rattle.sheet.proofs.refusal.put_refusal.Tie as tie
 -- the line is put
 whole : tie.Need-returns
 whole c =
-    let s = c .before .before .before .before .before .before .before .before .before .before .before .before .before .before .before .before .before .before in
-    refusal-put (s .args .number) (s .args .place) (s .pre .2) (c .before .before .before .before .before .before .before .before .before .before .before .before .before .before .put-word .ensures) (c .before .before .before .before .before .before .before .before .before .before .put-field .ensures) (c .before .before .before .before .before .before .put-field2 .ensures) (c .before .before .put-end .ensures)
+    let after-put-end : tie.After-put-end = search in
+    let after-put-field2 : tie.After-put-field2 = search in
+    let after-put-field : tie.After-put-field = search in
+    let after-put-word : tie.After-put-word = search in
+    let start : tie.Start = search in
+    refusal-put (start .args .number) (start .args .place) (start .pre .2) (after-put-word .put-word .ensures) (after-put-field .put-field .ensures) (after-put-field2 .put-field2 .ensures) (after-put-end .put-end .ensures)
 
 slice-aggregate-put-word : tie.Need-slice-aggregate-put-word
 slice-aggregate-put-word c = refl
 
 put-word-requires : tie.Need-put-word-requires
-put-word-requires c κs = let s = c .before .before .before in word-room (s .args .number) (s .args .place) (s .pre .2)
+put-word-requires c κs =
+    let start : tie.Start = search in
+    word-room (start .args .number) (start .args .place) (start .pre .2)
 
 put-field-requires : tie.Need-put-field-requires
 put-field-requires c κs =
-    let s = c .before .before .before .before .before .before .before in
-    (s .pre .0, number-room (s .args .number) (s .args .place) (s .pre .2) (c .before .before .before .put-word .ensures))
+    let after-put-word : tie.After-put-word = search in
+    let start : tie.Start = search in
+    (start .pre .0, number-room (start .args .number) (start .args .place) (start .pre .2) (after-put-word .put-word .ensures))
 
 put-field-requires-2 : tie.Need-put-field-requires-2
 put-field-requires-2 c κs =
-    let s = c .before .before .before .before .before .before .before .before .before .before .before in
-    (s .pre .1, place-room (s .args .number) (s .args .place) (s .pre .2) (c .before .before .before .before .before .before .before .put-word .ensures) (c .before .before .before .put-field .ensures))
+    let after-put-field : tie.After-put-field = search in
+    let after-put-word : tie.After-put-word = search in
+    let start : tie.Start = search in
+    (start .pre .1, place-room (start .args .number) (start .args .place) (start .pre .2) (after-put-word .put-word .ensures) (after-put-field .put-field .ensures))
 
 put-end-requires : tie.Need-put-end-requires
 put-end-requires c κs =
-    let s = c .before .before .before .before .before .before .before .before .before .before .before .before .before .before .before in
-    last-room (s .args .number) (s .args .place) (s .pre .2) (c .before .before .before .before .before .before .before .before .before .before .before .put-word .ensures) (c .before .before .before .before .before .before .before .put-field .ensures) (c .before .before .before .put-field2 .ensures)
+    let after-put-field2 : tie.After-put-field2 = search in
+    let after-put-field : tie.After-put-field = search in
+    let after-put-word : tie.After-put-word = search in
+    let start : tie.Start = search in
+    last-room (start .args .number) (start .args .place) (start .pre .2) (after-put-word .put-word .ensures) (after-put-field .put-field .ensures) (after-put-field2 .put-field2 .ensures)
 
 same-length : tie.Need-same-length
 same-length c = put-length (whole c)

@@ -10,20 +10,26 @@ digits-of-requires : tie.Need-digits-of-requires
 digits-of-requires c κs = search needs
 
 add-result : tie.Need-add-result
-add-result c = omega (arith, c .digits-of .ensures, decimal-few (c .before .args .number))
+add-result c =
+    let start : tie.Start = search in
+    omega (arith, c .digits-of .ensures, decimal-few (start .args .number))
 
 digits-of-requires-2 : tie.Need-digits-of-requires-2
 digits-of-requires-2 c κs = search needs
 
 add-result-2 : tie.Need-add-result-2
 add-result-2 c =
-    let a = c .before .before .args in
-    omega (arith, c .before .digits-of .ensures, c .digits-of2 .ensures, decimal-few (a .number), decimal-few (a .place))
+    let after-digits-of : tie.After-digits-of = search in
+    let start : tie.Start = search in
+    let a = start .args in
+    omega (arith, after-digits-of .digits-of .ensures, c .digits-of2 .ensures, decimal-few (a .number), decimal-few (a .place))
 
 returns : tie.Need-returns
 returns c =
-    let a = c .before .before .args in
-    omega (arith, c .before .digits-of .ensures, c .digits-of2 .ensures, length-refusal (a .number) (a .place))
+    let after-digits-of : tie.After-digits-of = search in
+    let start : tie.Start = search in
+    let a = start .args in
+    omega (arith, after-digits-of .digits-of .ensures, c .digits-of2 .ensures, length-refusal (a .number) (a .place))
 
 pub refusal-len-spec : {M : Type 1} → statement M
 refusal-len-spec =

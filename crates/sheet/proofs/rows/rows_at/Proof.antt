@@ -25,27 +25,32 @@ abbrev μ-loop : tie.MeasureT-loop
 
 loop-holds : tie.Need-loop-holds Inv-loop μ-loop
 loop-holds c =
-    let a = c .before .args in
+    let start : tie.Start Inv-loop μ-loop = search in
+    let a = start .args in
     let bs = drop (a .at) (a .bytes .now) in
     let e : rowsLeft (a .count) (a .n) 0 bs ≡ rowLines 3 (a .count) (a .n) bs =
     let z : a .count - 0 ≡ a .count = omega arith in rw z in
-    (omega arith, c .before .pre .0, ([], sym e ∙ behind-none (rowsLeft (a .count) (a .n) 0 bs)))
+    (omega arith, start .pre .0, ([], sym e ∙ behind-none (rowsLeft (a .count) (a .n) 0 bs)))
 
 slice-aggregate-line-at : tie.Need-slice-aggregate-line-at Inv-loop μ-loop
 slice-aggregate-line-at c = search needs
 
 line-at-requires : tie.Need-line-at-requires Inv-loop μ-loop
-line-at-requires c κs = c .before .before .loop .inv .1
+line-at-requires c κs =
+    let at-loop : tie.At-loop Inv-loop μ-loop = search in
+    at-loop .loop .inv .1
 
 add-t12 : tie.Need-add-t12 Inv-loop μ-loop
 add-t12 c = search needs
 
 returns : tie.Need-returns Inv-loop μ-loop
 returns c =
-    let f = c .before .before in
-    let l = f .before .before .before .loop in
-    let a = f .before .before .before .before .before .args in
-    let bad : readLine rowWord (a .n) (drop (l .p) (a .bytes .now)) ≡ Found.none = f .line-at .ensures .wrong (not-true (f .line-at .result .ok) (c .if1 .taken)) in
+    let after-line-at : tie.After-line-at Inv-loop μ-loop = search in
+    let at-loop : tie.At-loop Inv-loop μ-loop = search in
+    let start : tie.Start Inv-loop μ-loop = search in
+    let l = at-loop .loop in
+    let a = start .args in
+    let bad : readLine rowWord (a .n) (drop (l .p) (a .bytes .now)) ≡ Found.none = after-line-at .line-at .ensures .wrong (not-true (after-line-at .line-at .result .ok) (c .if1 .taken)) in
     rows-wrong (l .inv .2 .1 ∙ rw (row-bad (a .count) (a .n) (l .i) (drop (l .p) (a .bytes .now)) (omega arith) bad))
 
 add-i : tie.Need-add-i Inv-loop μ-loop
@@ -56,16 +61,18 @@ loop-less c = search needs
 
 loop-again : tie.Need-loop-again Inv-loop μ-loop
 loop-again c =
-    let f = c .before .before in
-    let l = f .before .before .before .loop in
-    let a = f .before .before .before .before .before .args in
+    let after-line-at : tie.After-line-at Inv-loop μ-loop = search in
+    let at-loop : tie.At-loop Inv-loop μ-loop = search in
+    let start : tie.Start Inv-loop μ-loop = search in
+    let l = at-loop .loop in
+    let a = start .args in
     let bs = drop (l .p) (a .bytes .now) in
-    let mid = drop (f .line-at .result .next) (a .bytes .now) in
+    let mid = drop (after-line-at .line-at .result .next) (a .bytes .now) in
     let us = numbersOf (readLine rowWord (a .n) bs) in
-    let good : readLine rowWord (a .n) bs ≡ Found.found us mid = f .line-at .ensures .right (not-false (f .line-at .result .ok) (c .if1 .left)) in
+    let good : readLine rowWord (a .n) bs ≡ Found.found us mid = after-line-at .line-at .ensures .right (not-false (after-line-at .line-at .result .ok) (c .if1 .left)) in
     let ws = l .inv .2 .0 in (
       omega arith,
-      f .line-at .ensures .inside,
+      after-line-at .line-at .ensures .inside,
       (
         ws ++ us,
         l .inv .2 .1
@@ -79,8 +86,10 @@ add-t15 c = search needs
 
 returns-2 : tie.Need-returns-2 Inv-loop μ-loop
 returns-2 c =
-    let l = c .before .before .loop in
-    let a = c .before .before .before .before .args in
+    let at-loop : tie.At-loop Inv-loop μ-loop = search in
+    let start : tie.Start Inv-loop μ-loop = search in
+    let l = at-loop .loop in
+    let a = start .args in
     let e : l .i ≡ a .count = omega arith in
     let over : rowsLeft (a .count) (a .n) (l .i) (drop (l .p) (a .bytes .now)) ≡ Step.refuse 10 (a .count + 3) =
     rw e (rows-left-over (a .count) (a .n) (a .bytes .now) (l .p) (c .if2 .taken)) in
@@ -88,8 +97,10 @@ returns-2 c =
 
 returns-3 : tie.Need-returns-3 Inv-loop μ-loop
 returns-3 c =
-    let l = c .before .before .loop in
-    let a = c .before .before .before .before .args in
+    let at-loop : tie.At-loop Inv-loop μ-loop = search in
+    let start : tie.Start Inv-loop μ-loop = search in
+    let l = at-loop .loop in
+    let a = start .args in
     let e : l .i ≡ a .count = omega arith in
     let over : rowsLeft (a .count) (a .n) (l .i) (drop (l .p) (a .bytes .now)) ≡ Step.go [] [] =
     rw e (rows-end (a .count) (a .n) (a .bytes .now) (l .p) (c .if2 .left)) in

@@ -29,35 +29,44 @@ row : (c : tie.In-loop Inv-loop μ-loop)
     → RowAt (c .before .before .before .before .args .bytes .now) (c .before .before .before .before .args .count) (c .before .before .before .before .args .n)
     (c .before .loop .i) (c .before .loop .p)
 row c =
-    let l = c .before .loop in
-    let a = c .before .before .before .before .args in
+    let at-loop : tie.At-loop Inv-loop μ-loop = search in
+    let start : tie.Start Inv-loop μ-loop = search in
+    let l = at-loop .loop in
+    let a = start .args in
     row-at (a .bytes .now) (a .count) (a .n) (l .i) (l .p) (c .loop-test .taken) (l .inv .1) (l .inv .4)
 
 loop-holds : tie.Need-loop-holds Inv-loop μ-loop
 loop-holds c =
-    let s = c .before .before in
-    let z : s .args .count - 0 ≡ s .args .count = omega arith in
-    (omega arith, s .pre .0, refl, rw z (omega (arith, s .pre .1)), rw z (s .pre .2), rw z)
+    let start : tie.Start Inv-loop μ-loop = search in
+    let z : start .args .count - 0 ≡ start .args .count = omega arith in
+    (omega arith, start .pre .0, refl, rw z (omega (arith, start .pre .1)), rw z (start .pre .2), rw z)
 
 add-words-into : tie.Need-add-words-into Inv-loop μ-loop
 add-words-into c = omega (arith, row c .inside)
 
 words-into-requires : tie.Need-words-into-requires Inv-loop μ-loop
 words-into-requires c κs =
-    let w = c .before in
-    let a = w .before .before .before .before .args in
-    let room = room-left (a .count) (a .n) (w .before .loop .i) (w .loop-test .taken) in
-    (row w .inside, omega (arith, room, w .before .loop .inv .2, w .before .loop .inv .3), row w .there)
+    let in-loop : tie.In-loop Inv-loop μ-loop = search in
+    let at-loop : tie.At-loop Inv-loop μ-loop = search in
+    let start : tie.Start Inv-loop μ-loop = search in
+    let a = start .args in
+    let room = room-left (a .count) (a .n) (at-loop .loop .i) (in-loop .loop-test .taken) in
+    (row in-loop .inside, omega (arith, room, at-loop .loop .inv .2, at-loop .loop .inv .3), row in-loop .there)
 
 add-p : tie.Need-add-p Inv-loop μ-loop
-add-p c = omega (arith, row (c .before .before .before .before) .onwards (c .before .before .words-into .result) (c .before .before .words-into .ensures .read) .0)
+add-p c =
+    let after-words-into : tie.After-words-into Inv-loop μ-loop = search in
+    let in-loop : tie.In-loop Inv-loop μ-loop = search in
+    omega (arith, row (in-loop) .onwards (after-words-into .words-into .result) (after-words-into .words-into .ensures .read) .0)
 
 add-from : tie.Need-add-from Inv-loop μ-loop
 add-from c =
-    let w = c .before .before .before .before in
-    let a = w .before .before .before .before .args in
-    let room = room-left (a .count) (a .n) (w .before .loop .i) (w .loop-test .taken) in
-    omega (arith, room, w .before .loop .inv .3)
+    let in-loop : tie.In-loop Inv-loop μ-loop = search in
+    let at-loop : tie.At-loop Inv-loop μ-loop = search in
+    let start : tie.Start Inv-loop μ-loop = search in
+    let a = start .args in
+    let room = room-left (a .count) (a .n) (at-loop .loop .i) (in-loop .loop-test .taken) in
+    omega (arith, room, at-loop .loop .inv .3)
 
 add-i : tie.Need-add-i Inv-loop μ-loop
 add-i c = search needs
@@ -67,12 +76,15 @@ loop-less c = search needs
 
 loop-again : tie.Need-loop-again Inv-loop μ-loop
 loop-again c =
-    let q = c .before .before .words-into in
-    let w = c .before .before .before .before in
-    let l = w .before .loop in
-    let a = w .before .before .before .before .args in
-    let r = row w in
-    let room = room-left (a .count) (a .n) (l .i) (w .loop-test .taken) in
+    let after-words-into : tie.After-words-into Inv-loop μ-loop = search in
+    let in-loop : tie.In-loop Inv-loop μ-loop = search in
+    let at-loop : tie.At-loop Inv-loop μ-loop = search in
+    let start : tie.Start Inv-loop μ-loop = search in
+    let q = after-words-into .words-into in
+    let l = at-loop .loop in
+    let a = start .args in
+    let r = row in-loop in
+    let room = room-left (a .count) (a .n) (l .i) (in-loop .loop-test .taken) in
     let on = r .onwards (q .result) (q .ensures .read) in
     let us = numbersOf (rowFields (a .bytes .now) (a .n) (l .p)) in
     let left = wordsOf (rowsLeft (a .count) (a .n) (l .i + 1) (drop (q .result + 1) (a .bytes .now))) in
@@ -94,8 +106,10 @@ same-length c = search needs
 
 returns : tie.Need-returns Inv-loop μ-loop
 returns c =
-    let l = c .before .loop in
-    let a = c .before .before .before .before .args in
+    let at-loop : tie.At-loop Inv-loop μ-loop = search in
+    let start : tie.Start Inv-loop μ-loop = search in
+    let l = at-loop .loop in
+    let a = start .args in
     let e : l .i ≡ a .count = omega arith in
     let none : wordsOf (rowsLeft (a .count) (a .n) (l .i) (drop (l .p) (a .bytes .now))) ≡ [] =
     rw e (no-words (a .count) (a .n) (drop (l .p) (a .bytes .now))) in

@@ -24,7 +24,9 @@ abbrev μ-loop : tie.MeasureT-loop
     n - i
 
 loop-holds : tie.Need-loop-holds Inv-loop μ-loop
-loop-holds c = let bs = drop (c .before .args .at) (c .before .args .bytes .now) in (omega arith, got (no-field bs), rw (no-field bs))
+loop-holds c =
+    let start : tie.Start Inv-loop μ-loop = search in
+    let bs = drop (start .args .at) (start .args .bytes .now) in (omega arith, got (no-field bs), rw (no-field bs))
 
 field-at-requires : tie.Need-field-at-requires Inv-loop μ-loop
 field-at-requires c κs = search needs
@@ -33,7 +35,9 @@ mul-out : tie.Need-mul-out Inv-loop μ-loop
 mul-out c = search needs
 
 array-write-out : tie.Need-array-write-out Inv-loop μ-loop
-array-write-out c = omega (arith, c .before .before .before .before .pre .0)
+array-write-out c =
+    let start : tie.Start Inv-loop μ-loop = search in
+    omega (arith, start .pre .0)
 
 add-i : tie.Need-add-i Inv-loop μ-loop
 add-i c = search needs
@@ -43,24 +47,27 @@ loop-less c = search needs
 
 loop-again : tie.Need-loop-again Inv-loop μ-loop
 loop-again c =
-    let s = c .before .before .before .before in
-    let l = c .before .before .loop in
-    let bs = drop (s .args .at) (s .args .bytes .now) in
+    let at-loop : tie.At-loop Inv-loop μ-loop = search in
+    let start : tie.Start Inv-loop μ-loop = search in
+    let l = at-loop .loop in
+    let bs = drop (start .args .at) (start .args .bytes .now) in
     let vs = numbersOf (readFields (l .i) bs) in
     let v = c .field-at .result .value in
-    let f = taken-field (l .i) (s .args .n) bs (c .field-at .result .ok) (s .pre .1) (omega arith) (l .inv .1) (c .field-at .ensures) in
+    let f = taken-field (l .i) (start .args .n) bs (c .field-at .result .ok) (start .pre .1) (omega arith) (l .inv .1) (c .field-at .ensures) in
     let e = fields-more (l .i) bs (l .inv .1) f in (
       omega arith,
       got e,
       ap (λ (x : List ℕ). set x (l .i) v) (l .inv .2)
-          ∙ zeros-more vs (l .i) 32 v (fields-text (l .i) bs (l .inv .1) .long) (omega (arith, s .pre .0))
+          ∙ zeros-more vs (l .i) 32 v (fields-text (l .i) bs (l .inv .1) .long) (omega (arith, start .pre .0))
           ∙ ap (λ (x : Found (List ℕ)). numbersOf x ++ replicate (32 - (l .i + 1)) 0) (sym e),
     )
 
 returns : tie.Need-returns Inv-loop μ-loop
 returns c =
-    let e : c .before .loop .i ≡ c .before .before .before .args .n = omega arith in
-    rw (← e) (c .before .loop .inv .2)
+    let at-loop : tie.At-loop Inv-loop μ-loop = search in
+    let start : tie.Start Inv-loop μ-loop = search in
+    let e : at-loop .loop .i ≡ start .args .n = omega arith in
+    rw (← e) (at-loop .loop .inv .2)
 
 pub values-at-spec : {M : Type 1} → statement M
 values-at-spec =

@@ -29,25 +29,29 @@ again : (c : tie.After-struct-known Inv-loop μ-loop)
     → readField (drop (c .before .before .before .loop .p) (c .before .before .before .before .before .before .args .bytes .now))
     ≡ Found.found (c .before .field-at .result .value) (drop (c .before .field-at .result .next) (c .before .before .before .before .before .before .args .bytes .now))
 again c =
-    let s = c .before .before .before .before .before .before in
-    let l = c .before .before .before .loop in
-    taken-field (l .i) (s .args .n) (drop (s .args .at) (s .args .bytes .now)) (c .before .field-at .result .ok) (s .pre .2) (omega arith) (l .inv .1)
-    (c .before .field-at .ensures)
+    let after-field-at : tie.After-field-at Inv-loop μ-loop = search in
+    let at-loop : tie.At-loop Inv-loop μ-loop = search in
+    let start : tie.Start Inv-loop μ-loop = search in
+    let l = at-loop .loop in
+    taken-field (l .i) (start .args .n) (drop (start .args .at) (start .args .bytes .now)) (after-field-at .field-at .result .ok) (start .pre .2) (omega arith) (l .inv .1)
+    (after-field-at .field-at .ensures)
 
 loop-holds : tie.Need-loop-holds Inv-loop μ-loop
 loop-holds c =
-    let a = c .before .before .args in
+    let start : tie.Start Inv-loop μ-loop = search in
+    let a = start .args in
     let bs = drop (a .at) (a .bytes .now) in
-    (omega arith, got (no-field bs), refl, c .before .before .pre .0, rw (no-field bs))
+    (omega arith, got (no-field bs), refl, start .pre .0, rw (no-field bs))
 
 field-at-requires : tie.Need-field-at-requires Inv-loop μ-loop
 field-at-requires c κs = search needs
 
 cast-words : tie.Need-cast-words Inv-loop μ-loop
 cast-words c =
-    let s = c .before .before .before .before .before .before in
-    let bs = drop (s .args .at) (s .args .bytes .now) in
-    omega (arith, field-text (drop (c .before .before .before .loop .p) (s .args .bytes .now)) (again c) .1)
+    let at-loop : tie.At-loop Inv-loop μ-loop = search in
+    let start : tie.Start Inv-loop μ-loop = search in
+    let bs = drop (start .args .at) (start .args .bytes .now) in
+    omega (arith, field-text (drop (at-loop .loop .p) (start .args .bytes .now)) (again c) .1)
 
 add-words : tie.Need-add-words Inv-loop μ-loop
 add-words c = search needs
@@ -66,19 +70,21 @@ loop-less c = search needs
 
 loop-again : tie.Need-loop-again Inv-loop μ-loop
 loop-again c =
-    let s = c .before .before .before .before .before .before in
-    let l = c .before .before .before .loop in
-    let bs = drop (s .args .at) (s .args .bytes .now) in
+    let after-field-at : tie.After-field-at Inv-loop μ-loop = search in
+    let at-loop : tie.At-loop Inv-loop μ-loop = search in
+    let start : tie.Start Inv-loop μ-loop = search in
+    let l = at-loop .loop in
+    let bs = drop (start .args .at) (start .args .bytes .now) in
     let vs = numbersOf (readFields (l .i) bs) in
-    let v = c .before .field-at .result .value in
+    let v = after-field-at .field-at .result .value in
     let e = fields-more (l .i) bs (l .inv .1) (again c) in (
       omega arith,
       got e,
-      length-set (l .words) (s .args .from + l .i) v ∙ l .inv .2,
-      c .before .field-at .ensures .inside,
-      ap (λ (x : List ℕ). set x (s .args .from + l .i) v) (l .inv .4)
-          ∙ sets-more (s .args .words .now) (s .args .from) (l .i) vs v (fields-text (l .i) bs (l .inv .1) .long)
-          ∙ ap (λ (x : Found (List ℕ)). sets (s .args .words .now) (s .args .from) (numbersOf x)) (sym e),
+      length-set (l .words) (start .args .from + l .i) v ∙ l .inv .2,
+      after-field-at .field-at .ensures .inside,
+      ap (λ (x : List ℕ). set x (start .args .from + l .i) v) (l .inv .4)
+          ∙ sets-more (start .args .words .now) (start .args .from) (l .i) vs v (fields-text (l .i) bs (l .inv .1) .long)
+          ∙ ap (λ (x : Found (List ℕ)). sets (start .args .words .now) (start .args .from) (numbersOf x)) (sym e),
     )
 
 same-length : tie.Need-same-length Inv-loop μ-loop
@@ -86,9 +92,10 @@ same-length c = search needs
 
 returns : tie.Need-returns Inv-loop μ-loop
 returns c =
-    let l = c .before .loop in
-    let s = c .before .before .before .before in
-    let e : l .i ≡ s .args .n = omega arith in
+    let at-loop : tie.At-loop Inv-loop μ-loop = search in
+    let start : tie.Start Inv-loop μ-loop = search in
+    let l = at-loop .loop in
+    let e : l .i ≡ start .args .n = omega arith in
     rw (← e) (record { read = l .inv .1; inside = l .inv .3; stored = l .inv .4 })
 
 pub words-into-spec : {M : Type 1} → statement M
