@@ -1,4 +1,4 @@
-pub mod Lengths
+pub mod LineByValue
 pub mod Again
 pub mod Held
 pub mod Places

@@ -51,17 +51,17 @@ pub no-fields : (vs : List ℕ) (i : ℕ) → length vs ≤ i → fields (drop i
 unfolding fields
 no-fields vs i h = rw (drop-of-length-le vs {i = i} h)
 
--- n words from a place on
-module _ (words : List ℕ) (from n : ℕ) (fits : from + n ≤ length words) where
-  pub length-part : length (take n (drop from words)) ≡ n
-  length-part = length-take-le n (drop from words) (omega (arith, length-drop from words))
+-- the fields of a list, put one by one: those from entry i on lead to the whole text
+module _ (vs : List ℕ) (i : ℕ) {out₀ : List ℕ} {at : ℕ} {text out : List ℕ} {p : ℕ} (h : Leads out₀ at text out p (fields (drop i vs))) where
+  pub next-room : i < length vs → Room out p (field (getD vs i 0))
+  next-room k = leads-room (field (getD vs i 0)) (fields (drop (i + 1) vs)) (leads-same (fields-next vs i k) h)
 
-  pub words-next : (i : ℕ) → i < n
-      → fields (drop i (take n (drop from words))) ≡ field (getD words (from + i) 0) ++ fields (drop (i + 1) (take n (drop from words)))
-  words-next i h =
-      fields-next (take n (drop from words)) i (omega (arith, length-part))
-      ∙ ap (λ (v : ℕ). field v ++ fields (drop (i + 1) (take n (drop from words))))
-      (getD-take n (drop from words) i 0 h ∙ getD-drop from words i 0)
+  pub next-put : i < length vs → {next : ℕ} {out′ : List ℕ} → Put out p (field (getD vs i 0)) next out′
+      → Leads out₀ at text out′ next (fields (drop (i + 1) vs))
+  next-put k = leads-step (field (getD vs i 0)) (fields (drop (i + 1) vs)) (leads-same (fields-next vs i k) h)
+
+  pub all-put : length vs ≤ i → Put out₀ at text p out
+  all-put k = leads-end (leads-same (no-fields vs i k) h)
 
 -- a field is its tab and its number
 module _ {out : List ℕ} {at : ℕ} (v : ℕ) (r : Room out at (field v)) where

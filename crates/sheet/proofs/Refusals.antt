@@ -1,19 +1,17 @@
--- The line of a refusal: its length, its parts put one behind the other, and what its writer then promises. From the laws of lines
--- and of texts put one behind the other.
-use mathlib.Core.Path.{_≡_, sym, ap, _∙_}
-use mathlib.Core.List.{List, [], _∷_, _++_, append-nil, append-assoc}
-use Prim.Native.Nat.{ℕ, _+_, _<_, _≤_}
+-- The line of a refusal: its length, its form, and what its writer promises. From the laws of lines.
+use mathlib.Core.Path.{_≡_, refl, sym, ap, _∙_}
+use mathlib.Core.List.{List, [], _∷_, _++_, append-nil}
+use Prim.Native.Nat.{ℕ, zero, suc, _+_, _<_, _≤_}
 use native.Mathlib.Omega.{arith}
 use lib.ListN.{length, drop, length-append}
 use lib.Seq.{sets-eq}
 use borrow.Author.Tests.{lt-ltb, le-ltb}
-use Rattle.text.specs.Print.{lineFeed, decimal, field, fields, line}
+use Rattle.text.specs.Print.{limit, decimal, field, fields, line}
 use Rattle.text.specs.Sheet.{refusedWord, refusalText}
 use Rattle.text.proofs.Length.{length-line}
 use Rattle.sheet.specs.declared.Written.{Written}
-use Rattle.sheet.specs.Put.{Room, Put}
+use Rattle.sheet.specs.Put.{Printable, Put}
 use Rattle.sheet.specs.RefusalWriter.{refusalNumber, RefusalWrittenAs}
-use Rattle.sheet.proofs.Puts.{Leads, leads-start, leads-room, leads-step, leads-end, leads-same}
 
 -- two fields, one after the other
 fields-two : (a b : ℕ) → fields (a ∷ b ∷ []) ≡ field a ++ field b
@@ -26,46 +24,15 @@ length-refusal number place =
     length-line refusedWord (number ∷ place ∷ [])
     ∙ rw (fields-two number place, length-append (field number) (field place)) (omega arith)
 
-refusal-parts : (number place : ℕ) → refusalText number place ≡ refusedWord ++ (field number ++ (field place ++ (lineFeed ∷ [])))
-unfolding refusalText line
-refusal-parts number place =
-    ap (λ (l : List ℕ). refusedWord ++ (l ++ (lineFeed ∷ []))) (fields-two number place)
-    ∙ ap (λ (l : List ℕ). refusedWord ++ l) (append-assoc (field number) (field place) (lineFeed ∷ []))
+-- it is a line of two numbers
+pub refusal-line : (number place : ℕ) → refusalText number place ≡ line refusedWord (number ∷ place ∷ [])
+unfolding refusalText
+refusal-line number place = refl
 
--- the line is put by putting its word, its two fields and its LF
-module _ {out : List ℕ} {at : ℕ} (number place : ℕ) (r : Room out at (refusalText number place)) where
-  abbrev last : List ℕ
-  last = lineFeed ∷ []
-
-  whole : Leads out at (refusalText number place) out at (refusedWord ++ (field number ++ (field place ++ last)))
-  whole = leads-same (refusal-parts number place) (leads-start r)
-
-  pub word-room : Room out at refusedWord
-  word-room = leads-room refusedWord (field number ++ (field place ++ last)) whole
-
-  module _ {a : ℕ} {out₁ : List ℕ} (p : Put out at refusedWord a out₁) where
-    after-word : Leads out at (refusalText number place) out₁ a (field number ++ (field place ++ last))
-    after-word = leads-step refusedWord (field number ++ (field place ++ last)) whole p
-
-    pub number-room : Room out₁ a (field number)
-    number-room = leads-room (field number) (field place ++ last) after-word
-
-    module _ {b : ℕ} {out₂ : List ℕ} (q : Put out₁ a (field number) b out₂) where
-      after-number : Leads out at (refusalText number place) out₂ b (field place ++ last)
-      after-number = leads-step (field number) (field place ++ last) after-word q
-
-      pub place-room : Room out₂ b (field place)
-      place-room = leads-room (field place) last after-number
-
-      module _ {d : ℕ} {out₃ : List ℕ} (s : Put out₂ b (field place) d out₃) where
-        after-place : Leads out at (refusalText number place) out₃ d (last ++ [])
-        after-place = leads-step (field place) last after-number s
-
-        pub last-room : Room out₃ d (lineFeed ∷ [])
-        last-room = leads-room last [] after-place
-
-        pub refusal-put : {next : ℕ} {out₄ : List ℕ} → Put out₃ d (lineFeed ∷ []) next out₄ → Put out at (refusalText number place) next out₄
-        refusal-put e = leads-end (leads-step last [] after-place e)
+pub two-printable : {number place : ℕ} → number ≤ limit → place ≤ limit → Printable (number ∷ place ∷ [])
+two-printable h k zero l = h
+two-printable h k (suc zero) l = k
+two-printable h k (suc (suc n)) l = absurd (omega arith)
 
 -- what the writer of a refusal promises, once it has measured the line
 module _ (number place : ℕ) (out : List ℕ) where

@@ -87,8 +87,8 @@ fn result_len(lens: [usize; 4], order: usize, words: &[u32], size: usize, rows: 
     requires { ⌜ Measured lens order (now words) size rows ⌝ }
     ensures { λ r. ⌜ r ≡ length (resultText lens order (now (words .entry))) ⌝ }
 {
-    let head = 13 + page::lens_len(lens) + put::digits_of(order);
-    head + 4 * rows + page::words_len(words, size)
+    let head = 13 + page::numbers_len(&lens) + put::digits_of(order);
+    head + 4 * rows + page::words_len(&words[..size])
 }
 
 // Writes the result sheet: measures it, then puts it at the start of `out`.
@@ -113,7 +113,17 @@ pub fn write(lens: [usize; 4], order: usize, words: &[u32], out: &mut [u8]) -> W
     if out.len() < need {
         return nothing_written(24);
     }
-    let end = writer::result(out, lens, order, words, rows, lens[3]);
+    let shape = page::Line {
+        word: *b"shape",
+        numbers: lens,
+        count: 4,
+    };
+    let line = page::Line {
+        word: *b"order",
+        numbers: [order, 0, 0, 0],
+        count: 1,
+    };
+    let end = writer::result(out, shape, line, words, rows, lens[3]);
     Written {
         number: 0,
         count: end,
