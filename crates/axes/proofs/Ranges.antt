@@ -10,7 +10,7 @@ use lib.Dec.{eqb, ltb}
 use lib.ListN.{length, getD}
 use borrow.Author.Tests.{ltb-false, eqb-false}
 use Rattle.refusals.specs.Conditions.{some, outOfRange, badLength, firstPlace, noSwap, badSwap}
-use Rattle.refusals.proofs.Conditions.{either-false}
+use Rattle.refusals.proofs.Some.{either-false}
 
 pub none-at : (f : ℕ → Bool) (l : List ℕ) → some f l ≡ false → (k : ℕ) → k < length l → f (getD l k 0) ≡ false
 none-at f [] e k h = absurd (not-suc-le-zero h)

@@ -13,7 +13,8 @@ use borrow.Author.Tests.{ltb-true, ltb-false, eqb-false}
 use Rattle.refusals.specs.FirstOf.{check, firstOf}
 use Rattle.refusals.specs.Conditions.{badLength, tooManyWords, shortBuffer, shortScratch}
 use Rattle.refusals.specs.Scratch.{need}
-use Rattle.refusals.proofs.Conditions.{InRange, in-range, either-false, passed, enough-scratch}
+use Rattle.refusals.proofs.Conditions.{InRange, in-range, passed, enough-scratch}
+use Rattle.refusals.proofs.Some.{either-false}
 use Rattle.flat.specs.Turn.{sides}
 use Rattle.layout.specs.Layout.{volume, Within, at, pick, Laid}
 use Rattle.layout.specs.Layout.Within.{none, more}

@@ -12,7 +12,7 @@ use borrow.Author.Tests.{ltb-false, lt-ltb, le-ltb, eq-eqb, ne-eqb}
 use Rattle.layout.specs.Layout.{volume}
 use Rattle.refusals.specs.Conditions.{some, outOfRange, badLength, noSwap, badSwap, firstPlace}
 use Rattle.text.specs.Sheet.{rowCount, rowWidth}
-use Rattle.refusals.proofs.Conditions.{either-false}
+use Rattle.refusals.proofs.Some.{either-false}
 use Rattle.text.proofs.Numbers.{decided}
 use Rattle.text.proofs.Length.{none-at}
 use Rattle.sheet.proofs.Places.{drop-next}

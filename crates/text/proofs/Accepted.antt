@@ -15,7 +15,7 @@ use Rattle.text.specs.Print.{limit, lineFeed, fields, line}
 use Rattle.text.specs.Read.{Found, readLine, tabs}
 use Rattle.text.specs.Sheet.{shapeWord, chainWord, rowCount, rowWidth, rowsText, sheetText}
 use Rattle.text.specs.Meaning.{Step, Outcome, longSheet, bigSheet, refuseIf, onLine, onward, conclude, shapeLine, chainLine, rowLines, meaning}
-use Rattle.refusals.proofs.Conditions.{either-false}
+use Rattle.refusals.proofs.Some.{either-false}
 use Rattle.text.proofs.Lines.{Small, Held, line-then, line-text, text-line, tabs-fields}
 use Rattle.text.proofs.Steps.{refuse-go, on-line-go, onward-go, conclude-accepted}
 use Rattle.text.proofs.Rows.{rows-text, text-rows, rows-volume}

@@ -15,7 +15,7 @@ use Rattle.layout.specs.Layout.{volume}
 use Rattle.refusals.specs.Conditions.{some, outOfRange, badLength}
 use Rattle.text.specs.Print.{lineFeed, digits, decimal, field, fields, line}
 use Rattle.text.specs.Sheet.{shapeWord, orderWord, rowWord, rowCount, rowWidth, rowsText, resultText}
-use Rattle.refusals.proofs.Conditions.{either-false}
+use Rattle.refusals.proofs.Some.{either-false}
 use Rattle.text.proofs.Rows.{rows-volume}
 
 digits-few : (n v : ℕ) → length (digits n v) ≤ n
