@@ -5,7 +5,7 @@ pub mod Places
 pub mod Runs
 pub mod LinesAt
 pub mod Stores
-pub mod Checks
+pub mod Block
 pub mod RowsFrom
 pub mod HeadLines
 pub mod Whole

@@ -8,6 +8,7 @@ use lib.ListN.{length, take, drop, getD, length-append, length-drop}
 use lib.Seq.{drop-drop, take-add, take-all, getD-take, length-take-le}
 use Rattle.layout.specs.Layout.{volume}
 use Rattle.refusals.specs.Conditions.{badLength}
+use Rattle.refusals.proofs.Conditions.{length-at}
 use Rattle.text.specs.Print.{limit, lineFeed, decimal, field, fields, line}
 use Rattle.text.specs.Sheet.{shapeWord, orderWord, rowWord, rowCount, rowWidth, rowsText, resultText}
 use Rattle.text.proofs.Rows.{rows-volume}
@@ -15,7 +16,6 @@ use Rattle.text.proofs.Length.{length-line}
 use Rattle.sheet.specs.Put.{Room, Put}
 use Rattle.sheet.specs.Thin.{Writable, pageOf}
 use Rattle.sheet.specs.declared.page.Line.{Line}
-use Rattle.sheet.proofs.Checks.{length-bound}
 use Rattle.sheet.proofs.Puts.{Leads, leads-room, leads-step, leads-end, leads-same, first-room, second-room, third-room, three-put, fields-next, no-fields}
 
 -- a line is its word, its fields and its LF
@@ -112,7 +112,7 @@ pub shape-writable : (ds : List ℕ) → length ds ≡ 4 → badLength ds ≡ fa
 shape-writable ds four good =
     record {
       few = omega arith;
-      printable = rw (take-all 4 ds (omega arith)) (λ k h. omega (arith, length-bound ds k h good));
+      printable = rw (take-all 4 ds (omega arith)) (λ k h. omega (arith, length-at ds good k h));
     }
 
 pub order-writable : (order : ℕ) → order ≤ 23 → Writable (orderOf order)

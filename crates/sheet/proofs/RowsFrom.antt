@@ -6,23 +6,24 @@ use mathlib.Core.List.{List, [], _∷_, _++_, append-assoc, append-nil}
 use Prim.Native.Nat.{ℕ, zero, suc, _+_, _-_, _*_, _<_, _≤_}
 use native.Mathlib.Omega.{arith}
 use lib.ListN.{length, drop, getD, drop-of-length-le}
+use lib.Seq.{sets}
 use mathlib.Core.Logic.{⊎-elim}
 use Rattle.lists.proofs.Decide.{lt-or-ge}
 use Rattle.text.specs.Print.{lineFeed}
 use Rattle.text.specs.Read.{Found, readFields, readLine}
-use Rattle.text.specs.Sheet.{rowWord}
+use Rattle.text.specs.Sheet.{rowWord, rowCount, rowWidth}
 use Rattle.text.specs.Meaning.{Step, onLine, onward, behind, ended, rowLines}
 use Rattle.text.proofs.Lines.{fields-text}
 use Rattle.text.proofs.Steps.{behind-go}
-use Rattle.sheet.specs.Place.{RowsAt, RowsThere, There, wordsOf, numbersOf}
+use Rattle.sheet.specs.Place.{RowsAt, RowsThere, RowsTaken, There, wordsOf, numbersOf}
 use Rattle.sheet.proofs.Places.{drop-next}
 use Rattle.sheet.proofs.LinesAt.{line-fields}
 
-pub rows-right : {what : Step} {ws : List ℕ} (line : ℕ) → what ≡ Step.go ws [] → RowsAt what true line
-rows-right line e = record { right = λ t. rw e; wrong = λ t. let n : _≡_ {A = ℕ} 0 1 = cc in absurd (omega arith) }
+pub rows-right : {what : Step} {ws : List ℕ} → what ≡ Step.go ws [] → RowsAt what 0
+rows-right e = record { right = λ t. rw e; wrong = λ t. absurd (t refl) }
 
-pub rows-wrong : {what : Step} {line : ℕ} → what ≡ Step.refuse 10 line → RowsAt what false line
-rows-wrong e = record { right = λ t. let n : _≡_ {A = ℕ} 0 1 = cc in absurd (omega arith); wrong = λ t. e }
+pub rows-wrong : {what : Step} {line : ℕ} → 0 < line → what ≡ Step.refuse 10 line → RowsAt what line
+rows-wrong h e = record { right = λ t. absurd (omega arith); wrong = λ t. e }
 
 pub behind-behind : (ws us : List ℕ) (s : Step) → behind ws (behind us s) ≡ behind (ws ++ us) s
 behind-behind ws us (Step.refuse number place) = refl
@@ -146,3 +147,13 @@ ended-words k (b ∷ bs) = refl
 pub no-words : (count n : ℕ) (bs : List ℕ) → wordsOf (rowsLeft count n count bs) ≡ []
 unfolding rowLines
 no-words count n bs = let a : count - count ≡ 0 = omega arith in rw a (ended-words (3 + count) bs)
+
+-- the rows of a block whose count and width are given by other numbers: wrong and kept, or right and stored
+module _ (ds : List ℕ) (bs : List ℕ) {count n : ℕ} (e : count ≡ rowCount ds) (w : n ≡ rowWidth ds) {words : List ℕ} {line : ℕ}
+    (j : RowsAt (rowLines 3 count n bs) line) where
+  pub rows-kept : (line ≡ 0 → ⊥) → RowsTaken (rowLines 3 (rowCount ds) (rowWidth ds) bs) line words words
+  rows-kept z = rw (← e, ← w) (record { judged = j; stored = λ t. absurd (z t); kept = λ _. refl })
+
+  pub rows-stored : line ≡ 0 → {words′ : List ℕ} → words′ ≡ sets words 0 (wordsOf (rowLines 3 count n bs))
+      → RowsTaken (rowLines 3 (rowCount ds) (rowWidth ds) bs) 0 words words′
+  rows-stored z s = rw (← e, ← w) (record { judged = rw z at j; stored = λ _. s; kept = λ t. absurd (t refl) })

@@ -4,66 +4,61 @@ use mathlib.Core.Bool.{Bool, true, false}
 use mathlib.Core.List.{List, [], _∷_, _++_}
 use Prim.Native.Nat.{ℕ, _+_, _<_, _≤_}
 use native.Mathlib.Omega.{arith}
-use lib.Dec.{eqb}
 use lib.ListN.{length, drop}
-use lib.Seq.{sets, sets-eq}
-use borrow.Author.Tests.{lt-ltb, le-ltb}
+use lib.Seq.{sets-eq}
+use borrow.Author.Tests.{ne-eqb, lt-ltb, le-ltb}
 use Rattle.layout.specs.Layout.{volume}
-use Rattle.refusals.specs.Conditions.{badLength}
+use Rattle.refusals.specs.FirstOf.{check, firstOf}
+use Rattle.refusals.specs.Conditions.{badLength, shortBuffer, noOrder}
 use Rattle.text.specs.Sheet.{resultText}
+use Rattle.text.specs.Meaning.{bigSheet}
 use Rattle.sheet.specs.declared.Written.{Written}
-use Rattle.sheet.specs.Put.{Room, Put}
-use Rattle.sheet.specs.Writer.{nothingWritten, writerNumber, written, writtenTo, WrittenAs}
+use Rattle.sheet.specs.Place.{OnSheet}
+use Rattle.sheet.specs.Put.{Put}
+use Rattle.sheet.specs.Writer.{shortBytes, sheetChecks, nothingWritten, writerNumber, WrittenAs}
 
-module _ {ds : List ℕ} {order : ℕ} {words out : List ℕ} {answered : Written} where
-  refused-by : (k : ℕ) → eqb k 0 ≡ false → answered ≡ nothingWritten k → writerNumber ds order words out ≡ k
+-- refused with a number that is not 0
+refused-by : {ds : List ℕ} {order : ℕ} {words out : List ℕ} {answered : Written} (k : ℕ) → (k ≡ 0 → ⊥) → answered ≡ nothingWritten k
+    → writerNumber ds order words out ≡ k → WrittenAs ds order words out answered out
+refused-by k z a e = record { answers = a ∙ rw (e, ne-eqb k 0 z); bytes = rw (e, ne-eqb k 0 z) }
+
+-- by one of the checks of the block
+pub refused-block : {ds : List ℕ} {order : ℕ} {words out : List ℕ} {answered : Written} {k : ℕ} → k ≡ firstOf (sheetChecks ds words)
+    → (k ≡ 0 → ⊥) → answered ≡ nothingWritten k → WrittenAs ds order words out answered out
+refused-block {ds} {order} {words} {out} {k = k} e z a =
+    refused-by k z a
+    (by (badLength ds) (bigSheet ds) (shortBuffer ds words) (λ o. z (e ∙ o)) ∙ sym e)
+  where
+    by : (a b c : Bool) → (firstOf (check 1 a ∷ check 11 b ∷ check 3 c ∷ []) ≡ 0 → ⊥)
+        → firstOf (check 1 a ∷ check 11 b ∷ check 3 c ∷ check 7 (noOrder 4 order) ∷ check 24 (shortBytes (resultText ds order words) out) ∷ [])
+        ≡ firstOf (check 1 a ∷ check 11 b ∷ check 3 c ∷ [])
+    by true b c n = refl
+    by false true c n = refl
+    by false false true n = refl
+    by false false false n = absurd (n refl)
+
+-- the block is right: what is left are the order number and the room for the text
+module _ {ds words : List ℕ} (h : OnSheet ds words) where
+  left : (order : ℕ) (out : List ℕ) → writerNumber ds order words out ≡ firstOf (check 7 (noOrder 4 order) ∷ check 24 (shortBytes (resultText ds order words) out) ∷ [])
+  left order out = rw (h .lengths, le-ltb 1024 (volume ds) (h .few), le-ltb (length words) (volume ds) (h .enough))
+
+  pub refused-order : {order : ℕ} {out : List ℕ} {answered : Written} → 23 < order → answered ≡ nothingWritten 7 → WrittenAs ds order words out answered out
+  refused-order {order} {out} k a = refused-by 7 (λ z. omega arith) a (left order out ∙ rw (lt-ltb 23 order k))
+
+  pub refused-room : {order : ℕ} {out : List ℕ} {answered : Written} → order ≤ 23 → length out < length (resultText ds order words) → answered ≡ nothingWritten 24
       → WrittenAs ds order words out answered out
-  refused-by k z a e = record { answers = a ∙ rw (e, z); bytes = rw (e, z) }
+  refused-room {order} {out} k f a =
+      refused-by 24 (λ z. omega arith) a (left order out ∙ rw (le-ltb 23 order k, lt-ltb (length out) (length (resultText ds order words)) f))
 
-  pub refused-1 : answered ≡ nothingWritten 1 → badLength ds ≡ true → WrittenAs ds order words out answered out
-  refused-1 is a = refused-by 1 refl is (rw a)
-
-  pub refused-11 : answered ≡ nothingWritten 11 → badLength ds ≡ false → 1024 < volume ds → WrittenAs ds order words out answered out
-  refused-11 is a b = refused-by 11 refl is (rw (a, lt-ltb 1024 (volume ds) b))
-
-  pub refused-3 : answered ≡ nothingWritten 3 → badLength ds ≡ false → volume ds ≤ 1024 → length words < volume ds
-      → WrittenAs ds order words out answered out
-  refused-3 is a b d = refused-by 3 refl is (rw (a, le-ltb 1024 (volume ds) b, lt-ltb (length words) (volume ds) d))
-
-  pub refused-7 : answered ≡ nothingWritten 7 → badLength ds ≡ false → volume ds ≤ 1024 → volume ds ≤ length words → 23 < order
-      → WrittenAs ds order words out answered out
-  refused-7 is a b d e =
-      refused-by 7 refl is (rw (a, le-ltb 1024 (volume ds) b, le-ltb (length words) (volume ds) d, lt-ltb 23 order e))
-
-  pub refused-24 : answered ≡ nothingWritten 24 → badLength ds ≡ false → volume ds ≤ 1024 → volume ds ≤ length words → order ≤ 23
-      → length out < length (resultText ds order words) → WrittenAs ds order words out answered out
-  refused-24 is a b d e f =
-      refused-by 24 refl is
-      (rw (
-        a,
-        le-ltb 1024 (volume ds) b,
-        le-ltb (length words) (volume ds) d,
-        le-ltb 23 order e,
-        lt-ltb (length out) (length (resultText ds order words)) f,
-      ))
-
--- accepted, and the text put at the start
-pub accepted : {ds : List ℕ} {order : ℕ} {words out : List ℕ} {next : ℕ} {out′ : List ℕ} → Put out 0 (resultText ds order words) next out′
-    → badLength ds ≡ false → volume ds ≤ 1024 → volume ds ≤ length words → order ≤ 23 → length (resultText ds order words) ≤ length out
-    → WrittenAs ds order words out (record { number = 0; count = next }) out′
-accepted {ds} {order} {words} {out} {next} q a b d e f =
-    let text = resultText ds order words in
-    let zero : writerNumber ds order words out ≡ 0 =
-    rw (
-      a,
-      le-ltb 1024 (volume ds) b,
-      le-ltb (length words) (volume ds) d,
-      le-ltb 23 order e,
-      le-ltb (length out) (length text) f,
-    ) in
-    let z : 0 + length text ≡ length text = omega arith in
-    let count : next ≡ length text = q .place ∙ z in
-    record {
-      answers = rw (zero, count);
-      bytes = rw zero (q .bytes ∙ sets-eq text out 0 (omega arith) ∙ ap (λ (n : ℕ). text ++ drop n out) z);
-    }
+  -- accepted, and the text put at the start
+  pub accepted : {order : ℕ} {out : List ℕ} {next : ℕ} {out′ : List ℕ} → order ≤ 23 → length (resultText ds order words) ≤ length out
+      → Put out 0 (resultText ds order words) next out′ → WrittenAs ds order words out (record { number = 0; count = next }) out′
+  accepted {order} {out} {next} k f q =
+      let text = resultText ds order words in
+      let none : writerNumber ds order words out ≡ 0 = left order out ∙ rw (le-ltb 23 order k, le-ltb (length out) (length text) f) in
+      let z : 0 + length text ≡ length text = omega arith in
+      let count : next ≡ length text = q .place ∙ z in
+      record {
+        answers = rw (none, count);
+        bytes = rw none (q .bytes ∙ sets-eq text out 0 (omega arith) ∙ ap (λ (n : ℕ). text ++ drop n out) z);
+      }

@@ -5,6 +5,8 @@ use mathlib.Core.List.{List, []}
 use Prim.Native.Nat.{ℕ, _≤_}
 use lib.ListN.{length, drop}
 use lib.Seq.{sets}
+use Rattle.layout.specs.Layout.{volume}
+use Rattle.refusals.specs.Conditions.{badLength}
 use Rattle.text.specs.Read.{Found}
 use Rattle.text.specs.Meaning.{Step}
 use Rattle.sheet.specs.Swaps.{padded}
@@ -44,10 +46,28 @@ wordsOf (Step.go vs rest) = vs
 pub record RowsThere (what : Step) : Type 0 where
   pub rows : what ≡ Step.go (wordsOf what) []
 
--- where it is ok, the rows are right and nothing follows them; else the line is malformed, missing or left over
-pub record RowsAt (what : Step) (ok : Bool) (line : ℕ) : Type 0 where
-  pub right : ok ≡ true → what ≡ Step.go (wordsOf what) []
-  pub wrong : ok ≡ false → what ≡ Step.refuse 10 line
+-- where the line is 0, the rows are right and nothing follows them; else that line is malformed, missing or left over
+pub record RowsAt (what : Step) (line : ℕ) : Type 0 where
+  pub right : line ≡ 0 → what ≡ Step.go (wordsOf what) []
+  pub wrong : (line ≡ 0 → ⊥) → what ≡ Step.refuse 10 line
+
+-- rows that are right are stored from the start of the words; else no word is stored
+pub record RowsTaken (what : Step) (line : ℕ) (words words′ : List ℕ) : Type 0 where
+  pub judged : RowsAt what line
+  pub stored : line ≡ 0 → words′ ≡ sets words 0 (wordsOf what)
+  pub kept : (line ≡ 0 → ⊥) → words′ ≡ words
+
+-- a block that a sheet may have, for which the word buffer has room
+pub record OnSheet (ds words : List ℕ) : Type 0 where
+  pub lengths : badLength ds ≡ false
+  pub few : volume ds ≤ 1024
+  pub enough : volume ds ≤ length words
+
+-- a refusal with the number k and the place p; no bytes follow it
+pub record RefusedWith (k p number place next : ℕ) : Type 0 where
+  pub numbered : number ≡ k
+  pub placed : place ≡ p
+  pub ended : next ≡ 0
 
 -- where the number is 0, the step went on with the values, and the bytes from `next` on follow them; else it refused so
 pub record StepAt (bytes : List ℕ) (what : Step) (number place : ℕ) (values : List ℕ) (next : ℕ) : Type 0 where

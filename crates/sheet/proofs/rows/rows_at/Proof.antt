@@ -32,16 +32,10 @@ loop-holds c =
     let z : a .count - 0 ≡ a .count = omega arith in rw z in
     (omega arith, start .pre .0, ([], sym e ∙ behind-none (rowsLeft (a .count) (a .n) 0 bs)))
 
-slice-aggregate-line-at : tie.Need-slice-aggregate-line-at Inv-loop μ-loop
-slice-aggregate-line-at c = search needs
-
 line-at-requires : tie.Need-line-at-requires Inv-loop μ-loop
 line-at-requires c κs =
     let at-loop : tie.At-loop Inv-loop μ-loop = search in
     at-loop .loop .inv .1
-
-add-t12 : tie.Need-add-t12 Inv-loop μ-loop
-add-t12 c = search needs
 
 returns : tie.Need-returns Inv-loop μ-loop
 returns c =
@@ -51,13 +45,7 @@ returns c =
     let l = at-loop .loop in
     let a = start .args in
     let bad : readLine rowWord (a .n) (drop (l .p) (a .bytes .now)) ≡ Found.none = after-line-at .line-at .ensures .wrong (not-true (after-line-at .line-at .result .ok) (c .if1 .taken)) in
-    rows-wrong (l .inv .2 .1 ∙ rw (row-bad (a .count) (a .n) (l .i) (drop (l .p) (a .bytes .now)) (omega arith) bad))
-
-add-i : tie.Need-add-i Inv-loop μ-loop
-add-i c = search needs
-
-loop-less : tie.Need-loop-less Inv-loop μ-loop
-loop-less c = search needs
+    rows-wrong (omega arith) (l .inv .2 .1 ∙ rw (row-bad (a .count) (a .n) (l .i) (drop (l .p) (a .bytes .now)) (omega arith) bad))
 
 loop-again : tie.Need-loop-again Inv-loop μ-loop
 loop-again c =
@@ -81,9 +69,6 @@ loop-again c =
       ),
     )
 
-add-t15 : tie.Need-add-t15 Inv-loop μ-loop
-add-t15 c = search needs
-
 returns-2 : tie.Need-returns-2 Inv-loop μ-loop
 returns-2 c =
     let at-loop : tie.At-loop Inv-loop μ-loop = search in
@@ -93,7 +78,7 @@ returns-2 c =
     let e : l .i ≡ a .count = omega arith in
     let over : rowsLeft (a .count) (a .n) (l .i) (drop (l .p) (a .bytes .now)) ≡ Step.refuse 10 (a .count + 3) =
     rw e (rows-left-over (a .count) (a .n) (a .bytes .now) (l .p) (c .if2 .taken)) in
-    rows-wrong (l .inv .2 .1 ∙ ap (behind (l .inv .2 .0)) over)
+    rows-wrong (omega arith) (l .inv .2 .1 ∙ ap (behind (l .inv .2 .0)) over)
 
 returns-3 : tie.Need-returns-3 Inv-loop μ-loop
 returns-3 c =
@@ -104,7 +89,7 @@ returns-3 c =
     let e : l .i ≡ a .count = omega arith in
     let over : rowsLeft (a .count) (a .n) (l .i) (drop (l .p) (a .bytes .now)) ≡ Step.go [] [] =
     rw e (rows-end (a .count) (a .n) (a .bytes .now) (l .p) (c .if2 .left)) in
-    rows-right 0 (l .inv .2 .1 ∙ ap (behind (l .inv .2 .0)) over)
+    rows-right (l .inv .2 .1 ∙ ap (behind (l .inv .2 .0)) over)
 
 pub rows-at-spec : {M : Type 1} → statement M
 rows-at-spec =
@@ -113,13 +98,13 @@ rows-at-spec =
     Inv-loop
     μ-loop
     loop-holds
-    slice-aggregate-line-at
+    (search needs)
     line-at-requires
-    add-t12
+    (search needs)
     returns
-    add-i
-    loop-less
+    (search needs)
+    (search needs)
     loop-again
-    add-t15
+    (search needs)
     returns-2
     returns-3)

@@ -24,16 +24,21 @@ abbrev μ-loop : tie.MeasureT-loop
 μ-loop bytes at count n words₀ p₀ from₀ i₀ words p from i =
     count - i
 
--- the row at the place reached
-row : (c : tie.In-loop Inv-loop μ-loop)
-    → RowAt (c .before .before .before .before .args .bytes .now) (c .before .before .before .before .args .count) (c .before .before .before .before .args .n)
-    (c .before .loop .i) (c .before .loop .p)
-row c =
-    let at-loop : tie.At-loop Inv-loop μ-loop = search in
-    let start : tie.Start Inv-loop μ-loop = search in
-    let l = at-loop .loop in
-    let a = start .args in
-    row-at (a .bytes .now) (a .count) (a .n) (l .i) (l .p) (c .loop-test .taken) (l .inv .1) (l .inv .4)
+-- the row at the place reached, and the room that it needs
+module _ (c : tie.In-loop Inv-loop μ-loop) where
+  abbrev start : tie.Start Inv-loop μ-loop
+  start = search
+
+  abbrev at-loop : tie.At-loop Inv-loop μ-loop
+  at-loop = search
+
+  row : RowAt (start .args .bytes .now) (start .args .count) (start .args .n) (at-loop .loop .i) (at-loop .loop .p)
+  row =
+      row-at (start .args .bytes .now) (start .args .count) (start .args .n) (at-loop .loop .i) (at-loop .loop .p) (c .loop-test .taken)
+      (at-loop .loop .inv .1) (at-loop .loop .inv .4)
+
+  room : at-loop .loop .from + start .args .n + (start .args .count - (at-loop .loop .i + 1)) * start .args .n ≤ length (start .args .words .now)
+  room = omega (arith, room-left (start .args .count) (start .args .n) (at-loop .loop .i) (c .loop-test .taken))
 
 loop-holds : tie.Need-loop-holds Inv-loop μ-loop
 loop-holds c =
@@ -46,33 +51,16 @@ add-words-into c = omega (arith, row c .inside)
 
 words-into-requires : tie.Need-words-into-requires Inv-loop μ-loop
 words-into-requires c κs =
-    let in-loop : tie.In-loop Inv-loop μ-loop = search in
-    let at-loop : tie.At-loop Inv-loop μ-loop = search in
-    let start : tie.Start Inv-loop μ-loop = search in
-    let a = start .args in
-    let room = room-left (a .count) (a .n) (at-loop .loop .i) (in-loop .loop-test .taken) in
-    (row in-loop .inside, omega (arith, room, at-loop .loop .inv .2, at-loop .loop .inv .3), row in-loop .there)
+    let t : tie.In-loop Inv-loop μ-loop = search in
+    (row t .inside, omega (arith, room t), row t .there)
 
 add-p : tie.Need-add-p Inv-loop μ-loop
 add-p c =
-    let after-words-into : tie.After-words-into Inv-loop μ-loop = search in
-    let in-loop : tie.In-loop Inv-loop μ-loop = search in
-    omega (arith, row (in-loop) .onwards (after-words-into .words-into .result) (after-words-into .words-into .ensures .read) .0)
+    let q : tie.After-words-into Inv-loop μ-loop = search in
+    omega (arith, row (search) .onwards (q .words-into .result) (q .words-into .ensures .read) .0)
 
 add-from : tie.Need-add-from Inv-loop μ-loop
-add-from c =
-    let in-loop : tie.In-loop Inv-loop μ-loop = search in
-    let at-loop : tie.At-loop Inv-loop μ-loop = search in
-    let start : tie.Start Inv-loop μ-loop = search in
-    let a = start .args in
-    let room = room-left (a .count) (a .n) (at-loop .loop .i) (in-loop .loop-test .taken) in
-    omega (arith, room, at-loop .loop .inv .3)
-
-add-i : tie.Need-add-i Inv-loop μ-loop
-add-i c = search needs
-
-loop-less : tie.Need-loop-less Inv-loop μ-loop
-loop-less c = search needs
+add-from c = omega (arith, room (search))
 
 loop-again : tie.Need-loop-again Inv-loop μ-loop
 loop-again c =
@@ -84,7 +72,6 @@ loop-again c =
     let l = at-loop .loop in
     let a = start .args in
     let r = row in-loop in
-    let room = room-left (a .count) (a .n) (l .i) (in-loop .loop-test .taken) in
     let on = r .onwards (q .result) (q .ensures .read) in
     let us = numbersOf (rowFields (a .bytes .now) (a .n) (l .p)) in
     let left = wordsOf (rowsLeft (a .count) (a .n) (l .i + 1) (drop (q .result + 1) (a .bytes .now))) in
@@ -92,7 +79,7 @@ loop-again c =
       omega arith,
       on .0,
       ap length (q .ensures .stored) ∙ length-sets (l .words) (l .from) us ∙ l .inv .2,
-      omega (arith, room, l .inv .3),
+      room in-loop,
       on .1,
       ap (λ (x : List ℕ). sets x (l .from + a .n) left) (q .ensures .stored)
           ∙ ap (λ (k : ℕ). sets (sets (l .words) (l .from) us) (l .from + k) left) (sym long)
@@ -100,9 +87,6 @@ loop-again c =
           ∙ ap (sets (l .words) (l .from)) (sym (on .2))
           ∙ l .inv .5,
     )
-
-same-length : tie.Need-same-length Inv-loop μ-loop
-same-length c = search needs
 
 returns : tie.Need-returns Inv-loop μ-loop
 returns c =
@@ -126,8 +110,8 @@ store-rows-spec =
     words-into-requires
     add-p
     add-from
-    add-i
-    loop-less
+    (search needs)
+    (search needs)
     loop-again
-    same-length
+    (search needs)
     returns)

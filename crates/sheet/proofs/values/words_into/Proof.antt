@@ -25,16 +25,21 @@ abbrev μ-loop : tie.MeasureT-loop
     n - i
 
 -- the field at the place reached is found again
-again : (c : tie.After-struct-known Inv-loop μ-loop)
-    → readField (drop (c .before .before .before .loop .p) (c .before .before .before .before .before .before .args .bytes .now))
-    ≡ Found.found (c .before .field-at .result .value) (drop (c .before .field-at .result .next) (c .before .before .before .before .before .before .args .bytes .now))
-again c =
-    let after-field-at : tie.After-field-at Inv-loop μ-loop = search in
-    let at-loop : tie.At-loop Inv-loop μ-loop = search in
-    let start : tie.Start Inv-loop μ-loop = search in
-    let l = at-loop .loop in
-    taken-field (l .i) (start .args .n) (drop (start .args .at) (start .args .bytes .now)) (after-field-at .field-at .result .ok) (start .pre .2) (omega arith) (l .inv .1)
-    (after-field-at .field-at .ensures)
+module _ (c : tie.After-struct-known Inv-loop μ-loop) where
+  abbrev start : tie.Start Inv-loop μ-loop
+  start = search
+
+  abbrev at-loop : tie.At-loop Inv-loop μ-loop
+  at-loop = search
+
+  abbrev found : tie.After-field-at Inv-loop μ-loop
+  found = search
+
+  again : readField (drop (at-loop .loop .p) (start .args .bytes .now))
+      ≡ Found.found (found .field-at .result .value) (drop (found .field-at .result .next) (start .args .bytes .now))
+  again =
+      taken-field (at-loop .loop .i) (start .args .n) (drop (start .args .at) (start .args .bytes .now)) (found .field-at .result .ok) (start .pre .2)
+      (omega arith) (at-loop .loop .inv .1) (found .field-at .ensures)
 
 loop-holds : tie.Need-loop-holds Inv-loop μ-loop
 loop-holds c =
