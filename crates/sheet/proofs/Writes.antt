@@ -1,12 +1,11 @@
--- The writer's number, check by check, and what it then promises. From the definitions.
-use mathlib.Core.Path.{_≡_, refl, sym, ap, _∙_}
+-- The result sheet's writer: what it promises on each way out. From the definitions.
+use mathlib.Core.Path.{_≡_, refl, sym, _∙_}
 use mathlib.Core.Bool.{Bool, true, false}
-use mathlib.Core.List.{List, [], _∷_, _++_}
-use Prim.Native.Nat.{ℕ, _+_, _<_, _≤_}
+use mathlib.Core.List.{List, [], _∷_}
+use Prim.Native.Nat.{ℕ, _<_, _≤_}
 use native.Mathlib.Omega.{arith}
-use lib.ListN.{length, drop}
-use lib.Seq.{sets-eq}
-use borrow.Author.Tests.{ne-eqb, lt-ltb, le-ltb}
+use lib.ListN.{length}
+use borrow.Author.Tests.{lt-ltb, le-ltb}
 use Rattle.layout.specs.Layout.{volume}
 use Rattle.refusals.specs.FirstOf.{check, firstOf}
 use Rattle.refusals.specs.Conditions.{badLength, shortBuffer, noOrder}
@@ -16,11 +15,14 @@ use Rattle.sheet.specs.declared.Written.{Written}
 use Rattle.sheet.specs.Place.{OnSheet}
 use Rattle.sheet.specs.Put.{Put}
 use Rattle.sheet.specs.Writer.{shortBytes, sheetChecks, nothingWritten, writerNumber, WrittenAs}
+use Rattle.sheet.proofs.InFull.{none-written, all-written}
 
 -- refused with a number that is not 0
 refused-by : {ds : List ℕ} {order : ℕ} {words out : List ℕ} {answered : Written} (k : ℕ) → (k ≡ 0 → ⊥) → answered ≡ nothingWritten k
     → writerNumber ds order words out ≡ k → WrittenAs ds order words out answered out
-refused-by k z a e = record { answers = a ∙ rw (e, ne-eqb k 0 z); bytes = rw (e, ne-eqb k 0 z) }
+refused-by {ds} {order} {words} {out} k z a e =
+    let p = none-written (resultText ds order words) out z a in
+    record { answers = rw e (p .0); bytes = rw e (p .1) }
 
 -- by one of the checks of the block
 pub refused-block : {ds : List ℕ} {order : ℕ} {words out : List ℕ} {answered : Written} {k : ℕ} → k ≡ firstOf (sheetChecks ds words)
@@ -50,15 +52,11 @@ module _ {ds words : List ℕ} (h : OnSheet ds words) where
   refused-room {order} {out} k f a =
       refused-by 24 (λ z. omega arith) a (left order out ∙ rw (le-ltb 23 order k, lt-ltb (length out) (length (resultText ds order words)) f))
 
+  -- nothing refuses
+  pub number-0 : (order : ℕ) (out : List ℕ) → order ≤ 23 → length (resultText ds order words) ≤ length out → writerNumber ds order words out ≡ 0
+  number-0 order out k f = left order out ∙ rw (le-ltb 23 order k, le-ltb (length out) (length (resultText ds order words)) f)
+
   -- accepted, and the text put at the start
   pub accepted : {order : ℕ} {out : List ℕ} {next : ℕ} {out′ : List ℕ} → order ≤ 23 → length (resultText ds order words) ≤ length out
       → Put out 0 (resultText ds order words) next out′ → WrittenAs ds order words out (record { number = 0; count = next }) out′
-  accepted {order} {out} {next} k f q =
-      let text = resultText ds order words in
-      let none : writerNumber ds order words out ≡ 0 = left order out ∙ rw (le-ltb 23 order k, le-ltb (length out) (length text) f) in
-      let z : 0 + length text ≡ length text = omega arith in
-      let count : next ≡ length text = q .place ∙ z in
-      record {
-        answers = rw (none, count);
-        bytes = rw none (q .bytes ∙ sets-eq text out 0 (omega arith) ∙ ap (λ (n : ℕ). text ++ drop n out) z);
-      }
+  accepted {order} {out} k f q = let p = all-written (number-0 order out k f) f q in record { answers = p .0; bytes = p .1 }

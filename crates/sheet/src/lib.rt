@@ -140,10 +140,7 @@ pub fn write_refusal(number: u32, place: u32, out: &mut [u8]) -> Written
     let second = place as usize;
     let need = refusal::refusal_len(first, second);
     if out.len() < need {
-        return Written {
-            number: 24,
-            count: 0,
-        };
+        return nothing_written(24);
     }
     let end = refusal::put_refusal(out, 0, first, second);
     Written {

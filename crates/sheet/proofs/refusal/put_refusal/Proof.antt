@@ -2,7 +2,7 @@
 use Prim.Native.Nat.{ℕ}
 use borrow.Author.Needs.{needs}
 use Rattle.sheet.proofs.Puts.{put-length}
-use Rattle.sheet.proofs.Refusals.{two-printable, refusal-line}
+use Rattle.sheet.proofs.RefusalLine.{two-printable, refusal-line}
 use Rattle.sheet.proofs.refusal.put_refusal.Statement.{statement}
 use Rattle.sheet.proofs.refusal.put_refusal.Tie as tie
 

@@ -1,17 +1,18 @@
 -- The line of a refusal: its length, its form, and what its writer promises. From the laws of lines.
-use mathlib.Core.Path.{_≡_, refl, sym, ap, _∙_}
+use mathlib.Core.Path.{_≡_, refl, _∙_}
 use mathlib.Core.List.{List, [], _∷_, _++_, append-nil}
 use Prim.Native.Nat.{ℕ, zero, suc, _+_, _<_, _≤_}
 use native.Mathlib.Omega.{arith}
-use lib.ListN.{length, drop, length-append}
-use lib.Seq.{sets-eq}
+use lib.ListN.{length, length-append}
 use borrow.Author.Tests.{lt-ltb, le-ltb}
 use Rattle.text.specs.Print.{limit, decimal, field, fields, line}
 use Rattle.text.specs.Sheet.{refusedWord, refusalText}
 use Rattle.text.proofs.Length.{length-line}
 use Rattle.sheet.specs.declared.Written.{Written}
 use Rattle.sheet.specs.Put.{Printable, Put}
+use Rattle.sheet.specs.Writer.{nothingWritten}
 use Rattle.sheet.specs.RefusalWriter.{refusalNumber, RefusalWrittenAs}
+use Rattle.sheet.proofs.InFull.{none-written, all-written}
 
 -- two fields, one after the other
 fields-two : (a b : ℕ) → fields (a ∷ b ∷ []) ≡ field a ++ field b
@@ -36,24 +37,16 @@ two-printable h k (suc (suc n)) l = absurd (omega arith)
 
 -- what the writer of a refusal promises, once it has measured the line
 module _ (number place : ℕ) (out : List ℕ) where
-  pub refusal-short : length out < length (refusalText number place) → RefusalWrittenAs number place out (record { number = 24; count = 0 }) out
-  refusal-short h =
+  pub refusal-short : {answered : Written} → length out < length (refusalText number place) → answered ≡ nothingWritten 24
+      → RefusalWrittenAs number place out answered out
+  refusal-short h a =
       let e : refusalNumber number place out ≡ 24 = rw (lt-ltb (length out) (length (refusalText number place)) h) in
-      record { answers = rw e; bytes = rw e }
+      let p = none-written (refusalText number place) out (λ z. omega arith) a in
+      record { answers = rw e (p .0); bytes = rw e (p .1) }
 
-  pub refusal-fits : (next : ℕ) {out′ : List ℕ} → length (refusalText number place) ≤ length out → Put out 0 (refusalText number place) next out′
+  pub line-fits : length (refusalText number place) ≤ length out → refusalNumber number place out ≡ 0
+  line-fits h = rw (le-ltb (length out) (length (refusalText number place)) h)
+
+  pub refusal-fits : {next : ℕ} {out′ : List ℕ} → length (refusalText number place) ≤ length out → Put out 0 (refusalText number place) next out′
       → RefusalWrittenAs number place out (record { number = 0; count = next }) out′
-  refusal-fits next h q =
-      let text = refusalText number place in
-      let e : refusalNumber number place out ≡ 0 = rw (le-ltb (length out) (length text) h) in
-      let z : 0 + length text ≡ length text = omega arith in
-      let count : next ≡ length text = q .place ∙ z in
-      record {
-        answers = rw (e, count);
-        bytes = rw e (q .bytes ∙ sets-eq text out 0 (omega arith) ∙ ap (λ (n : ℕ). text ++ drop n out) z);
-      }
-
--- two outcomes of the writer of a refusal coincide
-pub refusal-once : {number place : ℕ} {out : List ℕ} {r r′ : Written} {o o′ : List ℕ} → RefusalWrittenAs number place out r o
-    → RefusalWrittenAs number place out r′ o′ → (r ≡ r′) × (o ≡ o′)
-refusal-once p q = (p .answers ∙ sym (q .answers), p .bytes ∙ sym (q .bytes))
+  refusal-fits h q = let p = all-written (line-fits h) h q in record { answers = p .0; bytes = p .1 }
