@@ -5,7 +5,7 @@ ghost use lib.Dec.{ltb};
 ghost use Rattle.layout.specs.Layout.{volume};
 ghost use Rattle.refusals.specs.FirstOf.{firstOf};
 ghost use Rattle.refusals.specs.Conditions.{outOfRange, badLength, longest, firstPlace};
-ghost use Rattle.refusals.specs.Calls.{blockChecks};
+ghost use Rattle.refusals.specs.Calls.{sizeChecks, blockChecks};
 ghost use Rattle.checks.specs.Words.{capped};
 
 // Whether no axis may have this length: 0 or above 4,096.
@@ -92,9 +92,9 @@ pub fn first_above(numbers: &[usize], last: usize) -> usize
     numbers.len()
 }
 
-// The first of the checks 1, 2 and 3 of a block in a buffer that holds, else 0.
-pub fn block_number(lens: &[usize], buf: &[u32]) -> u32
-    ensures { λ r. ⌜ r ≡ firstOf (blockChecks (now (lens .entry)) (now (buf .entry))) ⌝ }
+// The first of the checks 1 and 2 of a block's size that holds, else 0.
+pub fn size_number(lens: &[usize]) -> u32
+    ensures { λ r. ⌜ r ≡ firstOf (sizeChecks (now (lens .entry))) ⌝ }
 {
     if bad_length(lens) {
         return 1;
@@ -103,6 +103,18 @@ pub fn block_number(lens: &[usize], buf: &[u32]) -> u32
     if 1048576 < words {
         return 2;
     }
+    0
+}
+
+// The first of the checks 1, 2 and 3 of a block in a buffer that holds, else 0.
+pub fn block_number(lens: &[usize], buf: &[u32]) -> u32
+    ensures { λ r. ⌜ r ≡ firstOf (blockChecks (now (lens .entry)) (now (buf .entry))) ⌝ }
+{
+    let number = size_number(lens);
+    if number != 0 {
+        return number;
+    }
+    let words = words_of(lens);
     if buf.len() < words {
         return 3;
     }

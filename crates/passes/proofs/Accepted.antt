@@ -1,22 +1,45 @@
 -- What the calls' checks tell where none holds, and what the block's turn and the cleared scratch are then.
 use mathlib.Core.Path.{_≡_, sym, ap, _∙_}
 use mathlib.Core.List.{List, [], _∷_, _++_}
+use mathlib.Core.Logic.{⊎-elim}
 use Prim.Native.Nat.{ℕ, _+_, _*_, _-_, _/_, _%_, _<_, _≤_}
 use native.Mathlib.Omega.{arith}
 use native.Mathlib.Nat.{le-trans}
 use lib.ListN.{length, getD, drop, replicate, length-drop}
+use borrow.Author.Tests.{lt-ltb, le-ltb}
 use lib.Seq.{ext-getD, getD-drop}
 use lib.Arith.{digits-div, digits-mod, digits-lt}
-use Rattle.refusals.specs.FirstOf.{check, firstOf}
+use Rattle.lists.proofs.Decide.{eq-or-ne}
+use Rattle.refusals.specs.FirstOf.{Check, check, firstOf}
 use Rattle.refusals.specs.Conditions.{shortScratch}
-use Rattle.refusals.specs.Calls.{passesChecks}
+use Rattle.refusals.specs.Calls.{blockChecks, passesChecks}
 use Rattle.refusals.specs.Scratch.{need, cleared}
+use Rattle.refusals.proofs.FirstOf.{refused-first, accepted-so-far}
+use Rattle.refusals.proofs.Calls.{recursion-accepted}
 use Rattle.refusals.proofs.Conditions.{Valid, InRange, valid, enough-scratch}
 use Rattle.refusals.proofs.Conditions.InRange.{none, more}
 use Rattle.flat.specs.Turn.{sides, Turn}
 use Rattle.flat.proofs.Turn.{volume-two, from-literal}
-use Rattle.passes.specs.Lines.{Lies, Past, TurnedAt}
+use Rattle.passes.specs.ThroughScratch.{Lies, Past, TurnedAt}
 use Rattle.passes.proofs.Fits.{side-need}
+
+-- the checks of a block, then the room in scratch: what they answer where the block is refused, and where scratch decides
+module _ (ds buffer scratch : List ℕ) where
+  abbrev room-check : List Check
+  room-check = check 4 (shortScratch (need ds) scratch) ∷ []
+
+  pub block-refused : {r : ℕ} → r ≡ firstOf (blockChecks ds buffer) → (r ≡ 0 → ⊥) → r ≡ firstOf (passesChecks ds buffer scratch)
+  block-refused e n = e ∙ sym (refused-first (blockChecks ds buffer) room-check (λ z. n (e ∙ z)))
+
+  pub short-refused : firstOf (blockChecks ds buffer) ≡ 0 → length scratch < need ds → 4 ≡ firstOf (passesChecks ds buffer scratch)
+  short-refused e h = sym (accepted-so-far room-check (recursion-accepted ds buffer .0 e) ∙ rw (lt-ltb _ _ h))
+
+  pub block-good : firstOf (passesChecks ds buffer scratch) ≡ 0 → firstOf (blockChecks ds buffer) ≡ 0
+  block-good e =
+      ⊎-elim (λ z. z) (λ n. absurd (n (sym (refused-first (blockChecks ds buffer) room-check n) ∙ e))) (eq-or-ne (firstOf (blockChecks ds buffer)) 0)
+
+  pub room-passed : firstOf (blockChecks ds buffer) ≡ 0 → need ds ≤ length scratch → 0 ≡ firstOf (passesChecks ds buffer scratch)
+  room-passed e h = sym (accepted-so-far room-check (recursion-accepted ds buffer .0 e) ∙ rw (le-ltb _ _ h))
 
 -- sides and buffers of a flat call that is accepted
 pub record Accepted (m n : ℕ) (buffer scratch : List ℕ) : Type 0 where
@@ -43,9 +66,6 @@ flat-accepted m n buffer scratch e = go (v .0 .lengths)
       room = enough-scratch (need (sides m n)) scratch [] (v .1) .0;
     }
 
-pub accepted-by : {m n r : ℕ} (buffer scratch : List ℕ) → r ≡ firstOf (passesChecks (sides m n) buffer scratch) → r ≡ 0 → Accepted m n buffer scratch
-accepted-by {m} {n} buffer scratch e z = flat-accepted m n buffer scratch (sym e ∙ z)
-
 -- the block of a flat call lies at the buffer's start
 pub flat-lies : {m n : ℕ} {buffer scratch : List ℕ} → Accepted m n buffer scratch → Lies m n 0 1 buffer scratch
 flat-lies {m} {n} a = record {
@@ -68,8 +88,8 @@ flat-turned m n xs ys t =
     (λ k h. t .others k (λ j d e. omega arith))
 
 -- scratch whose first words are zeroed is cleared, whatever stood there
-pub cleared-past : {k : ℕ} {scratch held : List ℕ} → Past k scratch held → cleared k held ≡ cleared k scratch
-cleared-past {k} {scratch} {held} p =
+pub past-cleared : {k : ℕ} {scratch held : List ℕ} → Past k scratch held → cleared k held ≡ cleared k scratch
+past-cleared {k} {scratch} {held} p =
     ap (λ (l : List ℕ). replicate k 0 ++ l)
     (ext-getD 0 (drop k held) (drop k scratch) (length-drop k held ∙ ap (λ (z : ℕ). z - k) (p .same) ∙ sym (length-drop k scratch))
     (λ i h. getD-drop k held i 0 ∙ p .rest (k + i) (omega arith) ∙ sym (getD-drop k scratch i 0)))

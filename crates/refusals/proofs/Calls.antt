@@ -6,9 +6,12 @@ use mathlib.Core.Path.{_≡_}
 use Prim.Native.Nat.{ℕ}
 use lib.Dec.{lit<}
 use Rattle.refusals.specs.FirstOf.{firstOf}
-use Rattle.refusals.specs.Calls.{passesChecks, recursionChecks, chainChecks, requestChecks, planChecks}
-use Rattle.refusals.proofs.FirstOf.{Silent, accepted-exactly}
+use Rattle.refusals.specs.Calls.{sizeChecks, passesChecks, recursionChecks, chainChecks, requestChecks, planChecks}
+use Rattle.refusals.proofs.FirstOf.{Refusing, Silent, accepted-exactly}
 use Rattle.refusals.proofs.FirstOf.Refusing.{none, more}
+
+pub size-refusing : (ds : List ℕ) → Refusing (sizeChecks ds)
+size-refusing ds = more (lit< tt) (more (lit< tt) none)
 
 pub passes-accepted : (ds b s : List ℕ) → (firstOf (passesChecks ds b s) ≡ 0) ↔ Silent (passesChecks ds b s)
 passes-accepted ds b s = accepted-exactly (more (lit< tt) (more (lit< tt) (more (lit< tt) (more (lit< tt) none))))

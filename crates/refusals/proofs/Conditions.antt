@@ -11,7 +11,7 @@ use borrow.Author.Tests.{ltb-false, eqb-false, ne-eqb, lt-ltb, le-ltb}
 use Rattle.layout.specs.Layout.{volume}
 use Rattle.refusals.specs.FirstOf.{Check, check, firstOf}
 use Rattle.refusals.specs.Conditions.{outOfRange, badLength, tooManyWords, shortBuffer, shortScratch}
-use Rattle.refusals.specs.Calls.{blockChecks}
+use Rattle.refusals.specs.Calls.{sizeChecks, blockChecks}
 use Rattle.refusals.proofs.Some.{either-false, none-at}
 
 -- every length is 1 to 4,096
@@ -45,30 +45,34 @@ in-range (d ∷ ds) e =
 pub length-at : (ds : List ℕ) → badLength ds ≡ false → (k : ℕ) → k < length ds → (0 < getD ds k 0) × (getD ds k 0 ≤ 4096)
 length-at ds e k h = ranged (getD ds k 0) (none-at outOfRange ds e k h)
 
--- a block that is accepted: lengths in range, not too many words, all of them in the buffer
-pub record Valid (ds buffer : List ℕ) : Type 0 where
+-- a block whose size is accepted: lengths in range, not too many words
+pub record Sized (ds : List ℕ) : Type 0 where
   pub lengths : InRange ds
   pub few : volume ds ≤ 1048576
-  pub enough : volume ds ≤ length buffer
 
 -- a check that was passed, and what follows it
 pub passed : (t : Bool) (k r : ℕ) → 0 < k → cond t k r ≡ 0 → (t ≡ false) × (r ≡ 0)
 passed true k r h e = absurd (omega arith)
 passed false k r h e = (refl, e)
 
+pub size-valid : (ds : List ℕ) (rest : List Check) → firstOf (sizeChecks ds ++ rest) ≡ 0 → Sized ds × (firstOf rest ≡ 0)
+size-valid ds rest e =
+    let p = passed (badLength ds) 1 _ (lit< tt) e in
+    let q = passed (tooManyWords ds) 2 (firstOf rest) (lit< tt) (p .1) in
+    (record { lengths = in-range ds (p .0); few = ltb-false 1048576 (volume ds) (q .0) }, q .1)
+
+-- a block that is accepted: its size is, and all of its words are in the buffer
+pub record Valid (ds buffer : List ℕ) : Type 0 where
+  pub lengths : InRange ds
+  pub few : volume ds ≤ 1048576
+  pub enough : volume ds ≤ length buffer
+
 pub valid : (ds buffer : List ℕ) (rest : List Check)
     → firstOf (blockChecks ds buffer ++ rest) ≡ 0 → Valid ds buffer × (firstOf rest ≡ 0)
 valid ds buffer rest e =
-    let p = passed (badLength ds) 1 _ (lit< tt) e in
-    let q = passed (tooManyWords ds) 2 _ (lit< tt) (p .1) in
-    let r = passed (shortBuffer ds buffer) 3 (firstOf rest) (lit< tt) (q .1) in (
-      record {
-        lengths = in-range ds (p .0);
-        few = ltb-false 1048576 (volume ds) (q .0);
-        enough = ltb-false (length buffer) (volume ds) (r .0);
-      },
-      r .1,
-    )
+    let s = size-valid ds (check 3 (shortBuffer ds buffer) ∷ rest) e in
+    let r = passed (shortBuffer ds buffer) 3 (firstOf rest) (lit< tt) (s .1) in
+    (record { lengths = s .0 .lengths; few = s .0 .few; enough = ltb-false (length buffer) (volume ds) (r .0) }, r .1)
 
 -- scratch that is accepted has as many words as are needed
 pub enough-scratch : (needed : ℕ) (scratch : List ℕ) (rest : List Check) → firstOf (check 4 (shortScratch needed scratch) ∷ rest) ≡ 0

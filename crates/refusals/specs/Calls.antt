@@ -5,9 +5,13 @@ use Rattle.refusals.specs.FirstOf.{Check, check}
 use Rattle.refusals.specs.Conditions.{badLength, tooManyWords, shortBuffer, shortScratch, longChain, badSwap, noOrder, longPlan}
 use Rattle.refusals.specs.Scratch.{need}
 
+-- the size of a block: 1, 2
+abbrev pub sizeChecks : List ℕ → List Check
+sizeChecks ds = check 1 (badLength ds) ∷ check 2 (tooManyWords ds) ∷ []
+
 -- a block in a buffer: 1, 2, 3; the list of every call on a block begins so
 abbrev pub blockChecks : List ℕ → List ℕ → List Check
-blockChecks ds buffer = check 1 (badLength ds) ∷ check 2 (tooManyWords ds) ∷ check 3 (shortBuffer ds buffer) ∷ []
+blockChecks ds buffer = sizeChecks ds ++ (check 3 (shortBuffer ds buffer) ∷ [])
 
 -- flat by passes and reverse: 1, 2, 3, 4
 abbrev pub passesChecks : List ℕ → List ℕ → List ℕ → List Check
