@@ -3,7 +3,7 @@ pub mod LineByValue
 -- a slice that is lent again for a call, and comes back
 pub mod Again
 -- what a proof has at exit of a thin writer that was passed by value
-pub mod Held
+pub mod AtExit
 -- what is read at a place, by the byte that stands there
 pub mod Places
 -- a run of fields, one field more or none

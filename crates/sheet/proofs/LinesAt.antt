@@ -12,13 +12,13 @@ use lib.Seq.{drop-drop, drop-length}
 use borrow.Author.Tests.{not-true, not-false, eq-eqb, ne-eqb}
 use Rattle.lists.specs.Same.{same}
 use Rattle.lists.proofs.Test.{same→eq}
-use Rattle.lists.proofs.Decide.{lt-or-ge}
+use Rattle.lists.proofs.Decide.{decided, lt-or-ge}
 use Rattle.text.specs.Print.{tabByte, lineFeed}
-use Rattle.text.specs.Read.{Found, after, readFields, closed, readLine, tabs}
-use Rattle.text.proofs.Numbers.{decided}
+use Rattle.text.specs.Read.{Reading, after, readFields, closed, readLine, tabs}
 use Rattle.text.proofs.Lines.{after-found, closed-found}
 use Rattle.sheet.specs.Place.{At, numbersOf}
-use Rattle.sheet.proofs.Places.{drop-next, at-found, at-none}
+use Rattle.lists.proofs.Front.{drop-next}
+use Rattle.sheet.proofs.Places.{at-found, at-none}
 use Rattle.sheet.proofs.Runs.{got}
 
 same-length : (xs ys : List ℕ) → same xs ys ≡ true → length xs ≡ length ys
@@ -61,7 +61,7 @@ module _ (bytes : List ℕ) (at : ℕ) (word : List ℕ) where
       )
 
   -- the line at a place, once its word stands there
-  pub no-word : (n : ℕ) → same (take (length word) (drop at bytes)) word ≡ false → readLine word n (drop at bytes) ≡ Found.none
+  pub no-word : (n : ℕ) → same (take (length word) (drop at bytes)) word ≡ false → readLine word n (drop at bytes) ≡ Reading.none
   unfolding readLine
   no-word n e = rw e
 
@@ -71,17 +71,17 @@ module _ (bytes : List ℕ) (at : ℕ) (word : List ℕ) where
   past-word n e = rw (e, drop-drop (length word) at bytes)
 
   -- the fields of a line that was read, and its LF behind them
-  pub line-fields : (n : ℕ) {us mid : List ℕ} → at ≤ length bytes → readLine word n (drop at bytes) ≡ Found.found us mid
-      → (at + length word ≤ length bytes) × (readFields n (drop (at + length word) bytes) ≡ Found.found us (lineFeed ∷ mid))
+  pub line-fields : (n : ℕ) {us mid : List ℕ} → at ≤ length bytes → readLine word n (drop at bytes) ≡ Reading.found us mid
+      → (at + length word ≤ length bytes) × (readFields n (drop (at + length word) bytes) ≡ Reading.found us (lineFeed ∷ mid))
   line-fields n {us} {mid} h e =
       decided (same (take (length word) (drop at bytes)) word)
       (λ (t : same (take (length word) (drop at bytes)) word ≡ true).
       after-found (readFields n (drop (at + length word) bytes)) closed (sym (past-word n t) ∙ e)
       (λ vs end f g.
       let k = closed-found vs end g in
-      (word-inside h t, f ∙ ap (λ (l : List ℕ). Found.found l end) (k .0) ∙ ap (Found.found us) (k .1))))
+      (word-inside h t, f ∙ ap (λ (l : List ℕ). Reading.found l end) (k .0) ∙ ap (Reading.found us) (k .1))))
       (λ (t : same (take (length word) (drop at bytes)) word ≡ false).
-      let z : Found.none ≡ Found.found us mid = sym (no-word n t) ∙ e in
+      let z : Reading.none ≡ Reading.found us mid = sym (no-word n t) ∙ e in
       let q : _≡_ {A = ℕ} 0 1 = cc in
       absurd (omega arith))
 
@@ -89,7 +89,7 @@ module _ (bytes : List ℕ) (at : ℕ) (word : List ℕ) where
   word-short h k =
       decided (same (take (length word) (drop at bytes)) word) (λ t. absurd (omega (arith, word-inside h t))) (λ t. t)
 
-pub not-closed : (bytes : List ℕ) (p : ℕ) (vs : List ℕ) → (getD bytes p 0 ≡ lineFeed → ⊥) → closed vs (drop p bytes) ≡ Found.none
+pub not-closed : (bytes : List ℕ) (p : ℕ) (vs : List ℕ) → (getD bytes p 0 ≡ lineFeed → ⊥) → closed vs (drop p bytes) ≡ Reading.none
 unfolding closed
 not-closed bytes p vs e =
     ⊎-elim
@@ -111,7 +111,7 @@ module _ (bytes : List ℕ) (p : ℕ) where
   tabs-end h = rw (drop-of-length-le bytes {i = p} h)
 
 module _ (bytes : List ℕ) (p : ℕ) (h : p < length bytes) where
-  pub closed-feed : (vs : List ℕ) → getD bytes p 0 ≡ lineFeed → closed vs (drop p bytes) ≡ Found.found vs (drop (p + 1) bytes)
+  pub closed-feed : (vs : List ℕ) → getD bytes p 0 ≡ lineFeed → closed vs (drop p bytes) ≡ Reading.found vs (drop (p + 1) bytes)
   unfolding closed
   closed-feed vs e = rw (drop-next bytes p h, e)
 

@@ -8,7 +8,7 @@ use lib.ListN.{length, set, take, drop, getD, length-append, length-set, length-
 use lib.Seq.{sets, length-sets, length-take-le, getD-take, getD-drop}
 use Rattle.text.specs.Print.{tabByte, decimal, field, fields}
 use Rattle.sheet.specs.Put.{Room, Put}
-use Rattle.sheet.proofs.Places.{drop-next}
+use Rattle.lists.proofs.Front.{drop-next}
 use Rattle.sheet.proofs.Stores.{sets-append}
 
 -- what is left, put at p, is the whole text, put at `at`, and the whole text has room

@@ -7,11 +7,11 @@ use native.Mathlib.Omega.{arith}
 use lib.ListN.{length, drop}
 use lib.Seq.{sets, sets-eq}
 use Rattle.text.specs.Sheet.{rowCount, rowWidth}
-use Rattle.text.specs.Meaning.{Step, Outcome, shapeLine, chainLine, rowLines, meaning}
+use Rattle.text.specs.Meaning.{Verdict, Outcome, shapeLine, chainLine, rowLines, meaning}
 use Rattle.text.proofs.Accepted.{ShapeRead, shape-read}
 use Rattle.text.proofs.Rows.{rows-text, rows-volume}
 use Rattle.sheet.specs.declared.Sheet.{Sheet}
-use Rattle.sheet.specs.Place.{OnSheet, StepAt, ChainAt, RowsTaken, wordsOf}
+use Rattle.sheet.specs.Place.{OnSheet, VerdictAt, ChainAt, RowsTaken, wordsOf}
 use Rattle.sheet.specs.Reader.{refusal, answer, kept, ReadAs}
 
 read-refused : {buffer bytes : List ℕ} {number place : ℕ} {answered : Sheet} → meaning buffer bytes ≡ Outcome.refused number place
@@ -19,7 +19,7 @@ read-refused : {buffer bytes : List ℕ} {number place : ℕ} {answered : Sheet}
 read-refused {buffer} m e = record { answers = e ∙ sym (ap answer m); words = sym (ap (λ (o : Outcome). kept o buffer) m) }
 
 -- line 1 was read at the bytes' start
-module _ {buffer bytes ds : List ℕ} {number place next : ℕ} (first : StepAt bytes (shapeLine buffer bytes) number place ds next) where
+module _ {buffer bytes ds : List ℕ} {number place next : ℕ} (first : VerdictAt bytes (shapeLine buffer bytes) number place ds next) where
   pub first-refused : {answered : Sheet} → (number ≡ 0 → ⊥) → answered ≡ refusal number place → ReadAs buffer bytes answered buffer
   unfolding meaning
   first-refused n e = read-refused (rw (first .wrong n)) e

@@ -1,4 +1,5 @@
--- What a thin writer is once a text is put, and what the whole sheet needs. Assumes nothing: these are definitions.
+-- These definitions serve only the contracts of private functions: a reader of the promises can pass over them.
+-- What a thin writer is once a text is put, and what a page needs. Assumes nothing.
 use mathlib.Core.List.{List, _++_}
 use Prim.Native.Nat.{ℕ, _+_, _*_, _≤_}
 use lib.ListN.{length, take}

@@ -5,7 +5,7 @@ use crate::values;
 ghost use Prim.Native.Nat.{_≤_};
 ghost use lib.ListN.{length, drop};
 ghost use Rattle.text.specs.Meaning.{shapeLine, chainLine};
-ghost use Rattle.sheet.specs.Place.{RefusedWith, StepAt, ChainAt};
+ghost use Rattle.sheet.specs.Place.{RefusedWith, VerdictAt, ChainAt};
 
 // Line 1 as it was read: a number and a place, or the lengths and the place after the line.
 pub struct Shape {
@@ -49,7 +49,7 @@ fn no_chain(number: u32, place: usize) -> Chain
 
 // Line 1, for this word buffer.
 pub(crate) fn shape_at(bytes: &[u8], words: &[u32]) -> Shape
-    ensures { λ r. ⌜ StepAt (now (bytes .entry)) (shapeLine (now (words .entry)) (now (bytes .entry))) (r .number) (r .place) (r .lens) (r .next) ⌝ }
+    ensures { λ r. ⌜ VerdictAt (now (bytes .entry)) (shapeLine (now (words .entry)) (now (bytes .entry))) (r .number) (r .place) (r .lens) (r .next) ⌝ }
 {
     if 16384 < bytes.len() {
         return no_shape(9, 0);

@@ -4,7 +4,7 @@ use native.Mathlib.Omega.{arith}
 use mathlib.Core.Path.{_≡_, refl, sym, ap, _∙_}
 use Prim.Native.Nat.{ℕ, _-_, _<_, _≤_}
 use lib.ListN.{length, drop}
-use Rattle.text.specs.Read.{Found, readFields}
+use Rattle.text.specs.Read.{Reading, readFields}
 use Rattle.sheet.specs.Place.{numbersOf}
 use Rattle.sheet.proofs.Places.{at-found, at-none}
 use Rattle.sheet.proofs.Runs.{got, no-field, fields-more, fields-stop}
@@ -15,7 +15,7 @@ use Rattle.sheet.proofs.line.fields_at.Tie as tie
 abbrev Inv-loop : tie.InvT-loop
 Inv-loop bytes at n p₀ i₀ p i =
     (i ≤ n) × (p ≤ length bytes)
-    × (readFields i (drop at bytes) ≡ Found.found (numbersOf (readFields i (drop at bytes))) (drop p bytes))
+    × (readFields i (drop at bytes) ≡ Reading.found (numbersOf (readFields i (drop at bytes))) (drop p bytes))
 
 abbrev μ-loop : tie.MeasureT-loop
 μ-loop bytes at n p₀ i₀ p i =

@@ -7,7 +7,7 @@ use Prim.Native.Nat.{ℕ, _+_, _-_, _<_, _≤_}
 use lib.ListN.{length, drop, getD, set}
 use borrow.Author.Needs.{needs}
 use Rattle.sheet.specs.Put.{Room, Put}
-use Rattle.sheet.proofs.Places.{drop-next}
+use Rattle.lists.proofs.Front.{drop-next}
 use Rattle.sheet.proofs.Puts.{Leads, leads-start, leads-room, leads-step, leads-end, leads-same}
 use Rattle.sheet.proofs.put.put_word.Statement.{statement}
 use Rattle.sheet.proofs.put.put_word.Tie as tie

@@ -6,9 +6,9 @@ use mathlib.Core.List.{List, [], _∷_, _++_}
 use Prim.Native.Nat.{ℕ, _+_, _-_, _<_, _≤_}
 use lib.ListN.{length, drop}
 use borrow.Author.Tests.{not-true, not-false}
-use Rattle.text.specs.Read.{Found, readLine}
+use Rattle.text.specs.Read.{Reading, readLine}
 use Rattle.text.specs.Sheet.{rowWord}
-use Rattle.text.specs.Meaning.{Step, behind, rowLines}
+use Rattle.text.specs.Meaning.{Verdict, behind, rowLines}
 use Rattle.sheet.proofs.RowsFrom.{rows-right, rows-wrong, behind-behind, behind-none, rowsLeft, row-step, row-bad, rows-end, rows-left-over}
 use borrow.Author.Needs.{needs}
 use Rattle.sheet.proofs.rows.rows_at.Statement.{statement}
@@ -44,7 +44,7 @@ returns c =
     let start : tie.Start Inv-loop μ-loop = search in
     let l = at-loop .loop in
     let a = start .args in
-    let bad : readLine rowWord (a .n) (drop (l .p) (a .bytes .now)) ≡ Found.none = after-line-at .line-at .ensures .wrong (not-true (after-line-at .line-at .result .ok) (c .if1 .taken)) in
+    let bad : readLine rowWord (a .n) (drop (l .p) (a .bytes .now)) ≡ Reading.none = after-line-at .line-at .ensures .wrong (not-true (after-line-at .line-at .result .ok) (c .if1 .taken)) in
     rows-wrong (omega arith) (l .inv .2 .1 ∙ rw (row-bad (a .count) (a .n) (l .i) (drop (l .p) (a .bytes .now)) (omega arith) bad))
 
 loop-again : tie.Need-loop-again Inv-loop μ-loop
@@ -57,7 +57,7 @@ loop-again c =
     let bs = drop (l .p) (a .bytes .now) in
     let mid = drop (after-line-at .line-at .result .next) (a .bytes .now) in
     let us = numbersOf (readLine rowWord (a .n) bs) in
-    let good : readLine rowWord (a .n) bs ≡ Found.found us mid = after-line-at .line-at .ensures .right (not-false (after-line-at .line-at .result .ok) (c .if1 .left)) in
+    let good : readLine rowWord (a .n) bs ≡ Reading.found us mid = after-line-at .line-at .ensures .right (not-false (after-line-at .line-at .result .ok) (c .if1 .left)) in
     let ws = l .inv .2 .0 in (
       omega arith,
       after-line-at .line-at .ensures .inside,
@@ -76,7 +76,7 @@ returns-2 c =
     let l = at-loop .loop in
     let a = start .args in
     let e : l .i ≡ a .count = omega arith in
-    let over : rowsLeft (a .count) (a .n) (l .i) (drop (l .p) (a .bytes .now)) ≡ Step.refuse 10 (a .count + 3) =
+    let over : rowsLeft (a .count) (a .n) (l .i) (drop (l .p) (a .bytes .now)) ≡ Verdict.refuse 10 (a .count + 3) =
     rw e (rows-left-over (a .count) (a .n) (a .bytes .now) (l .p) (c .if2 .taken)) in
     rows-wrong (omega arith) (l .inv .2 .1 ∙ ap (behind (l .inv .2 .0)) over)
 
@@ -87,7 +87,7 @@ returns-3 c =
     let l = at-loop .loop in
     let a = start .args in
     let e : l .i ≡ a .count = omega arith in
-    let over : rowsLeft (a .count) (a .n) (l .i) (drop (l .p) (a .bytes .now)) ≡ Step.go [] [] =
+    let over : rowsLeft (a .count) (a .n) (l .i) (drop (l .p) (a .bytes .now)) ≡ Verdict.go [] [] =
     rw e (rows-end (a .count) (a .n) (a .bytes .now) (l .p) (c .if2 .left)) in
     rows-right (l .inv .2 .1 ∙ ap (behind (l .inv .2 .0)) over)
 

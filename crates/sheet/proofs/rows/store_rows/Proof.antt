@@ -6,7 +6,7 @@ use mathlib.Core.List.{List, [], _∷_, _++_}
 use Prim.Native.Nat.{ℕ, _+_, _-_, _*_, _<_, _≤_}
 use lib.ListN.{length, drop}
 use lib.Seq.{sets, length-sets}
-use Rattle.text.specs.Meaning.{Step, rowLines}
+use Rattle.text.specs.Meaning.{Verdict, rowLines}
 use Rattle.sheet.specs.Place.{RowsThere, wordsOf, numbersOf}
 use Rattle.sheet.proofs.Stores.{sets-append}
 use Rattle.sheet.proofs.RowsFrom.{rowsLeft, rowFields, RowAt, row-at, room-left}

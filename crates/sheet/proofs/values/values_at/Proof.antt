@@ -6,7 +6,7 @@ use mathlib.Core.Path.{_≡_, refl, sym, ap, _∙_}
 use mathlib.Core.List.{List, [], _∷_, _++_}
 use Prim.Native.Nat.{ℕ, _+_, _-_, _<_, _≤_}
 use lib.ListN.{length, drop, replicate}
-use Rattle.text.specs.Read.{Found, readField, readFields}
+use Rattle.text.specs.Read.{Reading, readField, readFields}
 use Rattle.sheet.specs.Place.{numbersOf}
 use Rattle.sheet.proofs.Runs.{got, no-field, fields-more, taken-field}
 use Rattle.sheet.proofs.Stores.{zeros-more}
@@ -16,7 +16,7 @@ use Rattle.sheet.proofs.values.values_at.Tie as tie
 
 abbrev Inv-loop : tie.InvT-loop
 Inv-loop bytes at n out₀ p₀ i₀ out p i =
-    (i ≤ n) × (readFields i (drop at bytes) ≡ Found.found (numbersOf (readFields i (drop at bytes))) (drop p bytes))
+    (i ≤ n) × (readFields i (drop at bytes) ≡ Reading.found (numbersOf (readFields i (drop at bytes))) (drop p bytes))
     × (out ≡ numbersOf (readFields i (drop at bytes)) ++ replicate (32 - i) 0)
 
 abbrev μ-loop : tie.MeasureT-loop
@@ -59,7 +59,7 @@ loop-again c =
       got e,
       ap (λ (x : List ℕ). set x (l .i) v) (l .inv .2)
           ∙ zeros-more vs (l .i) 32 v (fields-text (l .i) bs (l .inv .1) .long) (omega (arith, start .pre .0))
-          ∙ ap (λ (x : Found (List ℕ)). numbersOf x ++ replicate (32 - (l .i + 1)) 0) (sym e),
+          ∙ ap (λ (x : Reading (List ℕ)). numbersOf x ++ replicate (32 - (l .i + 1)) 0) (sym e),
     )
 
 returns : tie.Need-returns Inv-loop μ-loop

@@ -6,7 +6,7 @@ use mathlib.Core.Path.{_≡_, refl, sym, ap, _∙_}
 use mathlib.Core.List.{List, [], _∷_, _++_}
 use Prim.Native.Nat.{ℕ, _+_, _-_, _<_, _≤_}
 use lib.ListN.{length, drop, replicate}
-use Rattle.text.specs.Read.{Found, readField, readFields}
+use Rattle.text.specs.Read.{Reading, readField, readFields}
 use Rattle.sheet.specs.Place.{numbersOf}
 use Rattle.sheet.proofs.Runs.{got, no-field, fields-more, taken-field}
 use lib.Seq.{sets}
@@ -17,7 +17,7 @@ use Rattle.sheet.proofs.values.words_into.Tie as tie
 
 abbrev Inv-loop : tie.InvT-loop
 Inv-loop bytes at n words₀ from p₀ i₀ words p i =
-    (i ≤ n) × (readFields i (drop at bytes) ≡ Found.found (numbersOf (readFields i (drop at bytes))) (drop p bytes))
+    (i ≤ n) × (readFields i (drop at bytes) ≡ Reading.found (numbersOf (readFields i (drop at bytes))) (drop p bytes))
     × (length words ≡ length words₀) × (p ≤ length bytes) × (words ≡ sets words₀ from (numbersOf (readFields i (drop at bytes))))
 
 abbrev μ-loop : tie.MeasureT-loop
@@ -36,7 +36,7 @@ module _ (c : tie.After-struct-known Inv-loop μ-loop) where
   found = search
 
   again : readField (drop (at-loop .loop .p) (start .args .bytes .now))
-      ≡ Found.found (found .field-at .result .value) (drop (found .field-at .result .next) (start .args .bytes .now))
+      ≡ Reading.found (found .field-at .result .value) (drop (found .field-at .result .next) (start .args .bytes .now))
   again =
       taken-field (at-loop .loop .i) (start .args .n) (drop (start .args .at) (start .args .bytes .now)) (found .field-at .result .ok) (start .pre .2)
       (omega arith) (at-loop .loop .inv .1) (found .field-at .ensures)
@@ -89,7 +89,7 @@ loop-again c =
       after-field-at .field-at .ensures .inside,
       ap (λ (x : List ℕ). set x (start .args .from + l .i) v) (l .inv .4)
           ∙ sets-more (start .args .words .now) (start .args .from) (l .i) vs v (fields-text (l .i) bs (l .inv .1) .long)
-          ∙ ap (λ (x : Found (List ℕ)). sets (start .args .words .now) (start .args .from) (numbersOf x)) (sym e),
+          ∙ ap (λ (x : Reading (List ℕ)). sets (start .args .words .now) (start .args .from) (numbersOf x)) (sym e),
     )
 
 same-length : tie.Need-same-length Inv-loop μ-loop

@@ -1,6 +1,6 @@
 -- `line` meets its contract: a walk of its MIR, by hand. The struct is taken apart; its borrow is lent again to `put_head` for a
 -- lifetime that is made for the call, and comes back at the list that `put_head` ensures (`Again.antt`). It goes into the result,
--- beside the place that `put_head` returned. The parameter is spent, since the result names its lifetime (`Held.antt`).
+-- beside the place that `put_head` returned. The parameter is spent, since the result names its lifetime (`AtExit.antt`).
 use mathlib.Core.Path.{_≡_, refl, ap}
 use Prim.Native.Nat.{ℕ, _<_, _^_}
 use mathlib.Core.List.{[], _∷_, List}
@@ -48,7 +48,7 @@ use Rattle.sheet.specs.declared.writer.Writer.{Writer}
 use Rattle.sheet.proofs.writer.Writer as T
 use Rattle.sheet.proofs.writer.Writer.Laws as T′
 use Rattle.sheet.proofs.LineByValue.{LineT, line-vals, line-tells, line-makes, line-lawful}
-use Rattle.sheet.proofs.Held.{writer-spent, writer-spent-goes}
+use Rattle.sheet.proofs.AtExit.{writer-spent, writer-spent-goes}
 use Rattle.sheet.proofs.Again.{LentAgain, lends-again, comes-back}
 use Rattle.sheet.proofs.page.put_head as put-head
 use Rattle.sheet.proofs.page.put_head.Symbol as put-head-def
