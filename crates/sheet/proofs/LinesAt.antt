@@ -35,8 +35,8 @@ module _ (bytes : List ℕ) (at : ℕ) (word : List ℕ) where
       let b : at + 0 ≡ at = omega arith in
       rw (a, b)
 
-  pub word-end : agrees (length word) ≡ true
-  word-end = let a : length word - length word ≡ 0 = omega arith in rw (a, drop-length word)
+  pub word-end : (i : ℕ) → i ≡ length word → agrees i ≡ true
+  word-end i e = let a : length word - length word ≡ 0 = omega arith in rw (e, a, drop-length word)
 
   word-next : (i : ℕ) → i < length word → at + i < length bytes
       → agrees i ≡ (eqb (getD bytes (at + i) 0) (getD word i 0) && agrees (i + 1))

@@ -8,7 +8,7 @@ use lib.ListN.{length, set, take, drop, getD, length-append, length-set, length-
 use lib.Seq.{sets, length-sets, length-take-le, getD-take, getD-drop}
 use Rattle.text.specs.Print.{tabByte, decimal, field, fields}
 use Rattle.sheet.specs.Put.{Room, Put}
-use Rattle.lists.proofs.Front.{drop-next}
+use Rattle.lists.proofs.Front.{drop-next, drop-end}
 use Rattle.sheet.proofs.Stores.{sets-append}
 
 -- what is left, put at p, is the whole text, put at `at`, and the whole text has room
@@ -62,6 +62,15 @@ module _ (vs : List ℕ) (i : ℕ) {out₀ : List ℕ} {at : ℕ} {text out : Li
 
   pub all-put : length vs ≤ i → Put out₀ at text p out
   all-put k = leads-end (leads-same (no-fields vs i k) h)
+
+-- the bytes of a word, put one by one
+module _ (word : List ℕ) (at i : ℕ) {out₀ : List ℕ} {text out : List ℕ} (h : Leads out₀ at text out (at + i) (drop i word)) where
+  pub next-byte : i < length word → Leads out₀ at text (set out (at + i) (getD word i 0)) (at + (i + 1)) (drop (i + 1) word)
+  next-byte k =
+      leads-step (getD word i 0 ∷ []) (drop (i + 1) word) (leads-same (drop-next word i k) h) (record { place = omega arith; bytes = refl })
+
+  pub all-bytes : i ≡ length word → Put out₀ at text (at + length word) out
+  all-bytes e = rw (← e) (leads-end (leads-same (drop-end word i (omega arith)) h))
 
 -- a field is its tab and its number
 module _ {out : List ℕ} {at : ℕ} (v : ℕ) (r : Room out at (field v)) where

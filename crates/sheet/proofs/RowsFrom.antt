@@ -1,7 +1,7 @@
 -- Rows from a line on: one row more, a wrong row, the end of the rows; and what is stored of them. From the definitions, the count
 -- of rows left going down by one.
 use mathlib.Core.Path.{_≡_, refl, sym, ap, _∙_}
-use mathlib.Core.Bool.{Bool, true, false}
+use mathlib.Core.Bool.{Bool, true, false, not}
 use mathlib.Core.List.{List, [], _∷_, _++_, append-assoc, append-nil}
 use Prim.Native.Nat.{ℕ, zero, suc, _+_, _-_, _*_, _<_, _≤_}
 use native.Mathlib.Omega.{arith}
@@ -9,27 +9,28 @@ use lib.ListN.{length, drop, getD, drop-of-length-le}
 use lib.Seq.{sets}
 use mathlib.Core.Logic.{⊎-elim}
 use Rattle.lists.proofs.Decide.{lt-or-ge}
+use borrow.Author.Tests.{not-true, not-false}
 use Rattle.text.specs.Print.{lineFeed}
 use Rattle.text.specs.Read.{Reading, readFields, readLine}
 use Rattle.text.specs.Sheet.{rowWord, rowCount, rowWidth}
 use Rattle.text.specs.Meaning.{Verdict, onLine, onward, behind, ended, rowLines}
 use Rattle.text.proofs.Lines.{fields-text}
 use Rattle.text.proofs.Steps.{behind-go}
-use Rattle.sheet.specs.Place.{RowsAt, RowsThere, RowsTaken, There, wordsOf, numbersOf}
+use Rattle.sheet.specs.Place.{At, RowsAt, RowsThere, RowsTaken, There, wordsOf, numbersOf}
 use Rattle.lists.proofs.Front.{drop-next}
 use Rattle.sheet.proofs.LinesAt.{line-fields}
 
-pub rows-right : {what : Verdict} {ws : List ℕ} → what ≡ Verdict.go ws [] → RowsAt what 0
+rows-right : {what : Verdict} {ws : List ℕ} → what ≡ Verdict.go ws [] → RowsAt what 0
 rows-right e = record { right = λ t. rw e; wrong = λ t. absurd (t refl) }
 
-pub rows-wrong : {what : Verdict} {line : ℕ} → 0 < line → what ≡ Verdict.refuse 10 line → RowsAt what line
+rows-wrong : {what : Verdict} {line : ℕ} → 0 < line → what ≡ Verdict.refuse 10 line → RowsAt what line
 rows-wrong h e = record { right = λ t. absurd (omega arith); wrong = λ t. e }
 
-pub behind-behind : (ws us : List ℕ) (s : Verdict) → behind ws (behind us s) ≡ behind (ws ++ us) s
+behind-behind : (ws us : List ℕ) (s : Verdict) → behind ws (behind us s) ≡ behind (ws ++ us) s
 behind-behind ws us (Verdict.refuse number place) = refl
 behind-behind ws us (Verdict.go vs rest) = ap (λ (l : List ℕ). Verdict.go l rest) (sym (append-assoc ws us vs))
 
-pub behind-none : (s : Verdict) → s ≡ behind [] s
+behind-none : (s : Verdict) → s ≡ behind [] s
 behind-none (Verdict.refuse number place) = refl
 behind-none (Verdict.go vs rest) = refl
 
@@ -47,13 +48,13 @@ abbrev pub rowsLeft : ℕ → ℕ → ℕ → List ℕ → Verdict
 rowsLeft count n i bs = rowLines (3 + i) (count - i) n bs
 
 module _ (count n i : ℕ) (bs : List ℕ) (h : i < count) where
-  pub row-step : {us mid : List ℕ} → readLine rowWord n bs ≡ Reading.found us mid → rowsLeft count n i bs ≡ behind us (rowsLeft count n (i + 1) mid)
+  row-step : {us mid : List ℕ} → readLine rowWord n bs ≡ Reading.found us mid → rowsLeft count n i bs ≡ behind us (rowsLeft count n (i + 1) mid)
   row-step {us} {mid} e =
       let a : count - i ≡ suc (count - (i + 1)) = omega arith in
       let b : suc (3 + i) ≡ 3 + (i + 1) = omega arith in
       rw (a, ← b) (row-more (3 + i) (count - (i + 1)) n bs e)
 
-  pub row-bad : readLine rowWord n bs ≡ Reading.none → rowsLeft count n i bs ≡ Verdict.refuse 10 (i + 3)
+  row-bad : readLine rowWord n bs ≡ Reading.none → rowsLeft count n i bs ≡ Verdict.refuse 10 (i + 3)
   row-bad e =
       let a : count - i ≡ suc (count - (i + 1)) = omega arith in
       let b : 3 + i ≡ i + 3 = omega arith in
@@ -64,11 +65,11 @@ module _ (count n : ℕ) (bytes : List ℕ) (p : ℕ) where
   unfolding rowLines
   rows-over = let a : count - count ≡ 0 = omega arith in rw a
 
-  pub rows-end : length bytes ≤ p → rowsLeft count n count (drop p bytes) ≡ Verdict.go [] []
+  rows-end : length bytes ≤ p → rowsLeft count n count (drop p bytes) ≡ Verdict.go [] []
   unfolding ended
   rows-end h = rows-over ∙ rw (drop-of-length-le bytes {i = p} h)
 
-  pub rows-left-over : p < length bytes → rowsLeft count n count (drop p bytes) ≡ Verdict.refuse 10 (count + 3)
+  rows-left-over : p < length bytes → rowsLeft count n count (drop p bytes) ≡ Verdict.refuse 10 (count + 3)
   unfolding ended
   rows-left-over h =
       let b : 3 + count ≡ count + 3 = omega arith in
@@ -157,3 +158,37 @@ module _ (ds : List ℕ) (bs : List ℕ) {count n : ℕ} (e : count ≡ rowCount
   pub rows-stored : line ≡ 0 → {words′ : List ℕ} → words′ ≡ sets words 0 (wordsOf (rowLines 3 count n bs))
       → RowsTaken (rowLines 3 (rowCount ds) (rowWidth ds) bs) 0 words words′
   rows-stored z s = rw (← e, ← w) (record { judged = rw z at j; stored = λ _. s; kept = λ t. absurd (t refl) })
+
+-- judging rows one by one: the words of those passed stand before what those left read as
+pub record Passed (bytes : List ℕ) (at count n p i : ℕ) : Type 0 where
+  pub words : List ℕ
+  pub left : rowLines 3 count n (drop at bytes) ≡ behind words (rowsLeft count n i (drop p bytes))
+
+module _ (bytes : List ℕ) (at count n : ℕ) where
+  pub none-passed : Passed bytes at count n at 0
+  none-passed =
+      let z : count - 0 ≡ count = omega arith in
+      record { words = []; left = rw z (behind-none (rowLines 3 count n (drop at bytes))) }
+
+  module _ (p i : ℕ) (h : Passed bytes at count n p i) where
+    module _ {ok : Bool} {next : ℕ} (l : At bytes (readLine rowWord n (drop p bytes)) ok (numbersOf (readLine rowWord n (drop p bytes))) next) where
+      pub one-passed : not ok ≡ false → i < count → Passed bytes at count n next (i + 1)
+      one-passed o k =
+          let us = numbersOf (readLine rowWord n (drop p bytes)) in
+          record {
+            words = h .words ++ us;
+            left =
+                h .left
+                ∙ ap (behind (h .words)) (row-step count n i (drop p bytes) k (l .right (not-false ok o)))
+                ∙ behind-behind (h .words) us (rowsLeft count n (i + 1) (drop next bytes));
+          }
+
+      pub wrong-row : not ok ≡ true → i < count → RowsAt (rowLines 3 count n (drop at bytes)) (i + 3)
+      wrong-row o k = rows-wrong (omega arith) (h .left ∙ rw (row-bad count n i (drop p bytes) k (l .wrong (not-true ok o))))
+
+    pub left-over : i ≡ count → p < length bytes → RowsAt (rowLines 3 count n (drop at bytes)) (count + 3)
+    left-over e k =
+        rows-wrong (omega arith) (h .left ∙ rw e (ap (behind (h .words)) (rows-left-over count n bytes p k)))
+
+    pub all-passed : i ≡ count → length bytes ≤ p → RowsAt (rowLines 3 count n (drop at bytes)) 0
+    all-passed e k = rows-right {ws = h .words ++ []} (h .left ∙ rw e (ap (behind (h .words)) (rows-end count n bytes p k)))

@@ -6,11 +6,13 @@ use native.Mathlib.Omega.{arith}
 use native.Mathlib.Nat.{le-of-suc-le-suc}
 use native.Mathlib.Numerals.{add-one}
 use lib.ListN.{length, drop}
-use mathlib.Core.Bool.{Bool}
+use mathlib.Core.Bool.{Bool, false, true, not}
+use borrow.Author.Tests.{not-true, not-false}
 use Rattle.text.specs.Read.{Reading, after, readField, readFields}
 use Rattle.lists.proofs.Decide.{decided}
 use Rattle.text.proofs.Lines.{after-found}
 use Rattle.sheet.specs.Place.{At, There, numbersOf}
+use Rattle.sheet.proofs.Places.{at-none}
 
 -- what was found is found with its own numbers
 pub got : {x : Reading (List ℕ)} {vs rest : List ℕ} → x ≡ Reading.found vs rest → x ≡ Reading.found (numbersOf x) rest
@@ -78,3 +80,13 @@ pub taken-field : (i n : ℕ) (bs : List ℕ) {vs mid bytes : List ℕ} (ok : Bo
     → readFields i bs ≡ Reading.found vs mid → At bytes (readField mid) ok value next → readField mid ≡ Reading.found value (drop next bytes)
 taken-field i n bs ok t h e a =
     decided ok (λ q. a .right q) (λ q. absurd (field-there i n bs (t .found) h e (a .wrong q)))
+
+-- the next field of a run, by what was found at its place
+module _ (i : ℕ) {bytes : List ℕ} {ok : Bool} {value next : ℕ} where
+  pub next-field : (bs : List ℕ) {vs mid : List ℕ} → readFields i bs ≡ Reading.found vs mid → At bytes (readField mid) ok value next → not ok ≡ false
+      → readFields (i + 1) bs ≡ Reading.found (numbersOf (readFields (i + 1) bs)) (drop next bytes)
+  next-field bs e a o = got (fields-more i bs e (a .right (not-false ok o)))
+
+  pub no-next-field : (n : ℕ) (bs : List ℕ) {vs mid us : List ℕ} → readFields i bs ≡ Reading.found vs mid → At bytes (readField mid) ok value next
+      → not ok ≡ true → i < n → At bytes (readFields n bs) false us 0
+  no-next-field n bs e a o h = at-none (fields-stop i n bs e (a .wrong (not-true ok o)) h)

@@ -64,7 +64,6 @@ module _ (w : tie.After-words-of2) where
 
 returns : tie.Need-returns
 returns c =
-    let rs : tie.After-words-of2 = search in
     let s : tie.After-words-of = search in
     let x : tie.Start = search in
     let ws = ap (λ (n : ℕ). length (fields (take n (x .args .words .now)))) (s .words-of .ensures ∙ known x .size) in

@@ -33,7 +33,6 @@ returns-2 c =
 
 returns-3 : tie.Need-returns-3
 returns-3 c =
-    let b : tie.After-byte-at = search in
     let f : tie.After-fields-at = search in
     let w : tie.After-word-at = search in
     let x : tie.Start = search in

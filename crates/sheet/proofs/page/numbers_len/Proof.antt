@@ -17,34 +17,40 @@ Inv-loop numbers total₀ i₀ i-end total i =
 abbrev μ-loop : tie.MeasureT-loop
 μ-loop numbers total₀ i₀ i-end total i = length numbers - i
 
+abbrev Start : Type 0
+Start = tie.Start Inv-loop μ-loop
+
+abbrev Loop : Type 0
+Loop = tie.At-loop Inv-loop μ-loop
+
 digits-of-requires : tie.Need-digits-of-requires Inv-loop μ-loop
 digits-of-requires c κs =
-    let l : tie.At-loop Inv-loop μ-loop = search in
-    let x : tie.Start Inv-loop μ-loop = search in
+    let l : Loop = search in
+    let x : Start = search in
     x .pre .1 (l .loop .i) (omega arith)
 
 add-total : tie.Need-add-total Inv-loop μ-loop
 add-total c =
-    let l : tie.At-loop Inv-loop μ-loop = search in
-    let x : tie.Start Inv-loop μ-loop = search in
+    let l : Loop = search in
+    let x : Start = search in
     omega (arith, decimal-few (getD (x .args .numbers .now) (l .loop .i) 0))
 
 add-total-2 : tie.Need-add-total-2 Inv-loop μ-loop
 add-total-2 c =
-    let l : tie.At-loop Inv-loop μ-loop = search in
-    let x : tie.Start Inv-loop μ-loop = search in
+    let l : Loop = search in
+    let x : Start = search in
     omega (arith, decimal-few (getD (x .args .numbers .now) (l .loop .i) 0), fields-few (x .args .numbers .now))
 
 loop-again : tie.Need-loop-again Inv-loop μ-loop
 loop-again c =
-    let l : tie.At-loop Inv-loop μ-loop = search in
-    let x : tie.Start Inv-loop μ-loop = search in
+    let l : Loop = search in
+    let x : Start = search in
     (omega arith, omega arith, omega (arith, measure-next (x .args .numbers .now) (l .loop .i) (omega arith)))
 
 returns : tie.Need-returns Inv-loop μ-loop
 returns c =
-    let l : tie.At-loop Inv-loop μ-loop = search in
-    let x : tie.Start Inv-loop μ-loop = search in
+    let l : Loop = search in
+    let x : Start = search in
     omega (arith, measure-all (x .args .numbers .now) (l .loop .i) (omega arith))
 
 pub numbers-len-spec : {M : Type 1} → statement M

@@ -15,28 +15,31 @@ Inv-loop out₀ at words p₀ i₀ i-end out p i = (i-end ≡ length words) × (
 abbrev μ-loop : tie.MeasureT-loop
 μ-loop out₀ at words p₀ i₀ i-end out p i = length words - i
 
+abbrev Loop : Type 0
+Loop = tie.At-loop Inv-loop μ-loop
+
 loop-holds : tie.Need-loop-holds Inv-loop μ-loop
 loop-holds c = let x : tie.Start Inv-loop μ-loop = search in (omega arith, omega arith, leads-start (x .pre))
 
 cast-put-field : tie.Need-cast-put-field Inv-loop μ-loop
-cast-put-field c = let l : tie.At-loop Inv-loop μ-loop = search in omega (arith, c .shared-slice-known2 .given (l .loop .i))
+cast-put-field c = let l : Loop = search in omega (arith, c .shared-slice-known2 .given (l .loop .i))
 
 put-field-requires : tie.Need-put-field-requires Inv-loop μ-loop
 put-field-requires c κs =
-    let l : tie.At-loop Inv-loop μ-loop = search in
+    let l : Loop = search in
     (omega (arith, c .shared-slice-known2 .given (l .loop .i)), next-room _ (l .loop .i) (l .loop .inv .2) (omega arith))
 
 loop-again : tie.Need-loop-again Inv-loop μ-loop
 loop-again c =
     let f : tie.After-put-field Inv-loop μ-loop = search in
-    let l : tie.At-loop Inv-loop μ-loop = search in
+    let l : Loop = search in
     (omega arith, omega arith, next-put _ (l .loop .i) (l .loop .inv .2) (omega arith) (f .put-field .ensures))
 
 same-length : tie.Need-same-length Inv-loop μ-loop
-same-length c = let l : tie.At-loop Inv-loop μ-loop = search in l .loop .inv .2 .same
+same-length c = let l : Loop = search in l .loop .inv .2 .same
 
 returns : tie.Need-returns Inv-loop μ-loop
-returns c = let l : tie.At-loop Inv-loop μ-loop = search in all-put _ (l .loop .i) (l .loop .inv .2) (omega arith)
+returns c = let l : Loop = search in all-put _ (l .loop .i) (l .loop .inv .2) (omega arith)
 
 pub put-words-spec : {M : Type 1} → statement M
 put-words-spec =

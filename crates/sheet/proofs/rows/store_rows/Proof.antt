@@ -24,12 +24,18 @@ abbrev μ-loop : tie.MeasureT-loop
 μ-loop bytes at count n words₀ p₀ from₀ i₀ words p from i =
     count - i
 
+abbrev Start : Type 0
+Start = tie.Start Inv-loop μ-loop
+
+abbrev Loop : Type 0
+Loop = tie.At-loop Inv-loop μ-loop
+
 -- the row at the place reached, and the room that it needs
 module _ (c : tie.In-loop Inv-loop μ-loop) where
-  abbrev start : tie.Start Inv-loop μ-loop
+  abbrev start : Start
   start = search
 
-  abbrev at-loop : tie.At-loop Inv-loop μ-loop
+  abbrev at-loop : Loop
   at-loop = search
 
   row : RowAt (start .args .bytes .now) (start .args .count) (start .args .n) (at-loop .loop .i) (at-loop .loop .p)
@@ -42,7 +48,7 @@ module _ (c : tie.In-loop Inv-loop μ-loop) where
 
 loop-holds : tie.Need-loop-holds Inv-loop μ-loop
 loop-holds c =
-    let start : tie.Start Inv-loop μ-loop = search in
+    let start : Start = search in
     let z : start .args .count - 0 ≡ start .args .count = omega arith in
     (omega arith, start .pre .0, refl, rw z (omega (arith, start .pre .1)), rw z (start .pre .2), rw z)
 
@@ -66,8 +72,8 @@ loop-again : tie.Need-loop-again Inv-loop μ-loop
 loop-again c =
     let after-words-into : tie.After-words-into Inv-loop μ-loop = search in
     let in-loop : tie.In-loop Inv-loop μ-loop = search in
-    let at-loop : tie.At-loop Inv-loop μ-loop = search in
-    let start : tie.Start Inv-loop μ-loop = search in
+    let at-loop : Loop = search in
+    let start : Start = search in
     let q = after-words-into .words-into in
     let l = at-loop .loop in
     let a = start .args in
@@ -90,8 +96,8 @@ loop-again c =
 
 returns : tie.Need-returns Inv-loop μ-loop
 returns c =
-    let at-loop : tie.At-loop Inv-loop μ-loop = search in
-    let start : tie.Start Inv-loop μ-loop = search in
+    let at-loop : Loop = search in
+    let start : Start = search in
     let l = at-loop .loop in
     let a = start .args in
     let e : l .i ≡ a .count = omega arith in

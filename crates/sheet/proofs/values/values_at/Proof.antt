@@ -23,32 +23,26 @@ abbrev μ-loop : tie.MeasureT-loop
 μ-loop bytes at n out₀ p₀ i₀ out p i =
     n - i
 
+abbrev Start : Type 0
+Start = tie.Start Inv-loop μ-loop
+
+abbrev Loop : Type 0
+Loop = tie.At-loop Inv-loop μ-loop
+
 loop-holds : tie.Need-loop-holds Inv-loop μ-loop
 loop-holds c =
-    let start : tie.Start Inv-loop μ-loop = search in
+    let start : Start = search in
     let bs = drop (start .args .at) (start .args .bytes .now) in (omega arith, got (no-field bs), rw (no-field bs))
-
-field-at-requires : tie.Need-field-at-requires Inv-loop μ-loop
-field-at-requires c κs = search needs
-
-mul-out : tie.Need-mul-out Inv-loop μ-loop
-mul-out c = search needs
 
 array-write-out : tie.Need-array-write-out Inv-loop μ-loop
 array-write-out c =
-    let start : tie.Start Inv-loop μ-loop = search in
+    let start : Start = search in
     omega (arith, start .pre .0)
-
-add-i : tie.Need-add-i Inv-loop μ-loop
-add-i c = search needs
-
-loop-less : tie.Need-loop-less Inv-loop μ-loop
-loop-less c = search needs
 
 loop-again : tie.Need-loop-again Inv-loop μ-loop
 loop-again c =
-    let at-loop : tie.At-loop Inv-loop μ-loop = search in
-    let start : tie.Start Inv-loop μ-loop = search in
+    let at-loop : Loop = search in
+    let start : Start = search in
     let l = at-loop .loop in
     let bs = drop (start .args .at) (start .args .bytes .now) in
     let vs = numbersOf (readFields (l .i) bs) in
@@ -64,8 +58,8 @@ loop-again c =
 
 returns : tie.Need-returns Inv-loop μ-loop
 returns c =
-    let at-loop : tie.At-loop Inv-loop μ-loop = search in
-    let start : tie.Start Inv-loop μ-loop = search in
+    let at-loop : Loop = search in
+    let start : Start = search in
     let e : at-loop .loop .i ≡ start .args .n = omega arith in
     rw (← e) (at-loop .loop .inv .2)
 
@@ -76,10 +70,10 @@ values-at-spec =
     Inv-loop
     μ-loop
     loop-holds
-    field-at-requires
-    mul-out
+    (search needs)
+    (search needs)
     array-write-out
-    add-i
-    loop-less
+    (search needs)
+    (search needs)
     loop-again
     returns)

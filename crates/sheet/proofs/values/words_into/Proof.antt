@@ -24,12 +24,18 @@ abbrev μ-loop : tie.MeasureT-loop
 μ-loop bytes at n words₀ from p₀ i₀ words p i =
     n - i
 
+abbrev Start : Type 0
+Start = tie.Start Inv-loop μ-loop
+
+abbrev Loop : Type 0
+Loop = tie.At-loop Inv-loop μ-loop
+
 -- the field at the place reached is found again
 module _ (c : tie.After-struct-known Inv-loop μ-loop) where
-  abbrev start : tie.Start Inv-loop μ-loop
+  abbrev start : Start
   start = search
 
-  abbrev at-loop : tie.At-loop Inv-loop μ-loop
+  abbrev at-loop : Loop
   at-loop = search
 
   abbrev found : tie.After-field-at Inv-loop μ-loop
@@ -43,41 +49,23 @@ module _ (c : tie.After-struct-known Inv-loop μ-loop) where
 
 loop-holds : tie.Need-loop-holds Inv-loop μ-loop
 loop-holds c =
-    let start : tie.Start Inv-loop μ-loop = search in
+    let start : Start = search in
     let a = start .args in
     let bs = drop (a .at) (a .bytes .now) in
     (omega arith, got (no-field bs), refl, start .pre .0, rw (no-field bs))
 
-field-at-requires : tie.Need-field-at-requires Inv-loop μ-loop
-field-at-requires c κs = search needs
-
 cast-words : tie.Need-cast-words Inv-loop μ-loop
 cast-words c =
-    let at-loop : tie.At-loop Inv-loop μ-loop = search in
-    let start : tie.Start Inv-loop μ-loop = search in
+    let at-loop : Loop = search in
+    let start : Start = search in
     let bs = drop (start .args .at) (start .args .bytes .now) in
     omega (arith, field-text (drop (at-loop .loop .p) (start .args .bytes .now)) (again c) .1)
-
-add-words : tie.Need-add-words Inv-loop μ-loop
-add-words c = search needs
-
-mul-words : tie.Need-mul-words Inv-loop μ-loop
-mul-words c = search needs
-
-slice-write-words : tie.Need-slice-write-words Inv-loop μ-loop
-slice-write-words c = search needs
-
-add-i : tie.Need-add-i Inv-loop μ-loop
-add-i c = search needs
-
-loop-less : tie.Need-loop-less Inv-loop μ-loop
-loop-less c = search needs
 
 loop-again : tie.Need-loop-again Inv-loop μ-loop
 loop-again c =
     let after-field-at : tie.After-field-at Inv-loop μ-loop = search in
-    let at-loop : tie.At-loop Inv-loop μ-loop = search in
-    let start : tie.Start Inv-loop μ-loop = search in
+    let at-loop : Loop = search in
+    let start : Start = search in
     let l = at-loop .loop in
     let bs = drop (start .args .at) (start .args .bytes .now) in
     let vs = numbersOf (readFields (l .i) bs) in
@@ -92,13 +80,10 @@ loop-again c =
           ∙ ap (λ (x : Reading (List ℕ)). sets (start .args .words .now) (start .args .from) (numbersOf x)) (sym e),
     )
 
-same-length : tie.Need-same-length Inv-loop μ-loop
-same-length c = search needs
-
 returns : tie.Need-returns Inv-loop μ-loop
 returns c =
-    let at-loop : tie.At-loop Inv-loop μ-loop = search in
-    let start : tie.Start Inv-loop μ-loop = search in
+    let at-loop : Loop = search in
+    let start : Start = search in
     let l = at-loop .loop in
     let e : l .i ≡ start .args .n = omega arith in
     rw (← e) (record { read = l .inv .1; inside = l .inv .3; stored = l .inv .4 })
@@ -110,13 +95,13 @@ words-into-spec =
     Inv-loop
     μ-loop
     loop-holds
-    field-at-requires
+    (search needs)
     cast-words
-    add-words
-    mul-words
-    slice-write-words
-    add-i
-    loop-less
+    (search needs)
+    (search needs)
+    (search needs)
+    (search needs)
+    (search needs)
     loop-again
-    same-length
+    (search needs)
     returns)
