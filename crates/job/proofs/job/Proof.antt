@@ -8,17 +8,6 @@ use Rattle.job.proofs.Done.{met-refused, met-accepted}
 use Rattle.job.proofs.job.Statement.{statement}
 use Rattle.job.proofs.job.Tie as tie
 
--- the buffers have the lengths that their types say
-module _ (x : tie.Start) where
-  words-long : length (x .args .words .now) ≡ 1024
-  words-long = search needs
-
-  scratch-long : length (x .args .scratch .now) ≡ 1024
-  scratch-long = search needs
-
-  out-long : length (x .args .out .now) ≡ 16384
-  out-long = search needs
-
 cast-write-refusal : tie.Need-cast-write-refusal
 cast-write-refusal c =
     let r : tie.After-read = search in
@@ -27,7 +16,7 @@ cast-write-refusal c =
 returns : tie.Need-returns
 returns c =
     let r : tie.After-read = search in
-    met-refused (out-long (search)) (turned-away (r .read .ensures) (search)) (c .write-refusal .ensures)
+    met-refused (omega arith) (turned-away (r .read .ensures) (search)) (c .write-refusal .ensures)
 
 array-share-prefix-swaps : tie.Need-array-share-prefix-swaps
 array-share-prefix-swaps c = let r : tie.After-read = search in taken (r .read .ensures) (search) .1 .inside
@@ -38,9 +27,9 @@ slice-aggregate-chain c = let r : tie.After-read = search in sym (taken (r .read
 returns-2 : tie.Need-returns-2
 returns-2 c =
     let a : tie.After-chain = search in
+    let e : tie.Else1 = search in
     let r : tie.After-read = search in
-    let x : tie.Start = search in
-    met-accepted (words-long x) (scratch-long x) (out-long x) (taken (r .read .ensures) (search) .1) (a .chain .ensures) (c .write .ensures)
+    met-accepted (omega arith) (omega arith) (omega arith) (taken (r .read .ensures) (e .if1 .left) .1) (a .chain .ensures) (c .write .ensures)
 
 pub job-spec : {M : Type 1} → statement M
 job-spec =
