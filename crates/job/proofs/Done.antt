@@ -1,6 +1,6 @@
 -- The promise of the whole job. A refused sheet: its line always fits. A right sheet: neither the chain nor the writer can refuse it, since
 -- the block has at most 1,024 words, no axis is longer than that, and 16,384 bytes suffice for its result sheet; the words are the
--- computed layout, since two layouts of one order are equal. And two outcomes of the job coincide.
+-- computed layout, since two layouts of one order are equal.
 use mathlib.Core.Path.{_≡_, refl, sym, ap, _∙_}
 use mathlib.Core.Bool.{false}
 use mathlib.Core.List.{List, _++_}
@@ -24,10 +24,11 @@ use Rattle.text.specs.Meaning.{Outcome, meaning}
 use Rattle.text.proofs.Length.{decimal-few, result-fits}
 use Rattle.sheet.specs.declared.Sheet.{Sheet}
 use Rattle.sheet.specs.declared.Written.{Written}
-use Rattle.sheet.specs.Writer.{writerNumber, written, writtenTo, WrittenAs}
-use Rattle.sheet.specs.RefusalWriter.{refusalNumber, RefusalWrittenAs}
+use Rattle.sheet.specs.Writer.{writerNumber, WrittenAs}
+use Rattle.sheet.specs.RefusalWriter.{RefusalWrittenAs}
 use Rattle.sheet.proofs.Writes.{number-0}
-use Rattle.sheet.proofs.Refusals.{length-refusal}
+use Rattle.sheet.proofs.RefusalLine.{length-refusal, line-fits}
+use Rattle.sheet.proofs.InFull.{in-full}
 use Rattle.job.specs.Job.{jobWords, jobText, Done}
 use Rattle.job.proofs.Readings.{swapsOf, Turned-away, Taken}
 use Rattle.job.proofs.Sizes.{longest-le-volume}
@@ -40,16 +41,15 @@ short-line number place = omega (arith, length-refusal number place, decimal-few
 pub met-refused : {bytes words scratch out : List ℕ} {r : Sheet} {words′ : List ℕ} {w : Written} {out′ : List ℕ} → length out ≡ 16384
     → Turned-away words bytes r words′ → RefusalWrittenAs (r .number) (r .place) out w out′
     → Done bytes words scratch out (w .count) words′ scratch out′
-met-refused {bytes} {words} {scratch} {out} {r} {words′} {w} {out′} long t p =
-    let text = refusalText (r .number) (r .place) in
-    let zero-is : refusalNumber (r .number) (r .place) out ≡ 0 = rw (le-ltb (length out) (length text) (omega (arith, short-line (r .number) (r .place)))) in
-    let count : w .count ≡ length text = ap (λ (s : Written). s .count) (p .answers) ∙ ap (λ (k : ℕ). written k text .count) zero-is in
+met-refused {out = out} {r = r} long t p =
+    let short = short-line (r .number) (r .place) in
+    let full = in-full (refusalText (r .number) (r .place)) out (line-fits (r .number) (r .place) out (omega arith)) (p .answers) (p .bytes) in
     record {
       words-are = rw (t .means) (t .same);
       scratch-is = rw (t .means);
-      count-is = rw (t .means) count;
-      fits = omega (arith, short-line (r .number) (r .place));
-      text-is = rw (t .means, count) (p .bytes ∙ ap (λ (k : ℕ). writtenTo k text out) zero-is);
+      count-is = rw (t .means) (full .0);
+      fits = omega arith;
+      text-is = rw (t .means, full .0) (full .1);
     }
 
 -- a right sheet, its chain run and its result sheet written
@@ -113,14 +113,14 @@ module _ {bytes words scratch out : List ℕ} {r : Sheet} {words₁ ws : List �
   -- the writer never refuses
   writes : writerNumber (pick order ds) (numberOf 4 order) words₂ out ≡ 0
   writes =
-      number-0 (pick order ds) (numberOf 4 order) words₂ out good-lengths few (omega (arith, few, same, laid-out .same))
+      number-0 {words = words₂} (record { lengths = good-lengths; few = few; enough = omega (arith, few, same, laid-out .same) }) (numberOf 4 order) out
       (omega (arith, number-below 4 (swapsOf r))) (omega (arith, text-fits))
 
   promised : WrittenAs (pick order ds) (numberOf 4 order) words₂ out w out′
   promised = rw (new-lengths, new-order) at q
 
-  count : w .count ≡ length text
-  count = ap (λ (s : Written). s .count) (promised .answers) ∙ ap (λ (k : ℕ). written k text .count) writes
+  full : (w .count ≡ length text) × (out′ ≡ text ++ drop (length text) out)
+  full = in-full text out writes (promised .answers) (promised .bytes)
 
   words-of : words₂ ≡ jobWords (Outcome.accepted ds (swapsOf r) ws) words
   words-of = words-laid ∙ ap (laid ds order) (t .stored)
@@ -132,21 +132,10 @@ module _ {bytes words scratch out : List ℕ} {r : Sheet} {words₁ ws : List �
   met-accepted = record {
     words-are = rw (t .means) words-of;
     scratch-is = rw (t .means) (p .block .zeroed chain-runs);
-    count-is = rw (t .means) (count ∙ ap length text-of);
-    fits = omega (arith, count, text-fits);
-    text-is = rw (t .means, ← text-of, count) (promised .bytes ∙ ap (λ (k : ℕ). writtenTo k text out) writes);
+    count-is = rw (t .means) (full .0 ∙ ap length text-of);
+    fits = omega (arith, full, text-fits);
+    text-is = rw (t .means, ← text-of, full .0) (full .1);
   }
-
--- two outcomes of the job coincide
-pub job-once : {bytes words scratch out : List ℕ} {n n′ : ℕ} {w w′ s s′ o o′ : List ℕ} → Done bytes words scratch out n w s o
-    → Done bytes words scratch out n′ w′ s′ o′ → (n ≡ n′) × (w ≡ w′) × (s ≡ s′) × (o ≡ o′)
-job-once {bytes} {words} {scratch} {out} p q =
-    let count = p .count-is ∙ sym (q .count-is) in (
-      count,
-      p .words-are ∙ sym (q .words-are),
-      p .scratch-is ∙ sym (q .scratch-is),
-      p .text-is ∙ ap (λ (k : ℕ). jobText (meaning words bytes) words ++ drop k out) count ∙ sym (q .text-is),
-    )
 
 -- the byte buffer holds as many bytes as the job counts
 pub text-inside : {bytes words scratch out : List ℕ} {n : ℕ} {w s o : List ℕ} → Done bytes words scratch out n w s o → n ≤ length o

@@ -1,29 +1,15 @@
--- The promises of the reader and the writer: any two outcomes that one allows coincide, and the reader's number is 0 exactly when
--- the bytes are the text of what it answers. From the equations that the promises are, and the law of accepted sheets.
-use mathlib.Core.Path.{_≡_, refl, sym, ap, _∙_}
-use mathlib.Core.List.{List, [], _∷_, _++_}
-use mathlib.Core.Logic.{_↔_}
-use Prim.Native.Nat.{ℕ, _<_, _≤_}
+-- The reader's number is 0 exactly when the bytes are the text of what it answers. From the law of accepted sheets.
+use mathlib.Core.Path.{_≡_, refl, ap, _∙_}
+use mathlib.Core.List.{List, _++_}
+use Prim.Native.Nat.{ℕ}
 use native.Mathlib.Omega.{arith}
-use lib.ListN.{length, drop, take}
-use lib.Seq.{take-at}
+use lib.ListN.{length, drop}
 use Rattle.text.specs.Meaning.{Outcome, meaning}
 use Rattle.text.proofs.Accepted.{Right, accepted-right, right-accepted}
 use Rattle.text.proofs.Bounds.{Within, meaning-within}
 use Rattle.sheet.specs.declared.Sheet.{Sheet}
-use Rattle.sheet.specs.declared.Written.{Written}
 use Rattle.sheet.specs.Swaps.{padded}
 use Rattle.sheet.specs.Reader.{answer, kept, ReadAs}
-use Rattle.sheet.specs.Writer.{WrittenAs}
-
--- two outcomes of the reader coincide
-pub read-once : {buffer bytes : List ℕ} {r r′ : Sheet} {w w′ : List ℕ} → ReadAs buffer bytes r w → ReadAs buffer bytes r′ w′ → (r ≡ r′) × (w ≡ w′)
-read-once p q = (p .answers ∙ sym (q .answers), p .words ∙ sym (q .words))
-
--- two outcomes of the writer coincide
-pub write-once : {ds : List ℕ} {order : ℕ} {words out : List ℕ} {r r′ : Written} {o o′ : List ℕ}
-    → WrittenAs ds order words out r o → WrittenAs ds order words out r′ o′ → (r ≡ r′) × (o ≡ o′)
-write-once p q = (p .answers ∙ sym (q .answers), p .bytes ∙ sym (q .bytes))
 
 -- what an accepted sheet is answered with: its lengths, its chain before zeros, the chain's length, and its words at the start
 pub record Answers (buffer : List ℕ) (answered : Sheet) (buffer′ ds chain words : List ℕ) : Type 0 where
