@@ -13,26 +13,11 @@ ghost use Rattle.refusals.specs.Calls.{passesChecks, chainChecks};
 ghost use Rattle.refusals.specs.Scratch.{need};
 ghost use Rattle.axes.specs.Promises.{ChainPromise};
 
-// The first of the checks 1 to 4, which are those of a turn by passes.
-pub(crate) fn passes_number(lens: &[usize], buf: &[u32], scratch: &[u32]) -> u32
-    ensures { λ r. ⌜ r ≡ firstOf (passesChecks (now (lens .entry)) (now (buf .entry)) (now (scratch .entry))) ⌝ }
-{
-    let number = checks::block_number(lens, buf);
-    if number != 0 {
-        return number;
-    }
-    let need = checks::longest_of(lens);
-    if scratch.len() < need {
-        return 4;
-    }
-    0
-}
-
 // The first of the checks 1 to 6.
 pub(crate) fn chain_number(lens: &[usize], buf: &[u32], scratch: &[u32], swaps: &[usize]) -> u32
     ensures { λ r. ⌜ r ≡ firstOf (chainChecks 4 (now (lens .entry)) (now (buf .entry)) (now (scratch .entry)) (now (swaps .entry))) ⌝ }
 {
-    let number = passes_number(lens, buf, scratch);
+    let number = checks::passes_number(lens, buf, scratch);
     if number != 0 {
         return number;
     }

@@ -108,7 +108,7 @@ pub fn request(buf: &mut [u32], scratch: &mut [u32], shape: Shape, order: usize)
     ensures { λ r. ⌜ RequestPromise 4 (shape .lens) order (now (buf .entry)) (now (scratch .entry)) r (now (buf .exit)) (now (scratch .exit)) ⌝ }
 {
     let lens = shape.lens;
-    let number = chains::passes_number(&lens, buf, scratch);
+    let number = checks::passes_number(&lens, buf, scratch);
     if number != 0 {
         return refusal(number, 0);
     }

@@ -1,22 +1,17 @@
 -- What the calls' checks tell where none holds, and what the block's turn and the cleared scratch are then.
 use mathlib.Core.Path.{_≡_, sym, ap, _∙_}
 use mathlib.Core.List.{List, [], _∷_, _++_}
-use mathlib.Core.Logic.{⊎-elim}
 use Prim.Native.Nat.{ℕ, _+_, _*_, _-_, _/_, _%_, _<_, _≤_}
 use native.Mathlib.Omega.{arith}
 use native.Mathlib.Nat.{le-trans}
 use lib.ListN.{length, getD, drop, replicate, length-drop}
-use borrow.Author.Tests.{lt-ltb, le-ltb}
 use lib.Seq.{ext-getD, getD-drop}
 use lib.Arith.{digits-div, digits-mod, digits-lt}
-use Rattle.lists.proofs.Decide.{eq-or-ne}
-use Rattle.refusals.specs.FirstOf.{Check, check, firstOf}
+use Rattle.refusals.specs.FirstOf.{check, firstOf}
 use Rattle.refusals.specs.Conditions.{shortScratch}
-use Rattle.refusals.specs.Calls.{blockChecks, passesChecks}
+use Rattle.refusals.specs.Calls.{passesChecks}
 use Rattle.refusals.specs.Scratch.{need, cleared}
-use Rattle.refusals.proofs.FirstOf.{refused-first, accepted-so-far}
 use Rattle.refusals.proofs.Promise.{accepted}
-use Rattle.refusals.proofs.Calls.{recursion-accepted}
 use Rattle.refusals.proofs.Conditions.{Valid, InRange, valid, enough-scratch}
 use Rattle.refusals.proofs.Conditions.InRange.{none, more}
 use Rattle.flat.specs.Turn.{sides, Turn}
@@ -25,24 +20,6 @@ use Rattle.passes.specs.ThroughScratch.{Grouped, Lies, Past, TurnedAt}
 use Rattle.passes.specs.Promises.{TurnPromise, TurnBackPromise}
 use Rattle.passes.specs.declared.line.GroupedSides.{GroupedSides}
 use Rattle.passes.proofs.Fits.{side-need}
-
--- the checks of a block, then the room in scratch: what they answer where the block is refused, and where scratch decides
-module _ (ds buffer scratch : List ℕ) where
-  abbrev room-check : List Check
-  room-check = check 4 (shortScratch (need ds) scratch) ∷ []
-
-  pub block-refused : {r : ℕ} → r ≡ firstOf (blockChecks ds buffer) → (r ≡ 0 → ⊥) → r ≡ firstOf (passesChecks ds buffer scratch)
-  block-refused e n = e ∙ sym (refused-first (blockChecks ds buffer) room-check (λ z. n (e ∙ z)))
-
-  pub short-refused : firstOf (blockChecks ds buffer) ≡ 0 → length scratch < need ds → 4 ≡ firstOf (passesChecks ds buffer scratch)
-  short-refused e h = sym (accepted-so-far room-check (recursion-accepted ds buffer .0 e) ∙ rw (lt-ltb _ _ h))
-
-  pub block-good : firstOf (passesChecks ds buffer scratch) ≡ 0 → firstOf (blockChecks ds buffer) ≡ 0
-  block-good e =
-      ⊎-elim (λ z. z) (λ n. absurd (n (sym (refused-first (blockChecks ds buffer) room-check n) ∙ e))) (eq-or-ne (firstOf (blockChecks ds buffer)) 0)
-
-  pub room-passed : firstOf (blockChecks ds buffer) ≡ 0 → need ds ≤ length scratch → 0 ≡ firstOf (passesChecks ds buffer scratch)
-  room-passed e h = sym (accepted-so-far room-check (recursion-accepted ds buffer .0 e) ∙ rw (le-ltb _ _ h))
 
 -- sides and buffers of a flat call that is accepted
 pub record Accepted (m n : ℕ) (buffer scratch : List ℕ) : Type 0 where

@@ -3,13 +3,14 @@
 use mathlib.Core.Path.{_≡_, refl, sym, ap, _∙_, subst}
 use mathlib.Core.List.{List}
 use mathlib.Core.Logic.{⊎-elim}
-use Prim.Native.Nat.{ℕ, _+_, _*_, _-_, _<_, _≤_, max}
+use Prim.Native.Nat.{ℕ, _+_, _*_, _-_, _<_, _≤_}
 use native.Mathlib.Omega.{arith}
-use native.Mathlib.Nat.{mul-pos, le-max-left, le-max-right, le-trans}
+use native.Mathlib.Nat.{mul-pos, le-trans}
+use lib.Dec.{lit<}
 use lib.ListN.{length}
 use lib.Arith.{digits-lt}
 use Rattle.lists.proofs.Decide.{lt-or-ge}
-use Rattle.refusals.specs.Conditions.{longest}
+use Rattle.refusals.proofs.Scratch.{need-entry}
 use Rattle.refusals.specs.Scratch.{need}
 use Rattle.flat.specs.Turn.{sides}
 use Rattle.flat.proofs.Sides.{sides-are, row1-lt, column2-lt, row3-lt, rows1-apart, columns-apart, rows3-apart}
@@ -67,8 +68,7 @@ module _ {m n base chunk : ℕ} {xs scratch : List ℕ} (hm : 0 < m) (hn : 0 < n
 
 -- a line is no longer than what the call needs of scratch
 pub side-need : (m n : ℕ) → (m ≤ need (sides m n)) × (n ≤ need (sides m n))
-unfolding longest
-side-need m n = (le-max-left m (max n 0), le-trans (le-max-left n 0) (le-max-right m (max n 0)))
+side-need m n = (need-entry (sides m n) 0 (lit< tt), need-entry (sides m n) 1 (lit< tt))
 
 pub line-short : (m n base chunk t : ℕ) → t < n + m + n → lineAt m n base chunk t .count ≤ need (sides m n)
 line-short m n base chunk =

@@ -24,7 +24,8 @@ unfolding follow
 need-follow ds [] = refl
 need-follow ds (k ∷ chain) = need-follow (exchange k ds) chain ∙ need-exchange k ds
 
-need-entry : (ds : List ℕ) (k : ℕ) → k < length ds → getD ds k 0 ≤ need ds
+-- no axis is longer than the need
+pub need-entry : (ds : List ℕ) (k : ℕ) → k < length ds → getD ds k 0 ≤ need ds
 unfolding longest
 need-entry [] k h = absurd (not-suc-le-zero h)
 need-entry (d ∷ ds) zero h = omega arith

@@ -30,6 +30,7 @@ turn-back-spec =
     (search needs)
     (search needs)
     (search needs)
+    (search needs)
     (λ c. search refused)
     (λ c κs. omega (arith, checked (search) (search via)))
     (λ c κs. let s : tie.After-group-sides = search in flat-asked (s .group-sides .ensures) (checked (search) (search via)))

@@ -1,10 +1,10 @@
--- `axes::chains::passes_number` meets its contract: the checks 1, 2 and 3 come first, then scratch is measured.
+-- `passes_number` meets its contract: the checks 1, 2 and 3 come first, then scratch is measured.
 use native.Mathlib.Omega.{arith}
 use borrow.Author.Needs.{needs}
 use Rattle.lists.proofs.Via.{via}
-use Rattle.passes.proofs.Accepted.{block-refused, short-refused, room-passed}
-use Rattle.axes.proofs.chains.passes_number.Statement.{statement}
-use Rattle.axes.proofs.chains.passes_number.Tie as tie
+use Rattle.refusals.proofs.Calls.{block-refused, short-refused, room-passed}
+use Rattle.checks.proofs.passes_number.Statement.{statement}
+use Rattle.checks.proofs.passes_number.Tie as tie
 
 returns : tie.Need-returns
 returns c =
