@@ -31,7 +31,7 @@ use Rattle.checks.specs.Words.{capped}
 use Rattle.checks.proofs.Capped.{capped-few}
 use Rattle.passes.specs.Promises.{swapBlock, middle, swapChecks, SwapPromise}
 use Rattle.axes.proofs.Grouped.{grouped-volume, regrouped, one-swap-more}
-use Rattle.axes.proofs.Checks.{BlockAccepted, block-room}
+use Rattle.axes.proofs.Accepted.{BlockAccepted, block-room}
 
 -- a list with places k and k + 1, in parts
 cut : (k : ℕ) (l : List ℕ) → suc k < length l → take k l ++ (getD l k 0 ∷ getD l (suc k) 0 ∷ drop (suc (suc k)) l) ≡ l

@@ -7,7 +7,7 @@ use lib.ListN.{length, getD}
 use borrow.Author.Needs.{needs}
 use Rattle.orders.proofs.Numbers.{number-below}
 use Rattle.refusals.proofs.Scratch.{cleared-length}
-use Rattle.axes.proofs.Checks.{ChainAccepted, accepts-chain, good-swap, block-room}
+use Rattle.axes.proofs.Accepted.{ChainAccepted, accepts-chain, good-swap, block-room}
 use Rattle.axes.proofs.Progress.{Progress, begin, still-accepted, one-swap, finished}
 use Rattle.axes.proofs.chains.run.Statement.{statement}
 use Rattle.axes.proofs.chains.run.Tie as tie
