@@ -14,8 +14,8 @@ use Rattle.exports.specs.declared.Answer.{Answer}
 use Rattle.exports.specs.declared.Planned.{Planned}
 use Rattle.exports.specs.declared.Sheet.{Sheet}
 use Rattle.exports.specs.declared.Written.{Written}
-use Rattle.passes.proofs.Once as passes
-use Rattle.halves.proofs.Once as halves
+use Rattle.passes.proofs.OneOutcome as passes
+use Rattle.halves.proofs.OneOutcome as halves
 use Rattle.axes.proofs.OneOutcome as axes-outcome
 use Rattle.sheet.proofs.Promises as sheets
 use Rattle.job.proofs.Outcomes as jobs
@@ -61,7 +61,7 @@ turn-back-once κs a r r′ s s′ p q = passes.turn-back-once p q
 
 pub turn-halves-once : (κs : Lfts 1) (a : Dens κs turn-halves-kinds.ps) (r r′ : ℕ) (s s′ : AtExit (endedOf 1 turn-halves-kinds.ps turn-halves-kinds.r) κs)
     → turn-halves.Post κs a r s → turn-halves.Post κs a r′ s′ → (r ≡ r′) × (s .0 .now ≡ s′ .0 .now)
-turn-halves-once κs a r r′ s s′ p q = halves.one-outcome p q
+turn-halves-once κs a r r′ s s′ p q = halves.turn-once p q
 
 pub chain-once : (κs : Lfts 3) (a : Dens κs chain-kinds.ps) (r r′ : Answer) (s s′ : AtExit (endedOf 3 chain-kinds.ps chain-kinds.r) κs)
     → length (a .1 .1 .0 .lens) ≡ 4 → chain.Post κs a r s → chain.Post κs a r′ s′ → (r ≡ r′) × (s .0 .now ≡ s′ .0 .now) × (s .1 .0 .now ≡ s′ .1 .0 .now)

@@ -1,12 +1,10 @@
 // Bytes put into a lent buffer at a place, each function giving the place after them: private to the library.
 ghost use mathlib.Core.Path.{_≡_};
-ghost use mathlib.Core.Bool.{false};
 ghost use mathlib.Core.List.{_∷_, []};
-ghost use Prim.Native.Nat.{_+_, _≤_};
-ghost use lib.ListN.{length, take, drop};
-ghost use Rattle.refusals.specs.Conditions.{badLength};
+ghost use Prim.Native.Nat.{_≤_};
+ghost use lib.ListN.{length};
 ghost use Rattle.text.specs.Print.{limit, lineFeed, decimal, field, fields};
-ghost use Rattle.sheet.specs.Put.{Room, Put};
+ghost use Rattle.sheet.specs.Put.{Printable, Room, Put};
 
 // How many digits v has.
 pub(crate) fn digits_of(v: usize) -> usize
@@ -67,26 +65,26 @@ pub(crate) fn put_end(out: &mut [u8], at: usize) -> usize
     at + 1
 }
 
-// A field for each of n words from `from` on.
-pub(crate) fn put_words(out: &mut [u8], at: usize, words: &[u32], from: usize, n: usize) -> usize
-    requires { ⌜ (from + n ≤ length (now words)) × Room (now out) at (fields (take n (drop from (now words)))) ⌝ }
-    ensures { λ r. ⌜ Put (now (out .entry)) at (fields (take n (drop from (now (words .entry))))) r (now (out .exit)) ⌝ }
+// A field for each word.
+pub(crate) fn put_words(out: &mut [u8], at: usize, words: &[u32]) -> usize
+    requires { ⌜ Room (now out) at (fields (now words)) ⌝ }
+    ensures { λ r. ⌜ Put (now (out .entry)) at (fields (now (words .entry))) r (now (out .exit)) ⌝ }
 {
     let mut p = at;
-    for i in 0..n {
-        p = put_field(out, p, words[from + i] as usize);
+    for i in 0..words.len() {
+        p = put_field(out, p, words[i] as usize);
     }
     p
 }
 
-// A field for each length.
-pub(crate) fn put_lens(out: &mut [u8], at: usize, lens: [usize; 4]) -> usize
-    requires { ⌜ (badLength lens ≡ false) × Room (now out) at (fields lens) ⌝ }
-    ensures { λ r. ⌜ Put (now (out .entry)) at (fields lens) r (now (out .exit)) ⌝ }
+// A field for each number.
+pub(crate) fn put_numbers(out: &mut [u8], at: usize, numbers: &[usize]) -> usize
+    requires { ⌜ Printable (now numbers) × Room (now out) at (fields (now numbers)) ⌝ }
+    ensures { λ r. ⌜ Put (now (out .entry)) at (fields (now (numbers .entry))) r (now (out .exit)) ⌝ }
 {
     let mut p = at;
-    for i in 0..4 {
-        p = put_field(out, p, lens[i]);
+    for i in 0..numbers.len() {
+        p = put_field(out, p, numbers[i]);
     }
     p
 }

@@ -1,4 +1,5 @@
 // The line of a refusal, measured and put: private to the library.
+use crate::page;
 use crate::put;
 ghost use mathlib.Core.Path.{_≡_};
 ghost use Prim.Native.Nat.{_≤_};
@@ -20,8 +21,6 @@ pub(crate) fn put_refusal(out: &mut [u8], at: usize, number: usize, place: usize
     requires { ⌜ (number ≤ limit) × (place ≤ limit) × Room (now out) at (refusalText number place) ⌝ }
     ensures { λ r. ⌜ Put (now (out .entry)) at (refusalText number place) r (now (out .exit)) ⌝ }
 {
-    let word = put::put_word(out, at, b"refused");
-    let second = put::put_field(out, word, number);
-    let end = put::put_field(out, second, place);
-    put::put_end(out, end)
+    let numbers = [number, place];
+    page::put_line(out, at, b"refused", &numbers)
 }

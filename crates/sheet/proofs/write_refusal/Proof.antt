@@ -2,32 +2,24 @@
 use native.Mathlib.Omega.{arith}
 use borrow.Author.Needs.{needs}
 use Rattle.sheet.proofs.Puts.{put-length}
-use Rattle.sheet.proofs.Refusals.{refusal-short, refusal-fits}
+use Rattle.sheet.proofs.RefusalLine.{refusal-short, refusal-fits}
 use Rattle.sheet.proofs.write_refusal.Statement.{statement}
 use Rattle.sheet.proofs.write_refusal.Tie as tie
 
-refusal-len-requires : tie.Need-refusal-len-requires
-refusal-len-requires c κs = search needs
-
 returns : tie.Need-returns
-returns c =
-    let a = c .before .before .before .args in
-    refusal-short (a .number) (a .place) (a .out .now) (omega (arith, c .before .refusal-len .ensures, c .if1 .taken))
+returns c = let x : tie.Start = search in refusal-short (x .args .number) (x .args .place) (x .args .out .now) (omega arith) (search)
 
 put-refusal-requires : tie.Need-put-refusal-requires
-put-refusal-requires c κs =
-    let s = c .before .before .before .before in
-    (omega arith, omega arith, record { fits = omega (arith, c .before .before .refusal-len .ensures, c .before .if1 .left) })
+put-refusal-requires c κs = (omega arith, omega arith, record { fits = omega arith })
 
 same-length : tie.Need-same-length
-same-length c = put-length (c .before .before .put-refusal .ensures)
+same-length c = let p : tie.After-put-refusal = search in put-length (p .put-refusal .ensures)
 
 returns-2 : tie.Need-returns-2
 returns-2 c =
-    let a = c .before .before .before .before .before .before .before .args in
-    refusal-fits (a .number) (a .place) (a .out .now) (c .before .before .put-refusal .result)
-    (omega (arith, c .before .before .before .before .before .refusal-len .ensures, c .before .before .before .before .if1 .left)) (c .before .before .put-refusal .ensures)
+    let p : tie.After-put-refusal = search in
+    let x : tie.Start = search in
+    refusal-fits (x .args .number) (x .args .place) (x .args .out .now) (omega arith) (p .put-refusal .ensures)
 
 pub write-refusal-spec : {M : Type 1} → statement M
-write-refusal-spec =
-    tie.close (tie.spec refusal-len-requires returns put-refusal-requires same-length returns-2)
+write-refusal-spec = tie.close (tie.spec (search needs) (search needs) returns put-refusal-requires same-length returns-2)

@@ -1,44 +1,32 @@
 -- `put_row` meets its contract: a line is put by putting its word, its fields and its LF.
-use mathlib.Core.Path.{_≡_, refl, sym, ap, _∙_}
-use mathlib.Core.List.{List, [], _∷_, _++_}
-use lib.ListN.{length, take, drop}
+use borrow.Author.Needs.{needs}
 use Rattle.text.specs.Sheet.{rowWord}
 use Rattle.sheet.proofs.Puts.{put-length}
 use Rattle.sheet.proofs.Pages.{word-room, fields-room, end-room, line-put}
 use Rattle.sheet.proofs.page.put_row.Statement.{statement}
 use Rattle.sheet.proofs.page.put_row.Tie as tie
 
--- the line is put
-whole : tie.Need-returns
-whole c =
-    line-put rowWord (take (c .before .before .before .before .before .before .before .before .before .before .before .before .before .before .before .args .n) (drop (c .before .before .before .before .before .before .before .before .before .before .before .before .before .before .before .args .from) (c .before .before .before .before .before .before .before .before .before .before .before .before .before .before .before .args .words .now))) (c .before .before .before .before .before .before .before .before .before .before .before .before .before .before .before .pre .1) (c .before .before .before .before .before .before .before .before .before .before .put-word .ensures) (c .before .before .before .before .before .before .put-words .ensures)
-    (c .before .before .put-end .ensures)
-
-slice-aggregate-put-word : tie.Need-slice-aggregate-put-word
-slice-aggregate-put-word c = refl
-
 put-word-requires : tie.Need-put-word-requires
-put-word-requires c κs = word-room rowWord (take (c .before .before .before .before .args .n) (drop (c .before .before .before .before .args .from) (c .before .before .before .before .args .words .now))) (c .before .before .before .before .pre .1)
+put-word-requires c κs = let x : tie.Start = search in word-room rowWord _ (x .pre)
 
 put-words-requires : tie.Need-put-words-requires
-put-words-requires c κs = (c .before .before .before .before .before .before .before .before .pre .0, fields-room rowWord (take (c .before .before .before .before .before .before .before .before .args .n) (drop (c .before .before .before .before .before .before .before .before .args .from) (c .before .before .before .before .before .before .before .before .args .words .now))) (c .before .before .before .before .before .before .before .before .pre .1) (c .before .before .before .put-word .ensures))
+put-words-requires c κs = let x : tie.Start = search in fields-room rowWord _ (x .pre) (search)
 
 put-end-requires : tie.Need-put-end-requires
-put-end-requires c κs = end-room rowWord (take (c .before .before .before .before .before .before .before .before .before .before .before .before .args .n) (drop (c .before .before .before .before .before .before .before .before .before .before .before .before .args .from) (c .before .before .before .before .before .before .before .before .before .before .before .before .args .words .now))) (c .before .before .before .before .before .before .before .before .before .before .before .before .pre .1) (c .before .before .before .before .before .before .before .put-word .ensures) (c .before .before .before .put-words .ensures)
-
-same-length : tie.Need-same-length
-same-length c = put-length (whole c)
+put-end-requires c κs =
+    let n : tie.After-put-words = search in
+    let w : tie.After-put-word = search in
+    let x : tie.Start = search in
+    end-room rowWord _ (x .pre) (w .put-word .ensures) (n .put-words .ensures)
 
 returns : tie.Need-returns
-returns c = whole c
+returns c =
+    let e : tie.After-put-end = search in
+    let n : tie.After-put-words = search in
+    let w : tie.After-put-word = search in
+    let x : tie.Start = search in
+    line-put rowWord _ (x .pre) (w .put-word .ensures) (n .put-words .ensures) (e .put-end .ensures)
 
 pub put-row-spec : {M : Type 1} → statement M
 put-row-spec =
-    tie.close
-    (tie.spec
-    slice-aggregate-put-word
-    put-word-requires
-    put-words-requires
-    put-end-requires
-    same-length
-    returns)
+    tie.close (tie.spec (search needs) put-word-requires put-words-requires put-end-requires (λ c. put-length (returns c)) returns)

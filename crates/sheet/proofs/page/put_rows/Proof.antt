@@ -1,14 +1,12 @@
 -- `put_rows` meets its contract. The loop's invariant: the rows left lead to all rows.
 use native.Mathlib.Omega.{arith}
-use mathlib.Core.Path.{_≡_, refl, sym, ap, _∙_}
-use mathlib.Core.List.{List, [], _∷_, _++_}
-use Prim.Native.Nat.{ℕ, suc, _+_, _-_, _*_, _<_, _≤_}
-use lib.ListN.{length, take, drop, getD}
-use Rattle.text.specs.Print.{line}
-use Rattle.text.specs.Sheet.{rowWord, rowsText}
+use mathlib.Core.Path.{_≡_}
+use Prim.Native.Nat.{ℕ, _+_, _-_, _*_, _<_, _≤_}
+use lib.ListN.{length, drop}
+use Rattle.text.specs.Sheet.{rowsText}
 use Rattle.sheet.proofs.RowsFrom.{room-left}
-use Rattle.sheet.proofs.Puts.{Leads, leads-start, leads-room, leads-step, leads-end, leads-same}
-use Rattle.sheet.proofs.Pages.{rows-next, no-rows}
+use Rattle.sheet.proofs.Puts.{Leads, leads-start}
+use Rattle.sheet.proofs.Pages.{next-row-room, next-row-put, all-rows-put}
 use borrow.Author.Needs.{needs}
 use Rattle.sheet.proofs.page.put_rows.Statement.{statement}
 use Rattle.sheet.proofs.page.put_rows.Tie as tie
@@ -19,61 +17,70 @@ Inv-loop out₀ at words count n p₀ from₀ i₀ out p from i =
     × Leads out₀ at (rowsText count n words) out p (rowsText (count - i) n (drop from words))
 
 abbrev μ-loop : tie.MeasureT-loop
-μ-loop out₀ at words count n p₀ from₀ i₀ out p from i =
-    count - i
+μ-loop out₀ at words count n p₀ from₀ i₀ out p from i = count - i
+
+abbrev Start : Type 0
+Start = tie.Start Inv-loop μ-loop
+
+abbrev Loop : Type 0
+Loop = tie.At-loop Inv-loop μ-loop
 
 loop-holds : tie.Need-loop-holds Inv-loop μ-loop
 loop-holds c =
-    let s = c .before .before in
-    let z : s .args .count - 0 ≡ s .args .count = omega arith in
-    (omega arith, rw z (omega (arith, s .pre .0)), rw z (leads-start (s .pre .1)))
+    let x : Start = search in
+    let z : x .args .count - 0 ≡ x .args .count = omega arith in
+    (omega arith, rw z (omega arith), rw z (leads-start (x .pre .1)))
+
+-- the words of the next row are there
+module _ (x : Start) (l : Loop) (h : l .loop .i < x .args .count) (room : l .loop .from + (x .args .count - l .loop .i) * x .args .n ≤ length (x .args .words .now)) where
+  inside : l .loop .from + x .args .n + (x .args .count - (l .loop .i + 1)) * x .args .n ≤ length (x .args .words .now)
+  inside = omega (arith, room-left (x .args .count) (x .args .n) (l .loop .i) h)
+
+add-put-row : tie.Need-add-put-row Inv-loop μ-loop
+add-put-row c =
+    let l : Loop = search in
+    let x : Start = search in
+    omega (arith, inside x l (omega arith) (search))
+
+part-end : tie.Need-part-put-row-end Inv-loop μ-loop
+part-end c =
+    let l : Loop = search in
+    let x : Start = search in
+    omega (arith, inside x l (omega arith) (search))
 
 put-row-requires : tie.Need-put-row-requires Inv-loop μ-loop
 put-row-requires c κs =
-    let l = c .before .before .loop in
-    let a = c .before .before .before .before .before .args in
-    let room = room-left (a .count) (a .n) (l .i) (c .before .loop-test .taken) in (
-      omega (arith, room, l .inv .1),
-      leads-room (line rowWord (take (a .n) (drop (l .from) (a .words .now)))) (rowsText (a .count - (l .i + 1)) (a .n) (drop (l .from + a .n) (a .words .now)))
-          (leads-same (rows-next (a .count) (a .n) (l .i) (l .from) (a .words .now) (c .before .loop-test .taken)) (l .inv .2)),
-    )
+    let l : Loop = search in
+    let x : Start = search in
+    let e : l .loop .from + x .args .n - l .loop .from ≡ x .args .n = omega arith in
+    rw e (next-row-room (x .args .count) (x .args .n) (l .loop .i) (l .loop .from) (x .args .words .now) (l .loop .inv .2) (omega arith))
 
 add-from : tie.Need-add-from Inv-loop μ-loop
 add-from c =
-    let w = c .before .before .before .before in
-    let l = w .before .loop in
-    let a = w .before .before .before .before .args in
-    omega (arith, room-left (a .count) (a .n) (l .i) (w .loop-test .taken), l .inv .1)
-
-add-i : tie.Need-add-i Inv-loop μ-loop
-add-i c = search needs
-
-loop-less : tie.Need-loop-less Inv-loop μ-loop
-loop-less c = search needs
+    let l : Loop = search in
+    let x : Start = search in
+    omega (arith, inside x l (omega arith) (search))
 
 loop-again : tie.Need-loop-again Inv-loop μ-loop
 loop-again c =
-    let w = c .before .before .before .before in
-    let l = w .before .loop in
-    let a = w .before .before .before .before .args in
-    let room = room-left (a .count) (a .n) (l .i) (w .loop-test .taken) in (
+    let r : tie.After-put-row Inv-loop μ-loop = search in
+    let l : Loop = search in
+    let x : Start = search in
+    let e : l .loop .from + x .args .n - l .loop .from ≡ x .args .n = omega arith in (
       omega arith,
-      omega (arith, room, l .inv .1),
-      leads-step (line rowWord (take (a .n) (drop (l .from) (a .words .now)))) (rowsText (a .count - (l .i + 1)) (a .n) (drop (l .from + a .n) (a .words .now)))
-          (leads-same (rows-next (a .count) (a .n) (l .i) (l .from) (a .words .now) (w .loop-test .taken)) (l .inv .2))
-          (c .before .before .put-row .ensures),
+      inside x l (omega arith) (search),
+      next-row-put (x .args .count) (x .args .n) (l .loop .i) (l .loop .from) (x .args .words .now) (l .loop .inv .2) (omega arith)
+          (rw e at (r .put-row .ensures)),
     )
 
 same-length : tie.Need-same-length Inv-loop μ-loop
-same-length c = c .before .loop .inv .2 .same
+same-length c = let l : Loop = search in l .loop .inv .2 .same
 
 returns : tie.Need-returns Inv-loop μ-loop
 returns c =
-    let l = c .before .loop in
-    let a = c .before .before .before .before .args in
-    let e : l .i ≡ a .count = omega arith in
-    let none : rowsText (a .count - l .i) (a .n) (drop (l .from) (a .words .now)) ≡ [] = rw e (no-rows (a .count) (a .n) (drop (l .from) (a .words .now))) in
-    leads-end (leads-same none (l .inv .2))
+    let l : Loop = search in
+    let x : Start = search in
+    all-rows-put (x .args .count) (x .args .n) (l .loop .i) (l .loop .from) (x .args .words .now) (l .loop .inv .2) (omega arith)
 
 pub put-rows-spec : {M : Type 1} → statement M
 put-rows-spec =
@@ -82,10 +89,15 @@ put-rows-spec =
     Inv-loop
     μ-loop
     loop-holds
+    add-put-row
+    (search needs)
+    (search needs)
+    (search needs)
+    part-end
     put-row-requires
     add-from
-    add-i
-    loop-less
+    (search needs)
+    (search needs)
     loop-again
     same-length
     returns)

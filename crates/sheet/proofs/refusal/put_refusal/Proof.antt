@@ -1,51 +1,18 @@
--- `put_refusal` meets its contract: the line is put by putting its word, the fields of its number and its place, and its LF.
-use mathlib.Core.Path.{refl}
+-- `put_refusal` meets its contract: it is a line of the word `refused` and two numbers.
+use Prim.Native.Nat.{ℕ}
+use borrow.Author.Needs.{needs}
 use Rattle.sheet.proofs.Puts.{put-length}
-use Rattle.sheet.proofs.Refusals.{word-room, number-room, place-room, last-room, refusal-put}
+use Rattle.sheet.proofs.RefusalLine.{two-printable, refusal-line}
 use Rattle.sheet.proofs.refusal.put_refusal.Statement.{statement}
 use Rattle.sheet.proofs.refusal.put_refusal.Tie as tie
 
--- the line is put
-whole : tie.Need-returns
-whole c =
-    let s = c .before .before .before .before .before .before .before .before .before .before .before .before .before .before .before .before .before .before in
-    refusal-put (s .args .number) (s .args .place) (s .pre .2) (c .before .before .before .before .before .before .before .before .before .before .before .before .before .before .put-word .ensures) (c .before .before .before .before .before .before .before .before .before .before .put-field .ensures) (c .before .before .before .before .before .before .put-field2 .ensures) (c .before .before .put-end .ensures)
-
-slice-aggregate-put-word : tie.Need-slice-aggregate-put-word
-slice-aggregate-put-word c = refl
-
-put-word-requires : tie.Need-put-word-requires
-put-word-requires c κs = let s = c .before .before .before in word-room (s .args .number) (s .args .place) (s .pre .2)
-
-put-field-requires : tie.Need-put-field-requires
-put-field-requires c κs =
-    let s = c .before .before .before .before .before .before .before in
-    (s .pre .0, number-room (s .args .number) (s .args .place) (s .pre .2) (c .before .before .before .put-word .ensures))
-
-put-field-requires-2 : tie.Need-put-field-requires-2
-put-field-requires-2 c κs =
-    let s = c .before .before .before .before .before .before .before .before .before .before .before in
-    (s .pre .1, place-room (s .args .number) (s .args .place) (s .pre .2) (c .before .before .before .before .before .before .before .put-word .ensures) (c .before .before .before .put-field .ensures))
-
-put-end-requires : tie.Need-put-end-requires
-put-end-requires c κs =
-    let s = c .before .before .before .before .before .before .before .before .before .before .before .before .before .before .before in
-    last-room (s .args .number) (s .args .place) (s .pre .2) (c .before .before .before .before .before .before .before .before .before .before .before .put-word .ensures) (c .before .before .before .before .before .before .before .put-field .ensures) (c .before .before .before .put-field2 .ensures)
-
-same-length : tie.Need-same-length
-same-length c = put-length (whole c)
+put-line-requires : tie.Need-put-line-requires
+put-line-requires c κs =
+    let x : tie.Start = search in
+    (two-printable (x .pre .0) (x .pre .1), rw refusal-line at (x .pre .2))
 
 returns : tie.Need-returns
-returns c = whole c
+returns c = let p : tie.After-put-line = search in rw refusal-line (p .put-line .ensures)
 
 pub put-refusal-spec : {M : Type 1} → statement M
-put-refusal-spec =
-    tie.close
-    (tie.spec
-    slice-aggregate-put-word
-    put-word-requires
-    put-field-requires
-    put-field-requires-2
-    put-end-requires
-    same-length
-    returns)
+put-refusal-spec = tie.close (tie.spec (search needs) (search needs) put-line-requires (λ c. put-length (returns c)) returns)

@@ -2,29 +2,18 @@
 use native.Mathlib.Omega.{arith}
 use borrow.Author.Needs.{needs}
 use Rattle.text.proofs.Length.{decimal-few}
-use Rattle.sheet.proofs.Refusals.{length-refusal}
+use Rattle.sheet.proofs.RefusalLine.{length-refusal}
 use Rattle.sheet.proofs.refusal.refusal_len.Statement.{statement}
 use Rattle.sheet.proofs.refusal.refusal_len.Tie as tie
 
-digits-of-requires : tie.Need-digits-of-requires
-digits-of-requires c κs = search needs
-
 add-result : tie.Need-add-result
-add-result c = omega (arith, c .digits-of .ensures, decimal-few (c .before .args .number))
-
-digits-of-requires-2 : tie.Need-digits-of-requires-2
-digits-of-requires-2 c κs = search needs
+add-result c = let x : tie.Start = search in omega (arith, decimal-few (x .args .number))
 
 add-result-2 : tie.Need-add-result-2
-add-result-2 c =
-    let a = c .before .before .args in
-    omega (arith, c .before .digits-of .ensures, c .digits-of2 .ensures, decimal-few (a .number), decimal-few (a .place))
+add-result-2 c = let x : tie.Start = search in omega (arith, decimal-few (x .args .number), decimal-few (x .args .place))
 
 returns : tie.Need-returns
-returns c =
-    let a = c .before .before .args in
-    omega (arith, c .before .digits-of .ensures, c .digits-of2 .ensures, length-refusal (a .number) (a .place))
+returns c = let x : tie.Start = search in omega (arith, length-refusal (x .args .number) (x .args .place))
 
 pub refusal-len-spec : {M : Type 1} → statement M
-refusal-len-spec =
-    tie.close (tie.spec digits-of-requires add-result digits-of-requires-2 add-result-2 returns)
+refusal-len-spec = tie.close (tie.spec (search needs) add-result (search needs) add-result-2 returns)
