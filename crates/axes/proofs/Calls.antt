@@ -27,7 +27,7 @@ use Rattle.axes.specs.declared.Answer.{Answer}
 use Rattle.axes.specs.declared.Planned.{Planned}
 use Rattle.axes.specs.Answers.{accepted, refused, refusedPlace}
 use Rattle.axes.specs.Promises.{ChainPromise, RequestPromise, PlanPromise}
-use Rattle.axes.proofs.Checks.{BlockAccepted, block-accepted, block-zero, block-few, by-four, by-last, ChainAccepted, chain-zero, is-order}
+use Rattle.axes.proofs.Accepted.{BlockAccepted, block-accepted, block-zero, block-few, by-four, by-last, ChainAccepted, chain-zero, is-order}
 
 -- a call that is refused and leaves the lent words as they were
 module _ (r : ℕ) {a : Answer} {number place : ℕ} (e : a ≡ refused r number place) (n : number ≡ 0 → ⊥) where

@@ -30,7 +30,7 @@ use Rattle.refusals.proofs.Scratch.{need-follow, cleared-past}
 use Rattle.axes.specs.declared.Answer.{Answer}
 use Rattle.axes.specs.declared.Planned.{Planned}
 use Rattle.axes.specs.Promises.{ChainPromise, RequestPromise, PlanPromise}
-use Rattle.axes.proofs.Checks.{BlockAccepted, ChainAccepted, accepts-chain, block-room, block-through, block-zero, chain-zero, next-accepted, joined-accepted, back-accepted, by-last}
+use Rattle.axes.proofs.Accepted.{BlockAccepted, ChainAccepted, accepts-chain, block-room, block-through, block-zero, chain-zero, next-accepted, joined-accepted, back-accepted, by-last}
 use Rattle.axes.proofs.Calls.{request-of-chain}
 use Rattle.axes.proofs.OneOutcome.{request-once}
 

@@ -1,5 +1,5 @@
 -- the checks of a block and of a chain as facts, and that an accepted block stays accepted after a chain
-pub mod Checks
+pub mod Accepted
 -- a swap of two neighbouring axes, over any number of axes, is a swap in the middle of four
 pub mod Grouped
 -- one swap of a chain, by the adjacent swap

@@ -17,7 +17,7 @@ use Rattle.axes.specs.declared.Answer.{Answer}
 use Rattle.axes.specs.declared.Planned.{Planned}
 use Rattle.axes.specs.Answers.{refused, refusedPlace, noPlan}
 use Rattle.axes.specs.Promises.{ChainPromise, RequestPromise, PlanPromise}
-use Rattle.axes.proofs.Checks.{request-order}
+use Rattle.axes.proofs.Accepted.{request-order}
 
 -- what is equal where a number is 0 and where it is not
 either-way : {A : Type 0} {x y : A} {n m : ℕ} → n ≡ m → (n ≡ 0 → m ≡ 0 → x ≡ y) → ((n ≡ 0 → ⊥) → (m ≡ 0 → ⊥) → x ≡ y) → x ≡ y

@@ -2,7 +2,7 @@
 -- made and scratch is cleared.
 use mathlib.Core.Path.{_≡_, refl, sym, ap, ap₂, _∙_, subst}
 use mathlib.Core.List.{List, [], _++_}
-use Prim.Native.Nat.{ℕ, _+_, _<_, _≤_}
+use Prim.Native.Nat.{ℕ, _+_, _<_}
 use native.Mathlib.Omega.{arith}
 use lib.ListN.{length, getD, take, drop, replicate}
 use lib.Seq.{take-length}
@@ -21,7 +21,7 @@ use Rattle.refusals.proofs.Scratch.{need-follow}
 use Rattle.passes.specs.Promises.{ClearPromise}
 use Rattle.axes.specs.Answers.{accepted}
 use Rattle.axes.specs.Promises.{ChainPromise}
-use Rattle.axes.proofs.Checks.{ChainAccepted, block-zero, block-room, block-after, chain-zero}
+use Rattle.axes.proofs.Accepted.{ChainAccepted, block-zero, block-room, block-after, chain-zero}
 use Rattle.axes.proofs.Steps.{laid-itself, one-more}
 
 -- after i swaps of a chain: the words, the lengths and the order number are those of the swaps made, and scratch past what the block needs is as it was

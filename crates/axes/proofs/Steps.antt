@@ -1,16 +1,16 @@
 -- One swap of a chain. Of a block that is accepted the two axes, the axes before them and the axes after them are a block that the adjacent swap
 -- accepts, and what it makes of it is the swap of the whole shape; scratch past what the block needs stays as it is. Then one swap more.
-use mathlib.Core.Path.{_≡_, refl, sym, ap, ap₂, _∙_, subst, subst₂}
+use mathlib.Core.Path.{_≡_, refl, sym, ap, _∙_, subst₂}
 use mathlib.Core.Bool.{false, _||_}
 use mathlib.Core.List.{List, [], _∷_, _++_}
 use mathlib.Core.Logic.{⊎-elim}
-use Prim.Native.Nat.{ℕ, zero, suc, _+_, _*_, _-_, _<_, _≤_, zero-le, suc-le-suc}
+use Prim.Native.Nat.{ℕ, zero, suc, _+_, _*_, _<_, _≤_, zero-le, suc-le-suc}
 use native.Mathlib.Nat.{not-suc-le-zero, le-of-suc-le-suc, eq-zero-or-pos, zero-mul, mul-zero, mul-one, mul-pos, mul-assoc, mul-comm}
 use native.Mathlib.Numerals.{add-one}
 use native.Mathlib.Omega.{arith}
 use lib.Dec.{eqb, ltb}
-use lib.ListN.{length, getD, take, drop, replicate, length-append, length-replicate, length-drop}
-use lib.Seq.{take-suc, drop-drop, drop-append-add, length-take-le}
+use lib.ListN.{length, getD, take, drop}
+use lib.Seq.{take-suc, length-take-le}
 use borrow.Author.Tests.{ltb-false, le-ltb, ne-eqb}
 use Rattle.lists.specs.Tab.{upto}
 use Rattle.layout.specs.Layout.{volume, pick, Laid}
@@ -31,7 +31,7 @@ use Rattle.checks.specs.Words.{capped}
 use Rattle.checks.proofs.Capped.{capped-few}
 use Rattle.passes.specs.Promises.{swapBlock, middle, swapChecks, SwapPromise}
 use Rattle.axes.proofs.Grouped.{grouped-volume, regrouped, one-swap-more}
-use Rattle.axes.proofs.Checks.{BlockAccepted, block-room}
+use Rattle.axes.proofs.Accepted.{BlockAccepted, block-room}
 
 -- a list with places k and k + 1, in parts
 cut : (k : ℕ) (l : List ℕ) → suc k < length l → take k l ++ (getD l k 0 ∷ getD l (suc k) 0 ∷ drop (suc (suc k)) l) ≡ l

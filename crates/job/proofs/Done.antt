@@ -18,7 +18,7 @@ use Rattle.orders.proofs.Numbers.{number-below}
 use Rattle.refusals.specs.Conditions.{badLength, longest}
 use Rattle.axes.specs.declared.Answer.{Answer}
 use Rattle.axes.specs.Promises.{ChainPromise}
-use Rattle.axes.proofs.Checks.{ChainAccepted, chain-zero, block-after, block-room}
+use Rattle.axes.proofs.Accepted.{ChainAccepted, chain-zero, block-after, block-room}
 use Rattle.text.specs.Sheet.{refusalText, resultText}
 use Rattle.text.specs.Meaning.{Outcome, meaning}
 use Rattle.text.proofs.Length.{decimal-few, result-fits}

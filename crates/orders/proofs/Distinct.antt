@@ -11,7 +11,7 @@ use lib.ListN.{length, getD, length-append, length-map}
 use Rattle.lists.specs.Tab.{upto}
 use Rattle.lists.proofs.Tab.{length-tab}
 use Rattle.orders.specs.Numbers.{arrangements, orders, orderCount, orderOf}
-use Rattle.orders.proofs.Counts.{equal, equal-one, count, count-append, count-upto-few}
+use Rattle.orders.proofs.Counts.{equal-one, count, count-append, count-upto-few}
 use Rattle.orders.proofs.Listed.{Taken, Begun, begun}
 use Rattle.orders.proofs.Listed.Taken.{here, past}
 

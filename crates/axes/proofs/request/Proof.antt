@@ -6,7 +6,7 @@ use borrow.Author.Needs.{needs}
 use Rattle.lists.proofs.Via.{via}
 use Rattle.refusals.specs.FirstOf.{firstOf}
 use Rattle.refusals.specs.Calls.{passesChecks, planChecks}
-use Rattle.axes.proofs.Checks.{BlockAccepted, block-accepted, by-four, by-last}
+use Rattle.axes.proofs.Accepted.{BlockAccepted, block-accepted, by-four, by-last}
 use Rattle.axes.proofs.Calls.{request-refused, plan-holds, plan-count, plan-accepted, request-met}
 use Rattle.axes.proofs.request.Statement.{statement}
 use Rattle.axes.proofs.request.Tie as tie

@@ -10,7 +10,7 @@ use Rattle.refusals.specs.FirstOf.{Check, check, firstOf}
 use Rattle.refusals.specs.Conditions.{longChain, noSwap, badSwap}
 use Rattle.refusals.specs.Calls.{passesChecks, chainChecks}
 use Rattle.refusals.proofs.Some.{found-place, no-place}
-use Rattle.axes.proofs.Checks.{by-four, by-last}
+use Rattle.axes.proofs.Accepted.{by-four, by-last}
 use Rattle.axes.proofs.chains.chain_number.Statement.{statement}
 use Rattle.axes.proofs.chains.chain_number.Tie as tie
 

@@ -7,7 +7,7 @@ use lib.ListN.{length, getD}
 use borrow.Author.Needs.{needs}
 use Rattle.orders.proofs.Numbers.{number-below}
 use Rattle.refusals.proofs.Scratch.{cleared-length}
-use Rattle.axes.proofs.Checks.{ChainAccepted, accepts-chain, good-swap, block-room}
+use Rattle.axes.proofs.Accepted.{ChainAccepted, accepts-chain, good-swap, block-room}
 use Rattle.axes.proofs.Progress.{Progress, begin, still-accepted, one-swap, finished}
 use Rattle.axes.proofs.chains.run.Statement.{statement}
 use Rattle.axes.proofs.chains.run.Tie as tie
@@ -56,9 +56,8 @@ loop-again c =
     let n : tie.After-swapped Inv-loop μ-loop = search in
     let s : tie.After-swap-at Inv-loop μ-loop = search in
     let l : Loop = search in
-    let x : Start = search in
     let made = s .swap-at .ensures in
-    (refl, omega arith, one-swap _ (axes x) _ _ _ (l .loop .inv .2) (omega arith) (made .0) (made .1 .0) (made .1 .1) (n .swapped .ensures) (c .next-order .ensures))
+    (refl, omega arith, one-swap _ (axes (search)) _ _ _ (l .loop .inv .2) (omega arith) (made .0) (made .1 .0) (made .1 .1) (n .swapped .ensures) (c .next-order .ensures))
 
 same-length : tie.Need-same-length Inv-loop μ-loop
 same-length c = let l : Loop = search in l .loop .inv .2 .words .same

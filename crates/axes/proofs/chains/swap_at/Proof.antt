@@ -7,7 +7,7 @@ use lib.ListN.{length, drop, length-drop}
 use lib.Seq.{take-all, length-take-le}
 use Rattle.layout.specs.Layout.{volume}
 use Rattle.checks.specs.Words.{capped}
-use Rattle.axes.proofs.Checks.{BlockAccepted, block-accepted}
+use Rattle.axes.proofs.Accepted.{BlockAccepted, block-accepted}
 use Rattle.axes.proofs.Steps.{swap-leaves}
 use borrow.Author.Needs.{needs}
 use Rattle.axes.proofs.chains.swap_at.Statement.{statement}

@@ -12,14 +12,14 @@ use Rattle.orders.specs.Chains.{exchange, follow}
 use Rattle.orders.specs.Numbers.{orderCount}
 use Rattle.orders.proofs.Chains.{volume-follow}
 use Rattle.orders.proofs.Distinct.{count-pos}
-use Rattle.refusals.specs.FirstOf.{Check, firstOf}
+use Rattle.refusals.specs.FirstOf.{Check, check, firstOf}
 use Rattle.refusals.specs.Conditions.{some, outOfRange, badLength, tooManyWords, shortBuffer, shortScratch, longChain, noSwap, badSwap, noOrder}
 use Rattle.refusals.specs.Scratch.{need}
 use Rattle.refusals.specs.Calls.{passesChecks, chainChecks, requestChecks}
-use Rattle.refusals.proofs.FirstOf.{Silent, silent-zero, refused-first, accepted-so-far}
+use Rattle.refusals.proofs.FirstOf.{Silent, refused-first, accepted-so-far}
 use Rattle.refusals.proofs.FirstOf.Silent.{none, more}
 use Rattle.refusals.proofs.Calls.{passes-accepted, chain-accepted, request-accepted}
-use Rattle.refusals.proofs.Some.{none-at}
+use Rattle.refusals.proofs.Some.{either-false, none-at}
 use Rattle.refusals.proofs.Scratch.{need-follow}
 
 either-swap : (a b c : Bool) → (a || (b || c)) ≡ (b || (a || c))
@@ -61,11 +61,8 @@ block-accepted ds xs ss e = go (passes-accepted ds xs ss .0 e)
     go (more a (more b (more c (more d none)))) = record { lengths = a; words = b; buffer = c; scratch = d }
 
 module _ {ds xs ss : List ℕ} (b : BlockAccepted ds xs ss) where
-  pub block-silent : Silent (passesChecks ds xs ss)
-  block-silent = more (b .lengths) (more (b .words) (more (b .buffer) (more (b .scratch) none)))
-
   pub block-zero : firstOf (passesChecks ds xs ss) ≡ 0
-  block-zero = silent-zero block-silent
+  block-zero = passes-accepted ds xs ss .1 (more (b .lengths) (more (b .words) (more (b .buffer) (more (b .scratch) none))))
 
   pub block-room : need ds ≤ length ss
   block-room = ltb-false (length ss) (need ds) (b .scratch)
@@ -117,9 +114,7 @@ accepts-chain r ds xs ss chain e = go (chain-accepted r ds xs ss chain .0 e)
 
 pub chain-zero : {r : ℕ} {ds xs ss chain : List ℕ} → ChainAccepted r ds xs ss chain → firstOf (chainChecks r ds xs ss chain) ≡ 0
 chain-zero {r} {ds} {xs} {ss} {chain} p =
-    let last : Silent (chainChecks r ds xs ss chain) =
-    more (p .block .lengths) (more (p .block .words) (more (p .block .buffer) (more (p .block .scratch) (more (p .short) (more (p .swaps) none))))) in
-    silent-zero last
+    by-last ds xs ss (check 5 (longChain chain) ∷ check 6 (badSwap r chain) ∷ []) (sym (block-zero (p .block))) refl ∙ rw (p .short, p .swaps)
 
 -- no swap of an accepted chain is above the last
 pub good-swap : (r : ℕ) (c : List ℕ) → badSwap r c ≡ false → (k : ℕ) → k < length c → getD c k 0 ≤ r - 2
@@ -128,19 +123,13 @@ good-swap r c e k h = ltb-false (r - 2) (getD c k 0) (none-at (noSwap r) c e k h
 -- what is accepted of one chain and of another is accepted of both, and of a chain run backwards what is accepted of it
 some-append : (f : ℕ → Bool) (s t : List ℕ) → some f s ≡ false → some f (s ++ t) ≡ some f t
 some-append f [] t e = refl
-some-append f (x ∷ s) t e = go (f x) e (some-append f s t)
-  where
-    go : (b : Bool) → (b || some f s) ≡ false → (some f s ≡ false → some f (s ++ t) ≡ some f t) → (b || some f (s ++ t)) ≡ some f t
-    go true e ih = absurd (let z : _≡_ {A = ℕ} 0 1 = cc in omega arith)
-    go false e ih = ih e
+some-append f (x ∷ s) t e = let p = either-false (f x) (some f s) e in rw (p .0) (some-append f s t (p .1))
 
 some-reverse : (f : ℕ → Bool) (c : List ℕ) → some f c ≡ false → some f (reverse c) ≡ false
 some-reverse f [] e = refl
-some-reverse f (x ∷ c) e = go (f x) refl e (some-reverse f c)
-  where
-    go : (b : Bool) → f x ≡ b → (b || some f c) ≡ false → (some f c ≡ false → some f (reverse c) ≡ false) → some f (reverse (x ∷ c)) ≡ false
-    go true q e ih = absurd (let z : _≡_ {A = ℕ} 0 1 = cc in omega arith)
-    go false q e ih = ap (some f) (reverse-cons x c) ∙ some-append f (reverse c) (x ∷ []) (ih e) ∙ rw q
+some-reverse f (x ∷ c) e =
+    let p = either-false (f x) (some f c) e in
+    ap (some f) (reverse-cons x c) ∙ some-append f (reverse c) (x ∷ []) (some-reverse f c (p .1)) ∙ rw (p .0)
 
 -- chains after a chain that was accepted, each through scratch that is enough
 module _ {r : ℕ} {ds xs ss s : List ℕ} (p : ChainAccepted r ds xs ss s) where
