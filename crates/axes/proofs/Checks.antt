@@ -1,21 +1,26 @@
--- The checks of a block and of a chain, as facts: accepted means that none of the six conditions holds. No swap changes what the first
--- four test, since it changes neither the lengths, but for their places, nor how many words are lent.
-use mathlib.Core.Path.{_≡_, refl, ap, _∙_}
+-- The checks of a block and of a chain, as facts: accepted means that none of the conditions holds. A block that was accepted is accepted
+-- after any chain of swaps, through any scratch that is enough: a swap changes neither the lengths, but for their places, nor how many words are lent.
+use mathlib.Core.Path.{_≡_, refl, sym, ap, ap₂, _∙_}
 use mathlib.Core.Bool.{Bool, true, false, cond, _||_}
 use mathlib.Core.List.{List, [], _∷_, _++_, reverse, reverse-cons}
-use Prim.Native.Nat.{ℕ, zero, suc, _+_, _<_, _≤_, max, zero-le, suc-le-suc}
+use Prim.Native.Nat.{ℕ, zero, suc, _-_, _<_, _≤_}
 use native.Mathlib.Omega.{arith}
 use lib.Dec.{ltb}
-use lib.ListN.{length, length-append}
+use lib.ListN.{length, getD, length-reverse}
 use borrow.Author.Tests.{ltb-false, le-ltb}
 use Rattle.orders.specs.Chains.{exchange, follow}
+use Rattle.orders.specs.Numbers.{orderCount}
 use Rattle.orders.proofs.Chains.{volume-follow}
+use Rattle.orders.proofs.Distinct.{count-pos}
 use Rattle.refusals.specs.FirstOf.{Check, firstOf}
-use Rattle.refusals.specs.Conditions.{some, outOfRange, badLength, tooManyWords, shortBuffer, shortScratch, longest, longChain, noSwap, badSwap}
+use Rattle.refusals.specs.Conditions.{some, outOfRange, badLength, tooManyWords, shortBuffer, shortScratch, longChain, noSwap, badSwap, noOrder}
 use Rattle.refusals.specs.Scratch.{need}
 use Rattle.refusals.specs.Calls.{passesChecks, chainChecks, requestChecks}
-use Rattle.refusals.proofs.FirstOf.{Refusing, Silent, zero-silent, silent-zero}
+use Rattle.refusals.proofs.FirstOf.{Silent, silent-zero, refused-first, accepted-so-far}
 use Rattle.refusals.proofs.FirstOf.Silent.{none, more}
+use Rattle.refusals.proofs.Calls.{passes-accepted, chain-accepted, request-accepted}
+use Rattle.refusals.proofs.Some.{none-at}
+use Rattle.refusals.proofs.Scratch.{need-follow}
 
 either-swap : (a b c : Bool) → (a || (b || c)) ≡ (b || (a || c))
 either-swap true true c = refl
@@ -34,59 +39,54 @@ unfolding follow
 some-follow f l [] = refl
 some-follow f l (k ∷ c) = some-follow f (exchange k l) c ∙ some-exchange f k l
 
-longest-exchange : (k : ℕ) (l : List ℕ) → longest (exchange k l) ≡ longest l
-unfolding exchange longest
-longest-exchange k [] = refl
-longest-exchange zero (a ∷ []) = refl
-longest-exchange zero (a ∷ b ∷ l) = omega arith
-longest-exchange (suc k) (a ∷ l) = ap (max a) (longest-exchange k l)
+-- more checks after the four of a block: refused by one of the four, or decided by the last
+module _ (ds xs ss : List ℕ) (last : List Check) {n : ℕ} (e : n ≡ firstOf (passesChecks ds xs ss)) where
+  pub by-four : (n ≡ 0 → ⊥) → n ≡ firstOf (passesChecks ds xs ss ++ last)
+  by-four k = e ∙ sym (refused-first (passesChecks ds xs ss) last (λ z. k (e ∙ z)))
 
-pub longest-follow : (l c : List ℕ) → longest (follow l c) ≡ longest l
-unfolding follow
-longest-follow l [] = refl
-longest-follow l (k ∷ c) = longest-follow (exchange k l) c ∙ longest-exchange k l
-
--- the checks of a block stay as they are while a chain is followed
-pub same-checks : (ds c xs ys ss ts : List ℕ) → length ys ≡ length xs → length ts ≡ length ss
-    → firstOf (passesChecks (follow ds c) ys ts) ≡ firstOf (passesChecks ds xs ss)
-same-checks ds c xs ys ss ts e d = rw (some-follow outOfRange ds c, volume-follow ds c, longest-follow ds c, e, d)
-
--- more checks after a list of checks
-pub refused-first : (cs ds : List Check) → (firstOf cs ≡ 0 → ⊥) → firstOf (cs ++ ds) ≡ firstOf cs
-refused-first [] ds n = absurd (n refl)
-refused-first (c ∷ cs) ds n = go (c .holds) n (refused-first cs ds)
-  where
-    go : (t : Bool) → (cond t (c .number) (firstOf cs) ≡ 0 → ⊥) → ((firstOf cs ≡ 0 → ⊥) → firstOf (cs ++ ds) ≡ firstOf cs)
-        → cond t (c .number) (firstOf (cs ++ ds)) ≡ cond t (c .number) (firstOf cs)
-    go true n ih = refl
-    go false n ih = ih n
-
-pub accepted-so-far : {cs : List Check} (ds : List Check) → Silent cs → firstOf (cs ++ ds) ≡ firstOf ds
-accepted-so-far ds none = refl
-accepted-so-far ds (more {c} {cs} h s) = rw h (accepted-so-far ds s)
+  pub by-last : n ≡ 0 → firstOf (passesChecks ds xs ss ++ last) ≡ firstOf last
+  by-last z = accepted-so-far last (passes-accepted ds xs ss .0 (sym e ∙ z))
 
 -- none of the four conditions of a block holds
-pub record Sound (ds xs ss : List ℕ) : Type 0 where
+pub record BlockAccepted (ds xs ss : List ℕ) : Type 0 where
   pub lengths : badLength ds ≡ false
   pub words : tooManyWords ds ≡ false
   pub buffer : shortBuffer ds xs ≡ false
   pub scratch : shortScratch (need ds) ss ≡ false
 
-positive : {k : ℕ} → 0 < suc k
-positive = suc-le-suc zero-le
-
-pub sound : (ds xs ss : List ℕ) → firstOf (passesChecks ds xs ss) ≡ 0 → Sound ds xs ss
-sound ds xs ss e =
-    go (zero-silent (Refusing.more positive (Refusing.more positive (Refusing.more positive (Refusing.more positive Refusing.none)))) e)
+pub block-accepted : (ds xs ss : List ℕ) → firstOf (passesChecks ds xs ss) ≡ 0 → BlockAccepted ds xs ss
+block-accepted ds xs ss e = go (passes-accepted ds xs ss .0 e)
   where
-    go : Silent (passesChecks ds xs ss) → Sound ds xs ss
+    go : Silent (passesChecks ds xs ss) → BlockAccepted ds xs ss
     go (more a (more b (more c (more d none)))) = record { lengths = a; words = b; buffer = c; scratch = d }
 
-pub silent-block : {ds xs ss : List ℕ} → Sound ds xs ss → Silent (passesChecks ds xs ss)
-silent-block s = more (s .lengths) (more (s .words) (more (s .buffer) (more (s .scratch) none)))
+module _ {ds xs ss : List ℕ} (b : BlockAccepted ds xs ss) where
+  pub block-silent : Silent (passesChecks ds xs ss)
+  block-silent = more (b .lengths) (more (b .words) (more (b .buffer) (more (b .scratch) none)))
 
-pub sound-zero : {ds xs ss : List ℕ} → Sound ds xs ss → firstOf (passesChecks ds xs ss) ≡ 0
-sound-zero s = silent-zero (silent-block s)
+  pub block-zero : firstOf (passesChecks ds xs ss) ≡ 0
+  block-zero = silent-zero block-silent
+
+  pub block-room : need ds ≤ length ss
+  block-room = ltb-false (length ss) (need ds) (b .scratch)
+
+  -- through other scratch that is enough
+  pub block-through : {ts : List ℕ} → need ds ≤ length ts → BlockAccepted ds xs ts
+  block-through {ts} h = record {
+    lengths = b .lengths;
+    words = b .words;
+    buffer = b .buffer;
+    scratch = le-ltb (length ts) (need ds) h;
+  }
+
+  -- after a chain, in a buffer as long as it was and through scratch that is enough
+  pub block-after : (c : List ℕ) {ys ts : List ℕ} → length ys ≡ length xs → need ds ≤ length ts → BlockAccepted (follow ds c) ys ts
+  block-after c {ys} {ts} e h = record {
+    lengths = some-follow outOfRange ds c ∙ b .lengths;
+    words = ap (ltb 1048576) (volume-follow ds c) ∙ b .words;
+    buffer = ap₂ ltb e (volume-follow ds c) ∙ b .buffer;
+    scratch = le-ltb (length ts) (need (follow ds c)) (omega (arith, need-follow ds c));
+  }
 
 -- the numbers of a block's checks
 pub block-few : (ds xs ss : List ℕ) → firstOf (passesChecks ds xs ss) ≤ 4
@@ -100,35 +100,32 @@ block-few ds xs ss = go (badLength ds) (tooManyWords ds) (shortBuffer ds xs) (sh
     go false false false false = omega arith
 
 -- none of the six conditions of a chain holds
-pub record Runs (ds xs ss chain : List ℕ) : Type 0 where
-  pub block : Sound ds xs ss
+pub record ChainAccepted (r : ℕ) (ds xs ss chain : List ℕ) : Type 0 where
+  pub block : BlockAccepted ds xs ss
   pub short : longChain chain ≡ false
-  pub swaps : badSwap 4 chain ≡ false
+  pub swaps : badSwap r chain ≡ false
 
-pub runs : (ds xs ss chain : List ℕ) → firstOf (chainChecks 4 ds xs ss chain) ≡ 0 → Runs ds xs ss chain
-runs ds xs ss chain e =
-    go
-    (zero-silent
-    (Refusing.more positive
-    (Refusing.more positive
-    (Refusing.more positive (Refusing.more positive (Refusing.more positive (Refusing.more positive Refusing.none))))))
-    e)
+pub accepts-chain : (r : ℕ) (ds xs ss chain : List ℕ) → firstOf (chainChecks r ds xs ss chain) ≡ 0 → ChainAccepted r ds xs ss chain
+accepts-chain r ds xs ss chain e = go (chain-accepted r ds xs ss chain .0 e)
   where
-    go : Silent (chainChecks 4 ds xs ss chain) → Runs ds xs ss chain
+    go : Silent (chainChecks r ds xs ss chain) → ChainAccepted r ds xs ss chain
     go (more a (more b (more c (more d (more f (more g none)))))) = record {
       block = record { lengths = a; words = b; buffer = c; scratch = d };
       short = f;
       swaps = g;
     }
 
-pub runs-zero : {ds xs ss chain : List ℕ} → Runs ds xs ss chain → firstOf (chainChecks 4 ds xs ss chain) ≡ 0
-runs-zero {ds} {xs} {ss} {chain} r =
-    let b = r .block in
-    let silent : Silent (chainChecks 4 ds xs ss chain) =
-    more (b .lengths) (more (b .words) (more (b .buffer) (more (b .scratch) (more (r .short) (more (r .swaps) none))))) in
-    silent-zero silent
+pub chain-zero : {r : ℕ} {ds xs ss chain : List ℕ} → ChainAccepted r ds xs ss chain → firstOf (chainChecks r ds xs ss chain) ≡ 0
+chain-zero {r} {ds} {xs} {ss} {chain} p =
+    let last : Silent (chainChecks r ds xs ss chain) =
+    more (p .block .lengths) (more (p .block .words) (more (p .block .buffer) (more (p .block .scratch) (more (p .short) (more (p .swaps) none))))) in
+    silent-zero last
 
--- what is accepted of one chain and of another is accepted of both, and a chain run backwards is accepted where the chain is
+-- no swap of an accepted chain is above the last
+pub good-swap : (r : ℕ) (c : List ℕ) → badSwap r c ≡ false → (k : ℕ) → k < length c → getD c k 0 ≤ r - 2
+good-swap r c e k h = ltb-false (r - 2) (getD c k 0) (none-at (noSwap r) c e k h)
+
+-- what is accepted of one chain and of another is accepted of both, and of a chain run backwards what is accepted of it
 some-append : (f : ℕ → Bool) (s t : List ℕ) → some f s ≡ false → some f (s ++ t) ≡ some f t
 some-append f [] t e = refl
 some-append f (x ∷ s) t e = go (f x) e (some-append f s t)
@@ -145,39 +142,34 @@ some-reverse f (x ∷ c) e = go (f x) refl e (some-reverse f c)
     go true q e ih = absurd (let z : _≡_ {A = ℕ} 0 1 = cc in omega arith)
     go false q e ih = ap (some f) (reverse-cons x c) ∙ some-append f (reverse c) (x ∷ []) (ih e) ∙ rw q
 
-length-backwards : (c : List ℕ) → length (reverse c) ≡ length c
-length-backwards [] = refl
-length-backwards (x ∷ c) =
-    ap length (reverse-cons x c) ∙ length-append (reverse c) (x ∷ []) ∙ omega (arith, length-backwards c)
+-- chains after a chain that was accepted, each through scratch that is enough
+module _ {r : ℕ} {ds xs ss s : List ℕ} (p : ChainAccepted r ds xs ss s) where
+  pub next-accepted : (t : List ℕ) {ys ts : List ℕ} → badSwap r t ≡ false → length t ≤ 32 → length ys ≡ length xs → need ds ≤ length ts
+      → ChainAccepted r (follow ds s) ys ts t
+  next-accepted t good few e h = record { block = block-after (p .block) s e h; short = le-ltb 32 (length t) few; swaps = good }
 
--- a block after a chain that was accepted
-module _ {ds xs ss s : List ℕ} (p : Runs ds xs ss s) where
-  pub runs-after : (ys ts : List ℕ) → length ys ≡ length xs → length ts ≡ length ss → Sound (follow ds s) ys ts
-  runs-after ys ts e d = sound (follow ds s) ys ts (same-checks ds s xs ys ss ts e d ∙ sound-zero (p .block))
-
-  pub runs-joined : {es ys ts t : List ℕ} → Runs es ys ts t → length (s ++ t) ≤ 32 → Runs ds xs ss (s ++ t)
-  runs-joined {t = t} q h = record {
-    block = p .block;
-    short = le-ltb 32 (length (s ++ t)) h;
-    swaps = some-append (noSwap 4) s t (p .swaps) ∙ q .swaps;
+  pub joined-accepted : (t : List ℕ) {ts : List ℕ} → badSwap r t ≡ false → length (s ++ t) ≤ 32 → need ds ≤ length ts → ChainAccepted r ds xs ts (s ++ t)
+  joined-accepted t good few h = record {
+    block = block-through (p .block) h;
+    short = le-ltb 32 (length (s ++ t)) few;
+    swaps = some-append (noSwap r) s t (p .swaps) ∙ good;
   }
 
-  pub runs-back : (ys ts : List ℕ) → length ys ≡ length xs → length ts ≡ length ss → Runs (follow ds s) ys ts (reverse s)
-  runs-back ys ts e d = record {
-    block = runs-after ys ts e d;
-    short = ap (ltb 32) (length-backwards s) ∙ p .short;
-    swaps = some-reverse (noSwap 4) s (p .swaps);
-  }
+  pub back-accepted : {ys ts : List ℕ} → length ys ≡ length xs → need ds ≤ length ts → ChainAccepted r (follow ds s) ys ts (reverse s)
+  back-accepted e h =
+      next-accepted (reverse s)
+      (some-reverse (noSwap r) s (p .swaps))
+      (omega (arith, length-reverse s, ltb-false 32 (length s) (p .short)))
+      e
+      h
 
--- a request that is accepted asks for one of the 24 orders
-pub request-order : (ds xs ss : List ℕ) (order : ℕ) → firstOf (requestChecks 4 ds xs ss order) ≡ 0 → order < 24
-request-order ds xs ss order e =
-    go
-    (zero-silent
-    (Refusing.more positive
-    (Refusing.more positive
-    (Refusing.more positive (Refusing.more positive (Refusing.more positive (Refusing.more positive Refusing.none))))))
-    e)
+-- an order number that is not refused is one of the orders'
+pub is-order : (r order : ℕ) → noOrder r order ≡ false → order < orderCount r
+is-order r order e = omega (arith, ltb-false (orderCount r - 1) order e, count-pos r)
+
+-- a request that is accepted asks for one of the orders
+pub request-order : (r : ℕ) (ds xs ss : List ℕ) (order : ℕ) → firstOf (requestChecks r ds xs ss order) ≡ 0 → order < orderCount r
+request-order r ds xs ss order e = go (request-accepted r ds xs ss order .0 e)
   where
-    go : Silent (requestChecks 4 ds xs ss order) → order < 24
-    go (more a (more b (more c (more d (more f g))))) = let k : order ≤ 23 = ltb-false 23 order f in omega arith
+    go : Silent (requestChecks r ds xs ss order) → order < orderCount r
+    go (more a (more b (more c (more d (more f g))))) = is-order r order f

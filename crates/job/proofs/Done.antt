@@ -14,11 +14,11 @@ use Rattle.orders.specs.Chains.{named}
 use Rattle.orders.specs.Numbers.{numberOf}
 use Rattle.orders.proofs.Chains.{pick-named, length-named}
 use Rattle.orders.proofs.Layouts.{chain-volume, chain-once, chain-laid}
-use Rattle.orders.proofs.FourAxes.{number-below-4}
+use Rattle.orders.proofs.Numbers.{number-below}
 use Rattle.refusals.specs.Conditions.{badLength, longest}
 use Rattle.axes.specs.declared.Answer.{Answer}
 use Rattle.axes.specs.Promises.{ChainPromise}
-use Rattle.axes.proofs.Checks.{Runs, runs-zero, runs-after}
+use Rattle.axes.proofs.Checks.{ChainAccepted, chain-zero, block-after, block-room}
 use Rattle.text.specs.Sheet.{refusalText, resultText}
 use Rattle.text.specs.Meaning.{Outcome, meaning}
 use Rattle.text.proofs.Length.{fields-few, result-fits}
@@ -55,7 +55,7 @@ met-refused {out = out} {r = r} long t p =
 -- a right sheet, its chain run and its result sheet written
 module _ {bytes words scratch out : List ℕ} {r : Sheet} {words₁ ws : List ℕ} {a : Answer} {words₂ scratch₂ : List ℕ} {w : Written} {out′ : List ℕ}
     (block : length words ≡ 1024) (room : length scratch ≡ 1024) (long : length out ≡ 16384)
-    (t : Taken words bytes r words₁ ws) (p : ChainPromise (r .lens) (swapsOf r) words₁ scratch a words₂ scratch₂)
+    (t : Taken words bytes r words₁ ws) (p : ChainPromise 4 (r .lens) (swapsOf r) words₁ scratch a words₂ scratch₂)
     (q : WrittenAs (a .lens) (a .order) words₂ out w out′) where
   abbrev ds : List ℕ
   ds = r .lens
@@ -69,7 +69,7 @@ module _ {bytes words scratch out : List ℕ} {r : Sheet} {words₁ ws : List �
       ∙ length-append ws (drop (length ws) words)
       ∙ omega (arith, length-drop (length ws) words, t .right .block, t .right .room)
 
-  runs : Runs ds words₁ scratch (swapsOf r)
+  runs : ChainAccepted 4 ds words₁ scratch (swapsOf r)
   runs = record {
     block = record {
       lengths = t .right .lengths;
@@ -83,7 +83,7 @@ module _ {bytes words scratch out : List ℕ} {r : Sheet} {words₁ ws : List �
 
   -- the chain is never refused
   pub chain-runs : a .number ≡ 0
-  chain-runs = p .block .number-is ∙ runs-zero runs
+  chain-runs = p .block .number-is ∙ chain-zero runs
 
   laid-out : Laid ds order words₁ words₂
   laid-out = p .block .words chain-runs
@@ -99,7 +99,7 @@ module _ {bytes words scratch out : List ℕ} {r : Sheet} {words₁ ws : List �
 
   good-lengths : badLength (pick order ds) ≡ false
   good-lengths =
-      ap badLength (pick-named ds (swapsOf r) (t .right .axes)) ∙ runs-after runs words₂ scratch (laid-out .same) refl .lengths
+      ap badLength (pick-named ds (swapsOf r) (t .right .axes)) ∙ block-after (runs .block) (swapsOf r) {ys = words₂} {ts = scratch} (laid-out .same) (block-room (runs .block)) .lengths
 
   few : volume (pick order ds) ≤ 1024
   few = omega (arith, chain-volume ds (t .right .axes) (swapsOf r), t .right .few-words)
@@ -114,7 +114,7 @@ module _ {bytes words scratch out : List ℕ} {r : Sheet} {words₁ ws : List �
   writes : writerNumber (pick order ds) (numberOf 4 order) words₂ out ≡ 0
   writes =
       number-0 {words = words₂} (record { lengths = good-lengths; few = few; enough = omega (arith, few, same, laid-out .same) }) (numberOf 4 order) out
-      (omega (arith, number-below-4 (swapsOf r))) (omega (arith, text-fits))
+      (omega (arith, number-below 4 (swapsOf r))) (omega (arith, text-fits))
 
   promised : WrittenAs (pick order ds) (numberOf 4 order) words₂ out w out′
   promised = rw (new-lengths, new-order) at q

@@ -56,8 +56,8 @@ pub(crate) fn swap_number(
     if buf.len() < words {
         return 3;
     }
-    let lens = [m, n];
-    if scratch.len() < checks::longest_of(&lens) {
+    let sides = [m, n];
+    if scratch.len() < checks::longest_of(&sides) {
         return 4;
     }
     0
