@@ -3,7 +3,7 @@
 -- computed layout, since two layouts of one order are equal.
 use mathlib.Core.Path.{_≡_, refl, sym, ap, _∙_}
 use mathlib.Core.Bool.{false}
-use mathlib.Core.List.{List, _++_}
+use mathlib.Core.List.{List, [], _∷_, _++_}
 use Prim.Native.Nat.{ℕ, _≤_}
 use native.Mathlib.Omega.{arith}
 use lib.ListN.{length, drop, length-append, length-drop}
@@ -21,7 +21,7 @@ use Rattle.axes.specs.Promises.{ChainPromise}
 use Rattle.axes.proofs.Accepted.{ChainAccepted, chain-zero, block-after, block-room}
 use Rattle.text.specs.Sheet.{refusalText, resultText}
 use Rattle.text.specs.Meaning.{Outcome, meaning}
-use Rattle.text.proofs.Length.{decimal-few, result-fits}
+use Rattle.text.proofs.Length.{fields-few, result-fits}
 use Rattle.sheet.specs.declared.Sheet.{Sheet}
 use Rattle.sheet.specs.declared.Written.{Written}
 use Rattle.sheet.specs.Writer.{writerNumber, WrittenAs}
@@ -35,7 +35,7 @@ use Rattle.job.proofs.Sizes.{longest-le-volume}
 
 -- the line of a refusal has at most thirty bytes
 short-line : (number place : ℕ) → length (refusalText number place) ≤ 16384
-short-line number place = omega (arith, length-refusal number place, decimal-few number, decimal-few place)
+short-line number place = omega (arith, length-refusal number place, fields-few (number ∷ place ∷ []))
 
 -- a sheet that was refused, and its line written
 pub met-refused : {bytes words scratch out : List ℕ} {r : Sheet} {words′ : List ℕ} {w : Written} {out′ : List ℕ} → length out ≡ 16384

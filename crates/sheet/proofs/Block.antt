@@ -2,7 +2,7 @@
 -- count of words that was cut.
 use mathlib.Core.Path.{_≡_, refl, sym, ap, _∙_}
 use mathlib.Core.Bool.{Bool, true, false}
-use mathlib.Core.List.{List, [], _∷_}
+use mathlib.Core.List.{List, [], _∷_, _++_, append-nil}
 use mathlib.Core.Logic.{⊎-elim}
 use Prim.Native.Nat.{ℕ, _*_, _-_, _<_, _≤_}
 use native.Mathlib.Omega.{arith}
@@ -87,3 +87,19 @@ first-three ds four = sym (length-take-le 3 ds (omega arith))
 
 pub rows-fit : {ds words : List ℕ} {count n : ℕ} → Counts ds words → count ≡ rowCount ds → n ≡ rowWidth ds → count * n ≤ length words
 rows-fit k e w = rw (e, w) (k .enough)
+
+-- the first four of the numbers that are followed by others
+abbrev pub firstFour : List ℕ → List ℕ
+firstFour vs = getD vs 0 0 ∷ getD vs 1 0 ∷ getD vs 2 0 ∷ getD vs 3 0 ∷ []
+
+pub first-four : (us others : List ℕ) → length us ≡ 4 → firstFour (us ++ others) ≡ us
+first-four [] others e = absurd (omega arith)
+first-four (a ∷ []) others e = absurd (omega arith)
+first-four (a ∷ b ∷ []) others e = absurd (omega arith)
+first-four (a ∷ b ∷ c ∷ []) others e = absurd (omega arith)
+first-four (a ∷ b ∷ c ∷ d ∷ []) others e = refl
+first-four (a ∷ b ∷ c ∷ d ∷ x ∷ us) others e = absurd (omega arith)
+
+-- four numbers are these
+pub just-four : (us : List ℕ) → length us ≡ 4 → firstFour us ≡ us
+just-four us e = ap firstFour (sym (append-nil us)) ∙ first-four us [] e

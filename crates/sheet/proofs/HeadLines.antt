@@ -19,6 +19,7 @@ use Rattle.text.proofs.Lines.{line-text}
 use Rattle.sheet.specs.Place.{At, There, RefusedWith, VerdictAt, ChainAt, numbersOf, wordsOf}
 use Rattle.sheet.specs.Swaps.{padded}
 use Rattle.sheet.specs.Writer.{sheetChecks}
+use Rattle.sheet.proofs.Block.{firstFour, first-four}
 use Rattle.sheet.proofs.LinesAt.{line-fields}
 
 -- a step that refused, answered by a struct with that number and place
@@ -34,18 +35,6 @@ step-no r nonzero e =
 step-go : {bytes values : List ℕ} {what : Verdict} {next : ℕ} → what ≡ Verdict.go values (drop next bytes) → next ≤ length bytes
     → VerdictAt bytes what 0 0 values next
 step-go e h = record { right = λ z. e; wrong = λ z. absurd (z refl); inside = h }
-
--- the first four of the numbers that are followed by others
-abbrev pub firstFour : List ℕ → List ℕ
-firstFour vs = getD vs 0 0 ∷ getD vs 1 0 ∷ getD vs 2 0 ∷ getD vs 3 0 ∷ []
-
-first-four : (us others : List ℕ) → length us ≡ 4 → firstFour (us ++ others) ≡ us
-first-four [] others e = absurd (omega arith)
-first-four (a ∷ []) others e = absurd (omega arith)
-first-four (a ∷ b ∷ []) others e = absurd (omega arith)
-first-four (a ∷ b ∷ c ∷ []) others e = absurd (omega arith)
-first-four (a ∷ b ∷ c ∷ d ∷ []) others e = refl
-first-four (a ∷ b ∷ c ∷ d ∷ x ∷ us) others e = absurd (omega arith)
 
 -- three conditions refuse with the number of the first that holds
 three-go : (a b c : Bool) (s : Verdict) → firstOf (check 1 a ∷ check 11 b ∷ check 3 c ∷ []) ≡ 0

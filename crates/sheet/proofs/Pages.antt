@@ -1,20 +1,17 @@
 -- The lines of a result sheet one behind the other, and their lengths added. By induction on the rows and on the numbers.
 use mathlib.Core.Path.{_≡_, refl, sym, ap, _∙_}
-use mathlib.Core.Bool.{false}
 use mathlib.Core.List.{List, [], _∷_, _++_, append-assoc, append-nil}
 use Prim.Native.Nat.{ℕ, zero, suc, _+_, _-_, _*_, _<_, _≤_}
 use native.Mathlib.Omega.{arith}
 use lib.ListN.{length, take, drop, getD, length-append, length-drop}
 use lib.Seq.{drop-drop, take-add, take-all, getD-take, length-take-le}
 use Rattle.layout.specs.Layout.{volume}
-use Rattle.refusals.specs.Conditions.{badLength}
-use Rattle.refusals.proofs.Conditions.{length-at}
-use Rattle.text.specs.Print.{limit, lineFeed, decimal, field, fields, line}
+use Rattle.text.specs.Print.{lineFeed, decimal, field, fields, line}
 use Rattle.text.specs.Sheet.{shapeWord, orderWord, rowWord, rowCount, rowWidth, rowsText, resultText}
 use Rattle.text.proofs.Rows.{rows-volume}
 use Rattle.text.proofs.Length.{length-line}
 use Rattle.sheet.specs.Put.{Room, Put}
-use Rattle.sheet.specs.Thin.{Writable, pageOf}
+use Rattle.sheet.specs.Thin.{lineOf, shapeOf, orderOf, pageOf, Ready}
 use Rattle.sheet.specs.declared.page.Line.{Line}
 use Rattle.sheet.proofs.Puts.{Leads, leads-room, leads-step, leads-end, leads-same, first-room, second-room, third-room, three-put, fields-next, no-fields}
 
@@ -95,32 +92,20 @@ length-rows (suc count) n words =
     )
     (omega arith)
 
--- the two lines of a result sheet, by value
-abbrev pub shapeOf : List ℕ → Line
-shapeOf ds = record { word = shapeWord; numbers = ds; count = 4 }
+-- a result sheet is its two lines, by value, and the rows: what the thin writer needs for it, and what it puts
+module _ (ds : List ℕ) (order : ℕ) (words : List ℕ) {shape line : Line} {rows : ℕ} (four : length ds ≡ 4) (s : shape ≡ shapeOf ds)
+    (l : line ≡ orderOf order) (r : rows ≡ rowCount ds) where
+  page : pageOf shape line words rows (getD ds 3 0) ≡ resultText ds order words
+  unfolding resultText rowWidth
+  page = rw (s, l, take-all 4 ds (omega arith), r, four)
 
-abbrev pub orderOf : ℕ → Line
-orderOf order = record { word = orderWord; numbers = order ∷ 0 ∷ 0 ∷ 0 ∷ []; count = 1 }
+  pub page-ready : {out : List ℕ} → rows * getD ds 3 0 ≤ length words → length (resultText ds order words) ≤ length out
+      → Ready out shape line words rows (getD ds 3 0)
+  page-ready h k = record { first = rw s (omega arith); second = rw l (omega arith); enough = h; room = record { fits = rw page (omega arith) } }
 
--- a result sheet is these lines and the rows
-pub result-page : (ds : List ℕ) (order : ℕ) (words : List ℕ) (rows : ℕ) → length ds ≡ 4 → rows ≡ rowCount ds
-    → pageOf (shapeOf ds) (orderOf order) words rows (getD ds 3 0) ≡ resultText ds order words
-unfolding resultText rowWidth
-result-page ds order words rows four e = rw (take-all 4 ds (omega arith), e, four)
-
-pub shape-writable : (ds : List ℕ) → length ds ≡ 4 → badLength ds ≡ false → Writable (shapeOf ds)
-shape-writable ds four good =
-    record {
-      few = omega arith;
-      printable = rw (take-all 4 ds (omega arith)) (λ k h. omega (arith, length-at ds good k h));
-    }
-
-pub order-writable : (order : ℕ) → order ≤ 23 → Writable (orderOf order)
-order-writable order h = record { few = omega arith; printable = λ k l. one k l }
-  where
-    one : (k : ℕ) → k < 1 → getD (order ∷ []) k 0 ≤ limit
-    one zero l = omega arith
-    one (suc k) l = absurd (omega arith)
+  pub page-put : {out : List ℕ} {next : ℕ} {out′ : List ℕ} → Put out 0 (pageOf shape line words rows (getD ds 3 0)) next out′
+      → Put out 0 (resultText ds order words) next out′
+  page-put q = rw page at q
 
 -- the length of a result sheet from its parts
 pub length-result : (ds : List ℕ) (order : ℕ) (words : List ℕ)
@@ -130,13 +115,6 @@ unfolding resultText
 length-result ds order words =
     ap length (sym (append-assoc (line shapeWord ds) (line orderWord (order ∷ [])) (rowsText (rowCount ds) (rowWidth ds) words)))
     ∙ length-append (line shapeWord ds ++ line orderWord (order ∷ [])) (rowsText (rowCount ds) (rowWidth ds) words)
-
-pub length-head : (ds : List ℕ) (order : ℕ)
-    → length (line shapeWord ds ++ line orderWord (order ∷ [])) ≡ 13 + length (fields ds) + length (decimal order)
-unfolding fields field
-length-head ds order =
-    length-append (line shapeWord ds) (line orderWord (order ∷ []))
-    ∙ rw (length-line shapeWord ds, length-line orderWord (order ∷ []), append-nil (decimal order)) (omega arith)
 
 -- the field of the next number measured, then the others
 pub measure-next : (vs : List ℕ) (i : ℕ) → i < length vs
@@ -149,10 +127,16 @@ measure-next vs i h =
 pub measure-all : (vs : List ℕ) (i : ℕ) → length vs ≤ i → length (fields (drop i vs)) ≡ 0
 measure-all vs i h = ap length (no-fields vs i h)
 
--- the length of a result sheet, measured
-pub length-measured : (ds : List ℕ) (order : ℕ) (words : List ℕ) → 0 < length ds
+-- the length of a result sheet, measured: its two lines, and four bytes a row beside the fields
+pub length-measured : (ds : List ℕ) (order : ℕ) (words : List ℕ) → length ds ≡ 4
     → length (resultText ds order words)
-    ≡ 13 + length (fields ds) + length (decimal order) + 4 * rowCount ds + length (fields (take (volume ds) words))
-length-measured ds order words h =
+    ≡ length (lineOf (shapeOf ds)) + length (lineOf (orderOf order)) + 4 * rowCount ds + length (fields (take (volume ds) words))
+length-measured ds order words four =
     length-result ds order words
-    ∙ rw (length-head ds order, length-rows (rowCount ds) (rowWidth ds) words, rows-volume ds h) (omega arith)
+    ∙ rw (
+      length-append (line shapeWord ds) (line orderWord (order ∷ [])),
+      length-rows (rowCount ds) (rowWidth ds) words,
+      rows-volume ds (omega arith),
+      take-all 4 ds (omega arith),
+    )
+    (omega arith)

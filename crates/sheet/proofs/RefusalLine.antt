@@ -1,39 +1,26 @@
 -- The line of a refusal: its length, its form, and what its writer promises. From the laws of lines.
-use mathlib.Core.Path.{_≡_, refl, _∙_}
-use mathlib.Core.List.{List, [], _∷_, _++_, append-nil}
-use Prim.Native.Nat.{ℕ, zero, suc, _+_, _<_, _≤_}
+use mathlib.Core.Path.{_≡_, refl, ap, _∙_}
+use mathlib.Core.List.{List, [], _∷_}
+use Prim.Native.Nat.{ℕ, _+_, _<_, _≤_}
 use native.Mathlib.Omega.{arith}
-use lib.ListN.{length, length-append}
+use lib.ListN.{length}
 use borrow.Author.Tests.{lt-ltb, le-ltb}
-use Rattle.text.specs.Print.{limit, decimal, field, fields, line}
+use Rattle.text.specs.Print.{fields, line}
 use Rattle.text.specs.Sheet.{refusedWord, refusalText}
 use Rattle.text.proofs.Length.{length-line}
 use Rattle.sheet.specs.declared.Written.{Written}
-use Rattle.sheet.specs.Put.{Printable, Put}
+use Rattle.sheet.specs.Put.{Put}
 use Rattle.sheet.specs.Writer.{nothingWritten}
 use Rattle.sheet.specs.RefusalWriter.{refusalNumber, RefusalWrittenAs}
 use Rattle.sheet.proofs.InFull.{none-written, all-written}
-
--- two fields, one after the other
-fields-two : (a b : ℕ) → fields (a ∷ b ∷ []) ≡ field a ++ field b
-unfolding fields
-fields-two a b = rw (append-nil (field b))
-
-pub length-refusal : (number place : ℕ) → length (refusalText number place) ≡ 10 + length (decimal number) + length (decimal place)
-unfolding refusalText field
-length-refusal number place =
-    length-line refusedWord (number ∷ place ∷ [])
-    ∙ rw (fields-two number place, length-append (field number) (field place)) (omega arith)
 
 -- it is a line of two numbers
 pub refusal-line : (number place : ℕ) → refusalText number place ≡ line refusedWord (number ∷ place ∷ [])
 unfolding refusalText
 refusal-line number place = refl
 
-pub two-printable : {number place : ℕ} → number ≤ limit → place ≤ limit → Printable (number ∷ place ∷ [])
-two-printable h k zero l = h
-two-printable h k (suc zero) l = k
-two-printable h k (suc (suc n)) l = absurd (omega arith)
+pub length-refusal : (number place : ℕ) → length (refusalText number place) ≡ 8 + length (fields (number ∷ place ∷ []))
+length-refusal number place = ap length (refusal-line number place) ∙ length-line refusedWord (number ∷ place ∷ []) ∙ omega arith
 
 -- what the writer of a refusal promises, once it has measured the line
 module _ (number place : ℕ) (out : List ℕ) where

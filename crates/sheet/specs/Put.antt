@@ -2,14 +2,9 @@
 -- What the functions that put bytes into a buffer promise. Assumes nothing.
 use mathlib.Core.Path.{_≡_}
 use mathlib.Core.List.{List}
-use Prim.Native.Nat.{ℕ, _+_, _<_, _≤_}
-use lib.ListN.{length, getD}
+use Prim.Native.Nat.{ℕ, _+_, _≤_}
+use lib.ListN.{length}
 use lib.Seq.{sets}
-use Rattle.text.specs.Print.{limit}
-
--- no number is above the greatest of a sheet
-abbrev pub Printable : List ℕ → Type 0
-Printable vs = (k : ℕ) → k < length vs → getD vs k 0 ≤ limit
 
 -- the buffer has room for the text at this place
 pub record Room (out : List ℕ) (at : ℕ) (text : List ℕ) : Type 0 where

@@ -1,13 +1,13 @@
 -- These definitions serve only the contracts of private functions: a reader of the promises can pass over them.
 -- What a thin writer is once a text is put, and what a page needs. Assumes nothing.
-use mathlib.Core.List.{List, _++_}
+use mathlib.Core.List.{List, [], _∷_, _++_}
 use Prim.Native.Nat.{ℕ, _+_, _*_, _≤_}
 use lib.ListN.{length, take}
 use lib.Seq.{sets}
 use denote.Ref.{now, at-last}
 use Rattle.text.specs.Print.{line}
-use Rattle.text.specs.Sheet.{rowsText}
-use Rattle.sheet.specs.Put.{Printable, Room}
+use Rattle.text.specs.Sheet.{shapeWord, orderWord, rowsText}
+use Rattle.sheet.specs.Put.{Room}
 use Rattle.sheet.specs.declared.page.Line.{Line}
 use Rattle.sheet.specs.declared.writer.Writer.{Writer}
 
@@ -19,10 +19,12 @@ numbersIn l = take (l .count) (l .numbers)
 abbrev pub lineOf : Line → List ℕ
 lineOf l = line (l .word) (numbersIn l)
 
--- it has four numbers at most, none of them above the greatest of a sheet
-pub record Writable (l : Line) : Type 0 where
-  pub few : l .count ≤ 4
-  pub printable : Printable (numbersIn l)
+-- the two lines of a result sheet
+abbrev pub shapeOf : List ℕ → Line
+shapeOf ds = record { word = shapeWord; numbers = ds; count = 4 }
+
+abbrev pub orderOf : ℕ → Line
+orderOf order = record { word = orderWord; numbers = order ∷ 0 ∷ 0 ∷ 0 ∷ []; count = 1 }
 
 -- the same borrow with the text at the writer's place, and the place after it
 abbrev pub stored : Writer → List ℕ → Writer
@@ -32,9 +34,9 @@ stored w text = record { out = at-last (w .out) (sets (now (w .out)) (w .at) tex
 abbrev pub pageOf : Line → Line → List ℕ → ℕ → ℕ → List ℕ
 pageOf shape order words count n = lineOf shape ++ (lineOf order ++ rowsText count n words)
 
--- the two lines may be written, the words suffice for the rows, and the bytes have room for all
+-- the two lines have four numbers at most, the words suffice for the rows, and the bytes have room for all
 pub record Ready (out : List ℕ) (shape order : Line) (words : List ℕ) (count n : ℕ) : Type 0 where
-  pub first : Writable shape
-  pub second : Writable order
+  pub first : shape .count ≤ 4
+  pub second : order .count ≤ 4
   pub enough : count * n ≤ length words
   pub room : Room out 0 (pageOf shape order words count n)

@@ -4,7 +4,6 @@ mod head;
 mod line;
 mod page;
 mod put;
-mod refusal;
 mod rows;
 mod values;
 mod writer;
@@ -87,7 +86,7 @@ fn result_len(lens: [usize; 4], order: usize, words: &[u32]) -> usize
 {
     let size = checks::words_of(&lens);
     let rows = checks::words_of(&lens[..3]);
-    let head = 13 + page::numbers_len(&lens) + put::digits_of(order);
+    let head = page::head_len(page::shape_line(lens)) + page::head_len(page::order_line(order));
     head + 4 * rows + page::words_len(&words[..size])
 }
 
@@ -100,16 +99,8 @@ fn put_result(lens: [usize; 4], order: usize, words: &[u32], out: &mut [u8]) -> 
     if out.len() < need {
         return nothing_written(24);
     }
-    let shape = page::Line {
-        word: *b"shape",
-        numbers: lens,
-        count: 4,
-    };
-    let line = page::Line {
-        word: *b"order",
-        numbers: [order, 0, 0, 0],
-        count: 1,
-    };
+    let shape = page::shape_line(lens);
+    let line = page::order_line(order);
     let rows = checks::words_of(&lens[..3]);
     let end = writer::result(out, shape, line, words, rows, lens[3]);
     Written {
@@ -136,13 +127,12 @@ pub fn write(lens: [usize; 4], order: usize, words: &[u32], out: &mut [u8]) -> W
 pub fn write_refusal(number: u32, place: u32, out: &mut [u8]) -> Written
     ensures { λ r. ⌜ RefusalWrittenAs number place (now (out .entry)) r (now (out .exit)) ⌝ }
 {
-    let first = number as usize;
-    let second = place as usize;
-    let need = refusal::refusal_len(first, second);
+    let numbers = [number, place];
+    let need = 8 + page::words_len(&numbers);
     if out.len() < need {
         return nothing_written(24);
     }
-    let end = refusal::put_refusal(out, 0, first, second);
+    let end = page::put_line(out, 0, b"refused", &numbers);
     Written {
         number: 0,
         count: end,

@@ -4,7 +4,7 @@ ghost use mathlib.Core.List.{_∷_, []};
 ghost use Prim.Native.Nat.{_≤_};
 ghost use lib.ListN.{length};
 ghost use Rattle.text.specs.Print.{limit, lineFeed, decimal, field, fields};
-ghost use Rattle.sheet.specs.Put.{Printable, Room, Put};
+ghost use Rattle.sheet.specs.Put.{Room, Put};
 
 // How many digits v has.
 pub(crate) fn digits_of(v: usize) -> usize
@@ -73,18 +73,6 @@ pub(crate) fn put_words(out: &mut [u8], at: usize, words: &[u32]) -> usize
     let mut p = at;
     for i in 0..words.len() {
         p = put_field(out, p, words[i] as usize);
-    }
-    p
-}
-
-// A field for each number.
-pub(crate) fn put_numbers(out: &mut [u8], at: usize, numbers: &[usize]) -> usize
-    requires { ⌜ Printable (now numbers) × Room (now out) at (fields (now numbers)) ⌝ }
-    ensures { λ r. ⌜ Put (now (out .entry)) at (fields (now (numbers .entry))) r (now (out .exit)) ⌝ }
-{
-    let mut p = at;
-    for i in 0..numbers.len() {
-        p = put_field(out, p, numbers[i]);
     }
     p
 }

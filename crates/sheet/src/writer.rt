@@ -6,7 +6,7 @@ ghost use Prim.Native.Nat.{_*_, _≤_};
 ghost use lib.ListN.{length};
 ghost use Rattle.text.specs.Sheet.{rowsText};
 ghost use Rattle.sheet.specs.Put.{Room, Put};
-ghost use Rattle.sheet.specs.Thin.{lineOf, Writable, stored, pageOf, Ready};
+ghost use Rattle.sheet.specs.Thin.{lineOf, stored, pageOf, Ready};
 
 pub(crate) struct Writer<'a> {
     out: &'a mut [u8],
@@ -22,7 +22,7 @@ pub(crate) fn new<'a>(out: &'a mut [u8]) -> Writer<'a>
 
 // A line: the writer is handed back with the next place.
 pub(crate) fn line<'a>(w: Writer<'a>, l: page::Line) -> Writer<'a>
-    requires { ⌜ Writable l × Room (now (w .out)) (w .at) (lineOf l) ⌝ }
+    requires { ⌜ (l .count ≤ 4) × Room (now (w .out)) (w .at) (lineOf l) ⌝ }
     ensures { λ r. ⌜ r ≡ stored (w .entry) (lineOf l) ⌝ }
 {
     let at = w.at;

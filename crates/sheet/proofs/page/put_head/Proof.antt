@@ -29,7 +29,7 @@ numbers-count : tie.Need-slice-aggregate-put-line-2
 numbers-count c = let x : tie.Start = search in sym (length-take-le _ _ (few x))
 
 put-line-requires : tie.Need-put-line-requires
-put-line-requires c κs = let x : tie.Start = search in (x .pre .0 .printable, x .pre .1)
+put-line-requires c κs = let x : tie.Start = search in x .pre .1
 
 returns : tie.Need-returns
 returns c = let p : tie.After-put-line = search in p .put-line .ensures

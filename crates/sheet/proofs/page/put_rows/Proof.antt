@@ -12,12 +12,12 @@ use Rattle.sheet.proofs.page.put_rows.Statement.{statement}
 use Rattle.sheet.proofs.page.put_rows.Tie as tie
 
 abbrev Inv-loop : tie.InvT-loop
-Inv-loop out₀ at words count n p₀ from₀ i₀ out p from i =
+Inv-loop out₀ at words count n p₀ from₀ i₀ word out p from i =
     (i ≤ count) × (from + (count - i) * n ≤ length words)
     × Leads out₀ at (rowsText count n words) out p (rowsText (count - i) n (drop from words))
 
 abbrev μ-loop : tie.MeasureT-loop
-μ-loop out₀ at words count n p₀ from₀ i₀ out p from i = count - i
+μ-loop out₀ at words count n p₀ from₀ i₀ word out p from i = count - i
 
 abbrev Start : Type 0
 Start = tie.Start Inv-loop μ-loop
@@ -36,20 +36,20 @@ module _ (x : Start) (l : Loop) (h : l .loop .i < x .args .count) (room : l .loo
   inside : l .loop .from + x .args .n + (x .args .count - (l .loop .i + 1)) * x .args .n ≤ length (x .args .words .now)
   inside = omega (arith, room-left (x .args .count) (x .args .n) (l .loop .i) h)
 
-add-put-row : tie.Need-add-put-row Inv-loop μ-loop
-add-put-row c =
+add-put-line : tie.Need-add-put-line Inv-loop μ-loop
+add-put-line c =
     let l : Loop = search in
     let x : Start = search in
     omega (arith, inside x l (omega arith) (search))
 
-part-end : tie.Need-part-put-row-end Inv-loop μ-loop
+part-end : tie.Need-part-put-line-end Inv-loop μ-loop
 part-end c =
     let l : Loop = search in
     let x : Start = search in
     omega (arith, inside x l (omega arith) (search))
 
-put-row-requires : tie.Need-put-row-requires Inv-loop μ-loop
-put-row-requires c κs =
+put-line-requires : tie.Need-put-line-requires Inv-loop μ-loop
+put-line-requires c κs =
     let l : Loop = search in
     let x : Start = search in
     let e : l .loop .from + x .args .n - l .loop .from ≡ x .args .n = omega arith in
@@ -63,14 +63,14 @@ add-from c =
 
 loop-again : tie.Need-loop-again Inv-loop μ-loop
 loop-again c =
-    let r : tie.After-put-row Inv-loop μ-loop = search in
+    let r : tie.After-put-line Inv-loop μ-loop = search in
     let l : Loop = search in
     let x : Start = search in
     let e : l .loop .from + x .args .n - l .loop .from ≡ x .args .n = omega arith in (
       omega arith,
       inside x l (omega arith) (search),
       next-row-put (x .args .count) (x .args .n) (l .loop .i) (l .loop .from) (x .args .words .now) (l .loop .inv .2) (omega arith)
-          (rw e at (r .put-row .ensures)),
+          (rw e at (r .put-line .ensures)),
     )
 
 same-length : tie.Need-same-length Inv-loop μ-loop
@@ -89,12 +89,13 @@ put-rows-spec =
     Inv-loop
     μ-loop
     loop-holds
-    add-put-row
+    (search needs)
+    add-put-line
     (search needs)
     (search needs)
     (search needs)
     part-end
-    put-row-requires
+    put-line-requires
     add-from
     (search needs)
     (search needs)

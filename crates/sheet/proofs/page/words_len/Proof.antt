@@ -51,7 +51,8 @@ returns : tie.Need-returns Inv-loop μ-loop
 returns c =
     let l : Loop = search in
     let x : Start = search in
-    omega (arith, measure-all (x .args .words .now) (l .loop .i) (omega arith))
+    let none = measure-all (x .args .words .now) (l .loop .i) (omega arith) in
+    (omega arith, omega (arith, fields-few (x .args .words .now)))
 
 pub words-len-spec : {M : Type 1} → statement M
 words-len-spec =
