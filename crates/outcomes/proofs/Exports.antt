@@ -17,8 +17,8 @@ use Rattle.exports.specs.declared.Written.{Written}
 use Rattle.passes.proofs.OneOutcome as passes
 use Rattle.halves.proofs.OneOutcome as halves
 use Rattle.axes.proofs.OneOutcome as axes-outcome
-use Rattle.sheet.proofs.Promises as sheets
-use Rattle.job.proofs.Outcomes as jobs
+use Rattle.sheet.proofs.OneOutcome as sheets
+use Rattle.job.proofs.OneOutcome as jobs
 use Rattle.exports.proofs.zib_turn.Kinds as turn-kinds
 use Rattle.exports.proofs.zib_turn.Reads as turn
 use Rattle.exports.proofs.zib_turn_back.Kinds as turn-back-kinds
