@@ -17,7 +17,7 @@ pub(crate) fn words_len(words: &[u32]) -> usize
 {
     let mut total = 0;
     for i in 0..words.len() {
-        total += 1 + put::digits_of(words[i] as usize);
+        total += 1 + put::digits_of(words[i]);
     }
     total
 }
