@@ -11,7 +11,7 @@ use Rattle.text.specs.Sheet.{shapeWord, orderWord, rowWord, rowCount, rowWidth,
 use Rattle.text.proofs.Rows.{rows-volume}
 use Rattle.text.proofs.Length.{length-line}
 use Rattle.sheet.specs.Put.{Room, Put}
-use Rattle.sheet.specs.Thin.{lineOf, shapeOf, orderOf, pageOf, Ready}
+use Rattle.sheet.specs.Thin.{lineOf, shapeLineOf, orderLineOf, pageOf, Ready}
 use Rattle.sheet.specs.declared.page.Line.{Line}
 use Rattle.sheet.proofs.Puts.{Leads, leads-room, leads-step, leads-end, leads-same, first-room, second-room, third-room, three-put, fields-next, no-fields}
 
@@ -93,8 +93,8 @@ length-rows (suc count) n words =
     (omega arith)
 
 -- a result sheet is its two lines, by value, and the rows: what the thin writer needs for it, and what it puts
-module _ (ds : List ℕ) (order : ℕ) (words : List ℕ) {shape line : Line} {rows : ℕ} (four : length ds ≡ 4) (s : shape ≡ shapeOf ds)
-    (l : line ≡ orderOf order) (r : rows ≡ rowCount ds) where
+module _ (ds : List ℕ) (order : ℕ) (words : List ℕ) {shape line : Line} {rows : ℕ} (four : length ds ≡ 4) (s : shape ≡ shapeLineOf ds)
+    (l : line ≡ orderLineOf order) (r : rows ≡ rowCount ds) where
   page : pageOf shape line words rows (getD ds 3 0) ≡ resultText ds order words
   unfolding resultText rowWidth
   page = rw (s, l, take-all 4 ds (omega arith), r, four)
@@ -130,7 +130,7 @@ measure-all vs i h = ap length (no-fields vs i h)
 -- the length of a result sheet, measured: its two lines, and four bytes a row beside the fields
 pub length-measured : (ds : List ℕ) (order : ℕ) (words : List ℕ) → length ds ≡ 4
     → length (resultText ds order words)
-    ≡ length (lineOf (shapeOf ds)) + length (lineOf (orderOf order)) + 4 * rowCount ds + length (fields (take (volume ds) words))
+    ≡ length (lineOf (shapeLineOf ds)) + length (lineOf (orderLineOf order)) + 4 * rowCount ds + length (fields (take (volume ds) words))
 length-measured ds order words four =
     length-result ds order words
     ∙ rw (

@@ -38,7 +38,7 @@ pub record Copied (bytes : List ℕ) (what : Reading (List ℕ)) (next : ℕ) (w
   pub inside : next ≤ length bytes
   pub stored : words′ ≡ sets words from (numbersOf what)
 
--- the words of a step that went on, none of a refusal
+-- the words of a verdict that went on, none of a refusal
 abbrev pub wordsOf : Verdict → List ℕ
 wordsOf (Verdict.refuse number place) = []
 wordsOf (Verdict.go vs rest) = vs
@@ -70,7 +70,7 @@ pub record RefusedWith (k p number place next : ℕ) : Type 0 where
   pub placed : place ≡ p
   pub ended : next ≡ 0
 
--- where the number is 0, the step went on with the values, and the bytes from `next` on follow them; else it refused so
+-- where the number is 0, the verdict went on with the values, and the bytes from `next` on follow them; else it is this refusal
 pub record VerdictAt (bytes : List ℕ) (what : Verdict) (number place : ℕ) (values : List ℕ) (next : ℕ) : Type 0 where
   pub right : number ≡ 0 → what ≡ Verdict.go values (drop next bytes)
   pub wrong : (number ≡ 0 → ⊥) → what ≡ Verdict.refuse number place

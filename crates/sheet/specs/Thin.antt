@@ -15,16 +15,17 @@ use Rattle.sheet.specs.declared.writer.Writer.{Writer}
 abbrev pub numbersIn : Line → List ℕ
 numbersIn l = take (l .count) (l .numbers)
 
--- its text
+-- the text of such a line
 abbrev pub lineOf : Line → List ℕ
 lineOf l = line (l .word) (numbersIn l)
 
--- the two lines of a result sheet
-abbrev pub shapeOf : List ℕ → Line
-shapeOf ds = record { word = shapeWord; numbers = ds; count = 4 }
+-- line 1 of a result sheet: `shape` and the lengths
+abbrev pub shapeLineOf : List ℕ → Line
+shapeLineOf ds = record { word = shapeWord; numbers = ds; count = 4 }
 
-abbrev pub orderOf : ℕ → Line
-orderOf order = record { word = orderWord; numbers = order ∷ 0 ∷ 0 ∷ 0 ∷ []; count = 1 }
+-- line 2 of a result sheet: `order` and the order number
+abbrev pub orderLineOf : ℕ → Line
+orderLineOf order = record { word = orderWord; numbers = order ∷ 0 ∷ 0 ∷ 0 ∷ []; count = 1 }
 
 -- the same borrow with the text at the writer's place, and the place after it
 abbrev pub stored : Writer → List ℕ → Writer

@@ -8,7 +8,7 @@ ghost use Rattle.refusals.specs.Conditions.{badLength};
 ghost use Rattle.text.specs.Print.{fields, line};
 ghost use Rattle.text.specs.Sheet.{rowsText};
 ghost use Rattle.sheet.specs.Put.{Room, Put};
-ghost use Rattle.sheet.specs.Thin.{lineOf, shapeOf, orderOf};
+ghost use Rattle.sheet.specs.Thin.{lineOf, shapeLineOf, orderLineOf};
 
 // How many bytes the fields of these words have.
 pub(crate) fn words_len(words: &[u32]) -> usize
@@ -17,7 +17,7 @@ pub(crate) fn words_len(words: &[u32]) -> usize
 {
     let mut total = 0;
     for i in 0..words.len() {
-        total += 1 + put::digits_of(words[i] as usize);
+        total += 1 + put::digits_of(words[i]);
     }
     total
 }
@@ -32,7 +32,7 @@ pub struct Line {
 // Line 1 of a result sheet: `shape` and the lengths.
 pub(crate) fn shape_line(lens: [usize; 4]) -> Line
     requires { ⌜ badLength lens ≡ false ⌝ }
-    ensures { λ r. ⌜ r ≡ shapeOf lens ⌝ }
+    ensures { λ r. ⌜ r ≡ shapeLineOf lens ⌝ }
 {
     Line {
         word: *b"shape",
@@ -49,7 +49,7 @@ pub(crate) fn shape_line(lens: [usize; 4]) -> Line
 // Line 2 of a result sheet: `order` and the order number.
 pub(crate) fn order_line(order: usize) -> Line
     requires { ⌜ order ≤ 23 ⌝ }
-    ensures { λ r. ⌜ r ≡ orderOf order ⌝ }
+    ensures { λ r. ⌜ r ≡ orderLineOf order ⌝ }
 {
     Line {
         word: *b"order",

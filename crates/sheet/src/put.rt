@@ -1,14 +1,12 @@
 // Bytes put into a lent buffer at a place, each function giving the place after them: private to the library.
 ghost use mathlib.Core.Path.{_≡_};
 ghost use mathlib.Core.List.{_∷_, []};
-ghost use Prim.Native.Nat.{_≤_};
 ghost use lib.ListN.{length};
-ghost use Rattle.text.specs.Print.{limit, lineFeed, decimal, field, fields};
+ghost use Rattle.text.specs.Print.{lineFeed, decimal, field, fields};
 ghost use Rattle.sheet.specs.Put.{Room, Put};
 
 // How many digits v has.
-pub(crate) fn digits_of(v: usize) -> usize
-    requires { ⌜ v ≤ limit ⌝ }
+pub(crate) fn digits_of(v: u32) -> usize
     ensures { λ r. ⌜ r ≡ length (decimal v) ⌝ }
 {
     let mut count = 1;
@@ -21,8 +19,8 @@ pub(crate) fn digits_of(v: usize) -> usize
 }
 
 // The number v in decimal, its last digit first.
-pub(crate) fn put_number(out: &mut [u8], at: usize, v: usize) -> usize
-    requires { ⌜ (v ≤ limit) × Room (now out) at (decimal v) ⌝ }
+pub(crate) fn put_number(out: &mut [u8], at: usize, v: u32) -> usize
+    requires { ⌜ Room (now out) at (decimal v) ⌝ }
     ensures { λ r. ⌜ Put (now (out .entry)) at (decimal v) r (now (out .exit)) ⌝ }
 {
     let next = at + digits_of(v);
@@ -37,8 +35,8 @@ pub(crate) fn put_number(out: &mut [u8], at: usize, v: usize) -> usize
 }
 
 // A field: a tab and the number v.
-pub(crate) fn put_field(out: &mut [u8], at: usize, v: usize) -> usize
-    requires { ⌜ (v ≤ limit) × Room (now out) at (field v) ⌝ }
+pub(crate) fn put_field(out: &mut [u8], at: usize, v: u32) -> usize
+    requires { ⌜ Room (now out) at (field v) ⌝ }
     ensures { λ r. ⌜ Put (now (out .entry)) at (field v) r (now (out .exit)) ⌝ }
 {
     out[at] = 9;
@@ -72,7 +70,7 @@ pub(crate) fn put_words(out: &mut [u8], at: usize, words: &[u32]) -> usize
 {
     let mut p = at;
     for i in 0..words.len() {
-        p = put_field(out, p, words[i] as usize);
+        p = put_field(out, p, words[i]);
     }
     p
 }

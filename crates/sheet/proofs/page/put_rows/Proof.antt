@@ -31,22 +31,16 @@ loop-holds c =
     let z : x .args .count - 0 ≡ x .args .count = omega arith in
     (omega arith, rw z (omega arith), rw z (leads-start (x .pre .1)))
 
--- the words of the next row are there
-module _ (x : Start) (l : Loop) (h : l .loop .i < x .args .count) (room : l .loop .from + (x .args .count - l .loop .i) * x .args .n ≤ length (x .args .words .now)) where
-  inside : l .loop .from + x .args .n + (x .args .count - (l .loop .i + 1)) * x .args .n ≤ length (x .args .words .now)
-  inside = omega (arith, room-left (x .args .count) (x .args .n) (l .loop .i) h)
+-- the words of the next row, and those of the rows after it, are there
+module _ (c : tie.In-loop Inv-loop μ-loop) where
+  abbrev start : Start
+  start = search
 
-add-put-line : tie.Need-add-put-line Inv-loop μ-loop
-add-put-line c =
-    let l : Loop = search in
-    let x : Start = search in
-    omega (arith, inside x l (omega arith) (search))
+  abbrev at-loop : Loop
+  at-loop = search
 
-part-end : tie.Need-part-put-line-end Inv-loop μ-loop
-part-end c =
-    let l : Loop = search in
-    let x : Start = search in
-    omega (arith, inside x l (omega arith) (search))
+  inside : at-loop .loop .from + start .args .n + (start .args .count - (at-loop .loop .i + 1)) * start .args .n ≤ length (start .args .words .now)
+  inside = omega (arith, room-left (start .args .count) (start .args .n) (at-loop .loop .i) (c .loop-test .taken))
 
 put-line-requires : tie.Need-put-line-requires Inv-loop μ-loop
 put-line-requires c κs =
@@ -55,12 +49,6 @@ put-line-requires c κs =
     let e : l .loop .from + x .args .n - l .loop .from ≡ x .args .n = omega arith in
     rw e (next-row-room (x .args .count) (x .args .n) (l .loop .i) (l .loop .from) (x .args .words .now) (l .loop .inv .2) (omega arith))
 
-add-from : tie.Need-add-from Inv-loop μ-loop
-add-from c =
-    let l : Loop = search in
-    let x : Start = search in
-    omega (arith, inside x l (omega arith) (search))
-
 loop-again : tie.Need-loop-again Inv-loop μ-loop
 loop-again c =
     let r : tie.After-put-line Inv-loop μ-loop = search in
@@ -68,7 +56,7 @@ loop-again c =
     let x : Start = search in
     let e : l .loop .from + x .args .n - l .loop .from ≡ x .args .n = omega arith in (
       omega arith,
-      inside x l (omega arith) (search),
+      inside (search),
       next-row-put (x .args .count) (x .args .n) (l .loop .i) (l .loop .from) (x .args .words .now) (l .loop .inv .2) (omega arith)
           (rw e at (r .put-line .ensures)),
     )
@@ -90,13 +78,13 @@ put-rows-spec =
     μ-loop
     loop-holds
     (search needs)
-    add-put-line
+    (λ c. omega (arith, inside (search)))
     (search needs)
     (search needs)
     (search needs)
-    part-end
+    (λ c. omega (arith, inside (search)))
     put-line-requires
-    add-from
+    (λ c. omega (arith, inside (search)))
     (search needs)
     (search needs)
     loop-again

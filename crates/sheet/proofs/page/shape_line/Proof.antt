@@ -6,7 +6,7 @@ use native.Mathlib.Omega.{arith}
 use lib.ListN.{length, getD}
 use borrow.Author.Needs.{needs}
 use Rattle.refusals.proofs.Conditions.{length-at}
-use Rattle.sheet.specs.Thin.{shapeOf}
+use Rattle.sheet.specs.Thin.{shapeLineOf}
 use Rattle.sheet.proofs.Block.{just-four}
 use Rattle.sheet.proofs.page.shape_line.Statement.{statement}
 use Rattle.sheet.proofs.page.shape_line.Tie as tie
@@ -19,7 +19,7 @@ module _ (x : tie.Start) where
   small k h = length-at (x .args .t1) (x .pre) k (omega (arith, four)) .1
 
 returns : tie.Need-returns
-returns c = let x : tie.Start = search in ap shapeOf (just-four (x .args .t1) (four x))
+returns c = let x : tie.Start = search in ap shapeLineOf (just-four (x .args .t1) (four x))
 
 pub shape-line-spec : {M : Type 1} → statement M
 shape-line-spec =

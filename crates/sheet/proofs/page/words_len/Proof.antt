@@ -23,12 +23,6 @@ Start = tie.Start Inv-loop μ-loop
 abbrev Loop : Type 0
 Loop = tie.At-loop Inv-loop μ-loop
 
-cast-digits-of : tie.Need-cast-digits-of Inv-loop μ-loop
-cast-digits-of c = let l : Loop = search in omega (arith, c .shared-slice-known2 .given (l .loop .i))
-
-digits-of-requires : tie.Need-digits-of-requires Inv-loop μ-loop
-digits-of-requires c κs = let l : Loop = search in omega (arith, c .shared-slice-known2 .given (l .loop .i))
-
 add-total : tie.Need-add-total Inv-loop μ-loop
 add-total c =
     let l : Loop = search in
@@ -63,8 +57,7 @@ words-len-spec =
     (search needs)
     (search needs)
     (search needs)
-    cast-digits-of
-    digits-of-requires
+    (search needs)
     add-total
     add-total-2
     (search needs)

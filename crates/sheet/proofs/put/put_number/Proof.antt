@@ -26,13 +26,13 @@ abbrev Loop : Type 0
 Loop = tie.At-loop Inv-loop μ-loop
 
 add-next : tie.Need-add-next Inv-loop μ-loop
-add-next c = let x : Start = search in omega (arith, x .pre .1)
+add-next c = let x : Start = search in omega (arith, x .pre)
 
 loop-holds : tie.Need-loop-holds Inv-loop μ-loop
 loop-holds c =
     let x : Start = search in
     let e : x .args .at + c .digits-of .result - x .args .at ≡ length (decimal (x .args .v)) = omega arith in
-    (omega arith, omega arith, omega arith, omega (arith, x .pre .1), refl, rw (e, spell-decimal (x .args .v) (x .pre .0)))
+    (omega arith, omega arith, omega arith, omega (arith, x .pre), refl, rw (e, spell-decimal (x .args .v) (omega arith)))
 
 loop-again : tie.Need-loop-again Inv-loop μ-loop
 loop-again c =

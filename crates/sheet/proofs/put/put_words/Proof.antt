@@ -21,13 +21,8 @@ Loop = tie.At-loop Inv-loop μ-loop
 loop-holds : tie.Need-loop-holds Inv-loop μ-loop
 loop-holds c = let x : tie.Start Inv-loop μ-loop = search in (omega arith, omega arith, leads-start (x .pre))
 
-cast-put-field : tie.Need-cast-put-field Inv-loop μ-loop
-cast-put-field c = let l : Loop = search in omega (arith, c .shared-slice-known2 .given (l .loop .i))
-
 put-field-requires : tie.Need-put-field-requires Inv-loop μ-loop
-put-field-requires c κs =
-    let l : Loop = search in
-    (omega (arith, c .shared-slice-known2 .given (l .loop .i)), next-room _ (l .loop .i) (l .loop .inv .2) (omega arith))
+put-field-requires c κs = let l : Loop = search in next-room _ (l .loop .i) (l .loop .inv .2) (omega arith)
 
 loop-again : tie.Need-loop-again Inv-loop μ-loop
 loop-again c =
@@ -50,7 +45,6 @@ put-words-spec =
     loop-holds
     (search needs)
     (search needs)
-    cast-put-field
     put-field-requires
     (search needs)
     (search needs)
