@@ -1,7 +1,7 @@
 -- `tabs_at` meets its contract. The loop's invariant: the tabs counted and those still to come are all.
 use native.Mathlib.Omega.{arith}
 use mathlib.Core.Path.{_≡_}
-use Prim.Native.Nat.{ℕ, _+_, _-_, _≤_}
+use Prim.Native.Nat.{_+_, _-_, _≤_}
 use mathlib.Core.Logic.{⊎-elim}
 use lib.ListN.{length, drop}
 use Rattle.text.specs.Read.{tabs}

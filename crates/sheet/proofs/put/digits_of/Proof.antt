@@ -1,6 +1,6 @@
 -- `digits_of` meets its contract. The loop's invariant: the digits counted and those of what is left are all, and one.
 use mathlib.Core.Path.{_≡_}
-use Prim.Native.Nat.{ℕ, _+_, _≤_}
+use Prim.Native.Nat.{_+_, _≤_}
 use lib.ListN.{length}
 use borrow.Author.Needs.{needs}
 use Rattle.text.specs.Print.{decimal}

@@ -1,7 +1,7 @@
 -- `put_number` meets its contract. The loop's invariant: the digits of what is left, put before those that stand, are the number.
 use native.Mathlib.Omega.{arith}
-use mathlib.Core.Path.{_≡_, refl, sym, ap, _∙_}
-use Prim.Native.Nat.{ℕ, suc, _+_, _-_, _/_, _%_, _≤_}
+use mathlib.Core.Path.{_≡_, refl, sym, _∙_}
+use Prim.Native.Nat.{suc, _+_, _-_, _/_, _%_, _≤_}
 use lib.ListN.{length, set, length-set}
 use lib.Seq.{sets}
 use Rattle.text.specs.Print.{decimal}

@@ -2,11 +2,11 @@
 use Rattle.sheet.proofs.RowsFrom.{no-words}
 use native.Mathlib.Omega.{arith}
 use mathlib.Core.Path.{_≡_, refl, sym, ap, _∙_}
-use mathlib.Core.List.{List, [], _∷_, _++_}
-use Prim.Native.Nat.{ℕ, _+_, _-_, _*_, _<_, _≤_}
+use mathlib.Core.List.{List, []}
+use Prim.Native.Nat.{ℕ, _+_, _-_, _*_, _≤_}
 use lib.ListN.{length, drop}
 use lib.Seq.{sets, length-sets}
-use Rattle.text.specs.Meaning.{Verdict, rowLines}
+use Rattle.text.specs.Meaning.{rowLines}
 use Rattle.sheet.specs.Place.{RowsThere, wordsOf, numbersOf}
 use Rattle.sheet.proofs.Stores.{sets-append}
 use Rattle.sheet.proofs.RowsFrom.{rowsLeft, rowFields, RowAt, row-at, room-left}

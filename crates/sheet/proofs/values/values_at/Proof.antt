@@ -2,11 +2,11 @@
 use lib.ListN.{set}
 use Rattle.text.proofs.Lines.{fields-text}
 use native.Mathlib.Omega.{arith}
-use mathlib.Core.Path.{_≡_, refl, sym, ap, _∙_}
-use mathlib.Core.List.{List, [], _∷_, _++_}
-use Prim.Native.Nat.{ℕ, _+_, _-_, _<_, _≤_}
-use lib.ListN.{length, drop, replicate}
-use Rattle.text.specs.Read.{Reading, readField, readFields}
+use mathlib.Core.Path.{_≡_, sym, ap, _∙_}
+use mathlib.Core.List.{List, _++_}
+use Prim.Native.Nat.{ℕ, _+_, _-_, _≤_}
+use lib.ListN.{drop, replicate}
+use Rattle.text.specs.Read.{Reading, readFields}
 use Rattle.sheet.specs.Place.{numbersOf}
 use Rattle.sheet.proofs.Runs.{got, no-field, fields-more, taken-field}
 use Rattle.sheet.proofs.Stores.{zeros-more}

@@ -3,9 +3,9 @@ use lib.ListN.{set, length-set}
 use Rattle.text.proofs.Lines.{fields-text, field-text}
 use native.Mathlib.Omega.{arith}
 use mathlib.Core.Path.{_≡_, refl, sym, ap, _∙_}
-use mathlib.Core.List.{List, [], _∷_, _++_}
-use Prim.Native.Nat.{ℕ, _+_, _-_, _<_, _≤_}
-use lib.ListN.{length, drop, replicate}
+use mathlib.Core.List.{List}
+use Prim.Native.Nat.{ℕ, _+_, _-_, _≤_}
+use lib.ListN.{length, drop}
 use Rattle.text.specs.Read.{Reading, readField, readFields}
 use Rattle.sheet.specs.Place.{numbersOf}
 use Rattle.sheet.proofs.Runs.{got, no-field, fields-more, taken-field}
