@@ -17,8 +17,7 @@ Inv-loop bytes at n p₀ i₀ p i =
     × (readFields i (drop at bytes) ≡ Reading.found (numbersOf (readFields i (drop at bytes))) (drop p bytes))
 
 abbrev μ-loop : tie.MeasureT-loop
-μ-loop bytes at n p₀ i₀ p i =
-    n - i
+μ-loop bytes at n p₀ i₀ p i = n - i
 
 abbrev Start : Type 0
 Start = tie.Start Inv-loop μ-loop

@@ -15,8 +15,7 @@ Inv-loop bytes at count₀ p₀ count p =
     (p ≤ length bytes) × (count ≤ p) × (tabs (drop at bytes) ≡ count + tabs (drop p bytes))
 
 abbrev μ-loop : tie.MeasureT-loop
-μ-loop bytes at count₀ p₀ count p =
-    length bytes - p
+μ-loop bytes at count₀ p₀ count p = length bytes - p
 
 abbrev Start : Type 0
 Start = tie.Start Inv-loop μ-loop

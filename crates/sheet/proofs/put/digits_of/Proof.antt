@@ -15,8 +15,7 @@ Inv-loop v count₀ left₀ count left =
     (left ≤ v) × (length (decimal v) + 1 ≡ count + length (decimal left))
 
 abbrev μ-loop : tie.MeasureT-loop
-μ-loop v count₀ left₀ count left =
-    left
+μ-loop v count₀ left₀ count left = left
 
 abbrev Loop : Type 0
 Loop = tie.At-loop Inv-loop μ-loop

@@ -16,8 +16,7 @@ Inv-loop out₀ at v next left₀ p₀ out left p =
     × (sets out at (spell (p - at) left) ≡ sets out₀ at (decimal v))
 
 abbrev μ-loop : tie.MeasureT-loop
-μ-loop out₀ at v next left₀ p₀ out left p =
-    p - at
+μ-loop out₀ at v next left₀ p₀ out left p = p - at
 
 abbrev Start : Type 0
 Start = tie.Start Inv-loop μ-loop

@@ -13,8 +13,7 @@ Inv-loop out₀ at word i₀ i-end out i =
     (i ≤ i-end) × (i-end ≡ length word) × Leads out₀ at word out (at + i) (drop i word)
 
 abbrev μ-loop : tie.MeasureT-loop
-μ-loop out₀ at word i₀ i-end out i =
-    i-end - i
+μ-loop out₀ at word i₀ i-end out i = i-end - i
 
 abbrev Start : Type 0
 Start = tie.Start Inv-loop μ-loop

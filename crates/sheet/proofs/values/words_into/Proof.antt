@@ -21,8 +21,7 @@ Inv-loop bytes at n words₀ from p₀ i₀ words p i =
     × (length words ≡ length words₀) × (p ≤ length bytes) × (words ≡ sets words₀ from (numbersOf (readFields i (drop at bytes))))
 
 abbrev μ-loop : tie.MeasureT-loop
-μ-loop bytes at n words₀ from p₀ i₀ words p i =
-    n - i
+μ-loop bytes at n words₀ from p₀ i₀ words p i = n - i
 
 abbrev Start : Type 0
 Start = tie.Start Inv-loop μ-loop
@@ -58,7 +57,6 @@ cast-words : tie.Need-cast-words Inv-loop μ-loop
 cast-words c =
     let at-loop : Loop = search in
     let start : Start = search in
-    let bs = drop (start .args .at) (start .args .bytes .now) in
     omega (arith, field-text (drop (at-loop .loop .p) (start .args .bytes .now)) (again c) .1)
 
 loop-again : tie.Need-loop-again Inv-loop μ-loop
