@@ -1,7 +1,7 @@
 -- The block of a sheet: what its checks 1, 11 and 3 tell, and how many rows and words it has. From the definitions and the laws of a
 -- count of words that was cut.
 use mathlib.Core.Path.{_≡_, refl, sym, ap, _∙_}
-use mathlib.Core.Bool.{Bool, true, false}
+use mathlib.Core.Bool.{true, false}
 use mathlib.Core.List.{List, [], _∷_, _++_, append-nil}
 use mathlib.Core.Logic.{⊎-elim}
 use Prim.Native.Nat.{ℕ, _*_, _-_, _<_, _≤_}

@@ -1,10 +1,10 @@
 -- The lines of a result sheet one behind the other, and their lengths added. By induction on the rows and on the numbers.
 use mathlib.Core.Path.{_≡_, refl, sym, ap, _∙_}
-use mathlib.Core.List.{List, [], _∷_, _++_, append-assoc, append-nil}
+use mathlib.Core.List.{List, [], _∷_, _++_, append-assoc}
 use Prim.Native.Nat.{ℕ, zero, suc, _+_, _-_, _*_, _<_, _≤_}
 use native.Mathlib.Omega.{arith}
-use lib.ListN.{length, take, drop, getD, length-append, length-drop}
-use lib.Seq.{drop-drop, take-add, take-all, getD-take, length-take-le}
+use lib.ListN.{length, take, drop, getD, length-append}
+use lib.Seq.{drop-drop, take-add, take-all}
 use Rattle.layout.specs.Layout.{volume}
 use Rattle.text.specs.Print.{lineFeed, decimal, field, fields, line}
 use Rattle.text.specs.Sheet.{shapeWord, orderWord, rowWord, rowCount, rowWidth, rowsText, resultText}

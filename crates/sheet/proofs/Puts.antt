@@ -1,11 +1,11 @@
 -- Texts put one behind the other: what is left to be put leads to the whole. From the law of runs of stores.
 use mathlib.Core.Path.{_≡_, refl, sym, ap, _∙_}
 use mathlib.Core.List.{List, [], _∷_, _++_, append-nil}
-use Prim.Native.Nat.{ℕ, zero, suc, _+_, _-_, _*_, _<_, _≤_}
+use Prim.Native.Nat.{ℕ, _+_, _-_, _<_, _≤_}
 use native.Mathlib.Omega.{arith}
 use native.Mathlib.Numerals.{add-one}
-use lib.ListN.{length, set, take, drop, getD, length-append, length-set, length-drop, drop-of-length-le}
-use lib.Seq.{sets, length-sets, length-take-le, getD-take, getD-drop}
+use lib.ListN.{length, set, drop, getD, length-append, length-set, drop-of-length-le}
+use lib.Seq.{sets, length-sets}
 use Rattle.text.specs.Print.{tabByte, decimal, field, fields}
 use Rattle.sheet.specs.Put.{Room, Put}
 use Rattle.lists.proofs.Front.{drop-next, drop-end}

@@ -2,8 +2,8 @@
 -- of rows left going down by one.
 use mathlib.Core.Path.{_≡_, refl, sym, ap, _∙_}
 use mathlib.Core.Bool.{Bool, true, false, not}
-use mathlib.Core.List.{List, [], _∷_, _++_, append-assoc, append-nil}
-use Prim.Native.Nat.{ℕ, zero, suc, _+_, _-_, _*_, _<_, _≤_}
+use mathlib.Core.List.{List, [], _∷_, _++_, append-assoc}
+use Prim.Native.Nat.{ℕ, suc, _+_, _-_, _*_, _<_, _≤_}
 use native.Mathlib.Omega.{arith}
 use lib.ListN.{length, drop, getD, drop-of-length-le}
 use lib.Seq.{sets}
@@ -13,7 +13,7 @@ use borrow.Author.Tests.{not-true, not-false}
 use Rattle.text.specs.Print.{lineFeed}
 use Rattle.text.specs.Read.{Reading, readFields, readLine}
 use Rattle.text.specs.Sheet.{rowWord, rowCount, rowWidth}
-use Rattle.text.specs.Meaning.{Verdict, onLine, onward, behind, ended, rowLines}
+use Rattle.text.specs.Meaning.{Verdict, behind, ended, rowLines}
 use Rattle.text.proofs.Lines.{fields-text}
 use Rattle.text.proofs.Steps.{behind-go}
 use Rattle.sheet.specs.Place.{At, RowsAt, RowsThere, RowsTaken, There, wordsOf, numbersOf}

@@ -1,11 +1,11 @@
 -- A run of fields, one field more or none: what a loop over fields carries. By induction on the fields read so far.
 use mathlib.Core.Path.{_≡_, refl, sym, ap, _∙_}
 use mathlib.Core.List.{List, [], _∷_, _++_}
-use Prim.Native.Nat.{ℕ, zero, suc, _+_, _<_, _≤_}
+use Prim.Native.Nat.{ℕ, zero, suc, _+_, _<_}
 use native.Mathlib.Omega.{arith}
 use native.Mathlib.Nat.{le-of-suc-le-suc}
 use native.Mathlib.Numerals.{add-one}
-use lib.ListN.{length, drop}
+use lib.ListN.{drop}
 use mathlib.Core.Bool.{Bool, false, true, not}
 use borrow.Author.Tests.{not-true, not-false}
 use Rattle.text.specs.Read.{Reading, after, readField, readFields}

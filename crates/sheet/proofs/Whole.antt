@@ -1,13 +1,13 @@
 -- The whole sheet from its steps: the first step that refuses is the outcome, and where none does the sheet is accepted; and what
 -- the reader then promises. From the definitions.
-use mathlib.Core.Path.{_≡_, refl, sym, ap, _∙_}
-use mathlib.Core.List.{List, [], _∷_, _++_}
+use mathlib.Core.Path.{_≡_, sym, ap, _∙_}
+use mathlib.Core.List.{List, _++_}
 use Prim.Native.Nat.{ℕ, _+_, _≤_}
 use native.Mathlib.Omega.{arith}
 use lib.ListN.{length, drop}
 use lib.Seq.{sets, sets-eq}
 use Rattle.text.specs.Sheet.{rowCount, rowWidth}
-use Rattle.text.specs.Meaning.{Verdict, Outcome, shapeLine, chainLine, rowLines, meaning}
+use Rattle.text.specs.Meaning.{Outcome, shapeLine, chainLine, rowLines, meaning}
 use Rattle.text.proofs.Accepted.{ShapeRead, shape-read}
 use Rattle.text.proofs.Rows.{rows-text, rows-volume}
 use Rattle.sheet.specs.declared.Sheet.{Sheet}

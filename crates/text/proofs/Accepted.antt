@@ -1,17 +1,17 @@
 -- A sheet is accepted exactly when its bytes are the text of lengths, chain and words that pass the checks, and those are the
 -- ones answered. Each step of the meaning is taken apart by the laws of steps, each line by the law of lines.
 use mathlib.Core.Path.{_≡_, refl, sym, ap, _∙_}
-use mathlib.Core.Bool.{Bool, true, false, cond, _||_}
+use mathlib.Core.Bool.{Bool, false}
 use mathlib.Core.List.{List, [], _∷_, _++_}
 use mathlib.Core.Logic.{_↔_}
-use Prim.Native.Nat.{ℕ, zero, suc, _+_, _*_, _<_, _≤_}
+use Prim.Native.Nat.{ℕ, _+_, _≤_}
 use native.Mathlib.Omega.{arith}
 use lib.ListN.{length}
 use borrow.Author.Tests.{ltb-false, le-ltb}
 use Rattle.layout.specs.Layout.{volume}
 use Rattle.refusals.specs.Conditions.{some, outOfRange, badLength, shortBuffer, longChain, noSwap, badSwap, firstPlace}
-use Rattle.text.specs.Print.{limit, lineFeed, fields, line}
-use Rattle.text.specs.Read.{Reading, readLine, tabs}
+use Rattle.text.specs.Print.{limit, line}
+use Rattle.text.specs.Read.{readLine, tabs}
 use Rattle.text.specs.Sheet.{shapeWord, chainWord, rowCount, rowWidth, rowsText, sheetText}
 use Rattle.text.specs.Meaning.{Verdict, Outcome, longSheet, bigSheet, refuseIf, onLine, onward, conclude, shapeLine, chainLine, rowLines, meaning}
 use Rattle.refusals.proofs.Some.{either-false}

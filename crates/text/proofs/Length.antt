@@ -1,6 +1,6 @@
 -- The result sheet of at most 1,024 words has at most 16,384 bytes: a number has at most ten digits, a row at least one word.
 -- By induction on the numbers and on the rows.
-use mathlib.Core.Path.{_≡_, refl, sym, ap, _∙_}
+use mathlib.Core.Path.{_≡_, ap, _∙_}
 use mathlib.Core.Bool.{false}
 use mathlib.Core.List.{List, [], _∷_, _++_}
 use mathlib.Core.Logic.{⊎-elim}

@@ -1,21 +1,20 @@
 -- A line is read exactly where its text stands: reading it gives vs and the rest exactly when the bytes are the line of vs
 -- followed by the rest. Fields by induction on their count, each by the law of numbers.
 use mathlib.Core.Path.{_≡_, refl, sym, ap, _∙_}
-use mathlib.Core.Bool.{Bool, true, false, cond}
+use mathlib.Core.Bool.{Bool, true, false}
 use mathlib.Core.List.{List, [], _∷_, _++_, append-assoc}
 use mathlib.Core.Logic.{_↔_, ⊎-elim}
-use Prim.Native.Nat.{ℕ, zero, suc, _+_, _*_, _/_, _%_, _<_, _≤_}
+use Prim.Native.Nat.{ℕ, zero, suc, _+_, _/_, _%_, _<_, _≤_}
 use native.Mathlib.Omega.{arith}
-use native.Mathlib.Numerals.{add-one}
-use lib.Dec.{T, ltb, eqb}
-use lib.ListN.{length, take, drop, length-append, take-append-drop}
+use lib.Dec.{T, eqb}
+use lib.ListN.{length, take, drop, take-append-drop}
 use lib.Seq.{take-append-seam, drop-append-seam}
-use borrow.Author.Tests.{lt-ltb, le-ltb, eqb-true, eq-eqb, ne-eqb}
+use borrow.Author.Tests.{lt-ltb, le-ltb, eqb-true, ne-eqb}
 use Rattle.lists.specs.Same.{same}
 use Rattle.lists.proofs.Test.{same→eq, eq→same}
 use Rattle.lists.proofs.Decide.{decided, lt-or-ge}
 use Rattle.text.specs.Print.{limit, tabByte, lineFeed, digits, decimal, field, fields, line}
-use Rattle.text.specs.Read.{Reading, after, readNumber, readField, readFields, closed, readLine, tabs}
+use Rattle.text.specs.Read.{Reading, after, readField, readFields, closed, readLine, tabs}
 use Rattle.text.proofs.Numbers.{Stops, number-text, text-number}
 
 -- numbers that a sheet can hold

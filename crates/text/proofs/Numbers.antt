@@ -7,11 +7,10 @@ use mathlib.Core.Logic.{⊎-elim}
 use Prim.Native.Nat.{ℕ, zero, suc, _+_, _-_, _*_, _/_, _%_, _^_, _<_, _≤_}
 use native.Mathlib.Omega.{arith}
 use lib.Dec.{ltb, leb, eqb}
-use lib.ListN.{length, length-append}
-use borrow.Author.Tests.{ltb-true, ltb-false, leb-true, leb-false, eqb-true, eqb-false, lt-ltb, le-ltb, le-leb, lt-leb, eq-eqb, ne-eqb}
+use borrow.Author.Tests.{ltb-false, leb-true, leb-false, eqb-true, eqb-false, lt-ltb, le-ltb, le-leb, ne-eqb}
 use Rattle.lists.proofs.Decide.{decided, lt-or-ge}
 use Rattle.text.specs.Print.{limit, digits, decimal}
-use Rattle.text.specs.Read.{Reading, isDigit, readMore, readNumber, tabs}
+use Rattle.text.specs.Read.{Reading, isDigit, readMore, readNumber}
 
 -- what no digit begins: the end, or another byte
 pub data Stops : List ℕ → Type 0 where

@@ -1,17 +1,16 @@
 -- Rows are read exactly where their text stands, with nothing after them. By induction on the count of rows, each by the law of lines.
-use mathlib.Core.Path.{_≡_, refl, sym, ap, _∙_, subst}
-use mathlib.Core.Bool.{Bool, true, false}
-use mathlib.Core.List.{List, [], _∷_, _++_, append-nil}
+use mathlib.Core.Path.{_≡_, refl, ap, _∙_}
+use mathlib.Core.List.{List, [], _∷_, _++_}
 use Prim.Native.Nat.{ℕ, zero, suc, _+_, _-_, _*_, _<_, _≤_}
 use native.Mathlib.Omega.{arith}
-use native.Mathlib.Nat.{mul-one, one-mul, mul-assoc}
-use lib.ListN.{length, take, drop, getD, length-append, length-take, length-drop, take-append-drop}
+use native.Mathlib.Nat.{mul-assoc}
+use lib.ListN.{length, take, drop, getD, length-append, length-drop, take-append-drop}
 use lib.Seq.{take-at, drop-at, length-take-le}
 use Rattle.layout.specs.Layout.{volume}
-use Rattle.text.specs.Print.{limit, line}
-use Rattle.text.specs.Read.{Reading, readLine}
+use Rattle.text.specs.Print.{line}
+use Rattle.text.specs.Read.{readLine}
 use Rattle.text.specs.Sheet.{rowWord, rowCount, rowWidth, rowsText}
-use Rattle.text.specs.Meaning.{Verdict, onLine, onward, behind, ended, rowLines}
+use Rattle.text.specs.Meaning.{Verdict, onLine, behind, ended, rowLines}
 use Rattle.text.proofs.Lines.{Small, Stands, line-text, text-line}
 use Rattle.text.proofs.Steps.{on-line-go, onward-go, behind-go, ended-go}
 

@@ -1,7 +1,6 @@
 -- `job` meets its contract: what the reader answers says which outcome it is, and each outcome has its law.
-use mathlib.Core.Path.{_≡_, sym}
+use mathlib.Core.Path.{sym}
 use native.Mathlib.Omega.{arith}
-use lib.ListN.{length}
 use borrow.Author.Needs.{needs}
 use Rattle.job.proofs.Readings.{turned-away, taken}
 use Rattle.job.proofs.Done.{met-refused, met-accepted}

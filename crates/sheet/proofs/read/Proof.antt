@@ -1,6 +1,4 @@
 -- `read` meets its contract: the first step that refuses is the answer; where none does, the rows judged right are stored.
-use mathlib.Core.Path.{_≡_, refl}
-use native.Mathlib.Omega.{arith}
 use borrow.Author.Needs.{needs}
 use Rattle.sheet.proofs.Whole.{first-refused, shape-on-sheet, second-refused, rows-refused, all-read}
 use Rattle.sheet.proofs.read.Statement.{statement}

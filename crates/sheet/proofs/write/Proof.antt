@@ -1,7 +1,6 @@
 -- `write` meets its contract: the first check that holds is its number; where none of those before 24 does, `put_result` answers.
 use borrow.Author.Needs.{needs}
 use Rattle.lists.proofs.Via.{via}
-use Rattle.sheet.specs.Place.{OnSheet}
 use Rattle.sheet.proofs.Block.{on-sheet}
 use Rattle.sheet.proofs.Writes.{refused-block, refused-order}
 use Rattle.sheet.proofs.write.Statement.{statement}

@@ -1,7 +1,7 @@
 -- `more_at` meets its contract. The loop's invariant: reading on from the value so far at the place reached is reading on
 -- from the start. Each way out is what the byte there says.
 use mathlib.Core.Path.{_≡_, refl, _∙_}
-use Prim.Native.Nat.{ℕ, _-_, _≤_}
+use Prim.Native.Nat.{_-_, _≤_}
 use native.Mathlib.Omega.{arith}
 use lib.ListN.{length, drop}
 use Rattle.text.specs.Print.{limit}

@@ -1,7 +1,7 @@
 -- `fields_at` meets its contract. The loop's invariant: the fields passed were read, and the bytes from the place reached on follow them.
 use native.Mathlib.Omega.{arith}
 use mathlib.Core.Path.{_≡_}
-use Prim.Native.Nat.{ℕ, _-_, _≤_}
+use Prim.Native.Nat.{_-_, _≤_}
 use lib.ListN.{length, drop}
 use Rattle.text.specs.Read.{Reading, readFields}
 use Rattle.sheet.specs.Place.{numbersOf}
@@ -17,8 +17,7 @@ Inv-loop bytes at n p₀ i₀ p i =
     × (readFields i (drop at bytes) ≡ Reading.found (numbersOf (readFields i (drop at bytes))) (drop p bytes))
 
 abbrev μ-loop : tie.MeasureT-loop
-μ-loop bytes at n p₀ i₀ p i =
-    n - i
+μ-loop bytes at n p₀ i₀ p i = n - i
 
 abbrev Start : Type 0
 Start = tie.Start Inv-loop μ-loop

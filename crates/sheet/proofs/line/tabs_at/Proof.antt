@@ -1,7 +1,7 @@
 -- `tabs_at` meets its contract. The loop's invariant: the tabs counted and those still to come are all.
 use native.Mathlib.Omega.{arith}
 use mathlib.Core.Path.{_≡_}
-use Prim.Native.Nat.{ℕ, _+_, _-_, _≤_}
+use Prim.Native.Nat.{_+_, _-_, _≤_}
 use mathlib.Core.Logic.{⊎-elim}
 use lib.ListN.{length, drop}
 use Rattle.text.specs.Read.{tabs}
@@ -15,8 +15,7 @@ Inv-loop bytes at count₀ p₀ count p =
     (p ≤ length bytes) × (count ≤ p) × (tabs (drop at bytes) ≡ count + tabs (drop p bytes))
 
 abbrev μ-loop : tie.MeasureT-loop
-μ-loop bytes at count₀ p₀ count p =
-    length bytes - p
+μ-loop bytes at count₀ p₀ count p = length bytes - p
 
 abbrev Start : Type 0
 Start = tie.Start Inv-loop μ-loop

@@ -1,6 +1,6 @@
 -- `word_at` meets its contract. The loop's invariant: the word stands there exactly where what is left of it stands further on.
 use mathlib.Core.Path.{_≡_, sym, _∙_}
-use Prim.Native.Nat.{ℕ, _+_, _-_, _≤_}
+use Prim.Native.Nat.{_+_, _-_, _≤_}
 use lib.ListN.{length, take, drop}
 use Rattle.lists.specs.Same.{same}
 use Rattle.sheet.proofs.LinesAt.{agrees, word-start, word-end, word-step, word-other, word-short}

@@ -1,7 +1,7 @@
 -- `put_rows` meets its contract. The loop's invariant: the rows left lead to all rows.
 use native.Mathlib.Omega.{arith}
 use mathlib.Core.Path.{_≡_}
-use Prim.Native.Nat.{ℕ, _+_, _-_, _*_, _<_, _≤_}
+use Prim.Native.Nat.{_+_, _-_, _*_, _≤_}
 use lib.ListN.{length, drop}
 use Rattle.text.specs.Sheet.{rowsText}
 use Rattle.sheet.proofs.RowsFrom.{room-left}

@@ -1,6 +1,6 @@
 -- `digits_of` meets its contract. The loop's invariant: the digits counted and those of what is left are all, and one.
 use mathlib.Core.Path.{_≡_}
-use Prim.Native.Nat.{ℕ, _+_, _≤_}
+use Prim.Native.Nat.{_+_, _≤_}
 use lib.ListN.{length}
 use borrow.Author.Needs.{needs}
 use Rattle.text.specs.Print.{decimal}
@@ -15,8 +15,7 @@ Inv-loop v count₀ left₀ count left =
     (left ≤ v) × (length (decimal v) + 1 ≡ count + length (decimal left))
 
 abbrev μ-loop : tie.MeasureT-loop
-μ-loop v count₀ left₀ count left =
-    left
+μ-loop v count₀ left₀ count left = left
 
 abbrev Loop : Type 0
 Loop = tie.At-loop Inv-loop μ-loop

@@ -1,6 +1,5 @@
 -- `put_field` meets its contract: a tab, and what `put_number` puts behind it.
 use native.Mathlib.Omega.{arith}
-use borrow.Author.Needs.{needs}
 use Rattle.sheet.proofs.Puts.{field-in, field-room, field-put, put-length}
 use Rattle.sheet.proofs.put.put_field.Statement.{statement}
 use Rattle.sheet.proofs.put.put_field.Tie as tie

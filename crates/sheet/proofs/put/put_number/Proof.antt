@@ -1,7 +1,7 @@
 -- `put_number` meets its contract. The loop's invariant: the digits of what is left, put before those that stand, are the number.
 use native.Mathlib.Omega.{arith}
-use mathlib.Core.Path.{_≡_, refl, sym, ap, _∙_}
-use Prim.Native.Nat.{ℕ, suc, _+_, _-_, _/_, _%_, _≤_}
+use mathlib.Core.Path.{_≡_, refl, sym, _∙_}
+use Prim.Native.Nat.{suc, _+_, _-_, _/_, _%_, _≤_}
 use lib.ListN.{length, set, length-set}
 use lib.Seq.{sets}
 use Rattle.text.specs.Print.{decimal}
@@ -16,8 +16,7 @@ Inv-loop out₀ at v next left₀ p₀ out left p =
     × (sets out at (spell (p - at) left) ≡ sets out₀ at (decimal v))
 
 abbrev μ-loop : tie.MeasureT-loop
-μ-loop out₀ at v next left₀ p₀ out left p =
-    p - at
+μ-loop out₀ at v next left₀ p₀ out left p = p - at
 
 abbrev Start : Type 0
 Start = tie.Start Inv-loop μ-loop

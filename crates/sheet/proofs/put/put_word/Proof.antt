@@ -1,7 +1,7 @@
 -- `put_word` meets its contract. The loop's invariant: the bytes left of the word lead to the whole word.
 use native.Mathlib.Omega.{arith}
 use mathlib.Core.Path.{_≡_, refl}
-use Prim.Native.Nat.{ℕ, _+_, _-_, _≤_}
+use Prim.Native.Nat.{_+_, _-_, _≤_}
 use lib.ListN.{length, drop}
 use borrow.Author.Needs.{needs}
 use Rattle.sheet.proofs.Puts.{Leads, leads-start, next-byte, all-bytes}
@@ -13,8 +13,7 @@ Inv-loop out₀ at word i₀ i-end out i =
     (i ≤ i-end) × (i-end ≡ length word) × Leads out₀ at word out (at + i) (drop i word)
 
 abbrev μ-loop : tie.MeasureT-loop
-μ-loop out₀ at word i₀ i-end out i =
-    i-end - i
+μ-loop out₀ at word i₀ i-end out i = i-end - i
 
 abbrev Start : Type 0
 Start = tie.Start Inv-loop μ-loop

@@ -1,6 +1,5 @@
 -- `rows_at` meets its contract. The loop's invariant: the words of the rows passed stand before what the rows left read as.
-use mathlib.Core.Path.{_≡_}
-use Prim.Native.Nat.{ℕ, _-_, _≤_}
+use Prim.Native.Nat.{_-_, _≤_}
 use native.Mathlib.Omega.{arith}
 use lib.ListN.{length}
 use borrow.Author.Needs.{needs}

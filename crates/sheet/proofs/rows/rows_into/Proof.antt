@@ -1,5 +1,5 @@
 -- `rows_into` meets its contract: the rows are those of the lengths, and they are stored only where all of them are right.
-use mathlib.Core.Path.{_≡_, ap, _∙_}
+use mathlib.Core.Path.{ap, _∙_}
 use native.Mathlib.Omega.{arith}
 use lib.ListN.{length, drop}
 use lib.Seq.{length-sets}

@@ -2,11 +2,11 @@
 use Rattle.sheet.proofs.RowsFrom.{no-words}
 use native.Mathlib.Omega.{arith}
 use mathlib.Core.Path.{_≡_, refl, sym, ap, _∙_}
-use mathlib.Core.List.{List, [], _∷_, _++_}
-use Prim.Native.Nat.{ℕ, _+_, _-_, _*_, _<_, _≤_}
+use mathlib.Core.List.{List, []}
+use Prim.Native.Nat.{ℕ, _+_, _-_, _*_, _≤_}
 use lib.ListN.{length, drop}
 use lib.Seq.{sets, length-sets}
-use Rattle.text.specs.Meaning.{Verdict, rowLines}
+use Rattle.text.specs.Meaning.{rowLines}
 use Rattle.sheet.specs.Place.{RowsThere, wordsOf, numbersOf}
 use Rattle.sheet.proofs.Stores.{sets-append}
 use Rattle.sheet.proofs.RowsFrom.{rowsLeft, rowFields, RowAt, row-at, room-left}
@@ -21,8 +21,7 @@ Inv-loop bytes at count n words₀ p₀ from₀ i₀ words p from i =
     × (sets words from (wordsOf (rowsLeft count n i (drop p bytes))) ≡ sets words₀ 0 (wordsOf (rowLines 3 count n (drop at bytes))))
 
 abbrev μ-loop : tie.MeasureT-loop
-μ-loop bytes at count n words₀ p₀ from₀ i₀ words p from i =
-    count - i
+μ-loop bytes at count n words₀ p₀ from₀ i₀ words p from i = count - i
 
 abbrev Start : Type 0
 Start = tie.Start Inv-loop μ-loop
@@ -52,9 +51,6 @@ loop-holds c =
     let z : start .args .count - 0 ≡ start .args .count = omega arith in
     (omega arith, start .pre .0, refl, rw z (omega (arith, start .pre .1)), rw z (start .pre .2), rw z)
 
-add-words-into : tie.Need-add-words-into Inv-loop μ-loop
-add-words-into c = omega (arith, row c .inside)
-
 words-into-requires : tie.Need-words-into-requires Inv-loop μ-loop
 words-into-requires c κs =
     let t : tie.In-loop Inv-loop μ-loop = search in
@@ -64,9 +60,6 @@ add-p : tie.Need-add-p Inv-loop μ-loop
 add-p c =
     let q : tie.After-words-into Inv-loop μ-loop = search in
     omega (arith, row (search) .onwards (q .words-into .result) (q .words-into .ensures .read) .0)
-
-add-from : tie.Need-add-from Inv-loop μ-loop
-add-from c = omega (arith, room (search))
 
 loop-again : tie.Need-loop-again Inv-loop μ-loop
 loop-again c =
@@ -112,10 +105,10 @@ store-rows-spec =
     Inv-loop
     μ-loop
     loop-holds
-    add-words-into
+    (λ c. omega (arith, row c .inside))
     words-into-requires
     add-p
-    add-from
+    (λ c. omega (arith, room (search)))
     (search needs)
     (search needs)
     loop-again

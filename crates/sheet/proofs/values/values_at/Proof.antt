@@ -2,11 +2,11 @@
 use lib.ListN.{set}
 use Rattle.text.proofs.Lines.{fields-text}
 use native.Mathlib.Omega.{arith}
-use mathlib.Core.Path.{_≡_, refl, sym, ap, _∙_}
-use mathlib.Core.List.{List, [], _∷_, _++_}
-use Prim.Native.Nat.{ℕ, _+_, _-_, _<_, _≤_}
-use lib.ListN.{length, drop, replicate}
-use Rattle.text.specs.Read.{Reading, readField, readFields}
+use mathlib.Core.Path.{_≡_, sym, ap, _∙_}
+use mathlib.Core.List.{List, _++_}
+use Prim.Native.Nat.{ℕ, _+_, _-_, _≤_}
+use lib.ListN.{drop, replicate}
+use Rattle.text.specs.Read.{Reading, readFields}
 use Rattle.sheet.specs.Place.{numbersOf}
 use Rattle.sheet.proofs.Runs.{got, no-field, fields-more, taken-field}
 use Rattle.sheet.proofs.Stores.{zeros-more}
@@ -20,8 +20,7 @@ Inv-loop bytes at n out₀ p₀ i₀ out p i =
     × (out ≡ numbersOf (readFields i (drop at bytes)) ++ replicate (32 - i) 0)
 
 abbrev μ-loop : tie.MeasureT-loop
-μ-loop bytes at n out₀ p₀ i₀ out p i =
-    n - i
+μ-loop bytes at n out₀ p₀ i₀ out p i = n - i
 
 abbrev Start : Type 0
 Start = tie.Start Inv-loop μ-loop
@@ -35,9 +34,7 @@ loop-holds c =
     let bs = drop (start .args .at) (start .args .bytes .now) in (omega arith, got (no-field bs), rw (no-field bs))
 
 array-write-out : tie.Need-array-write-out Inv-loop μ-loop
-array-write-out c =
-    let start : Start = search in
-    omega (arith, start .pre .0)
+array-write-out c = let start : Start = search in omega (arith, start .pre .0)
 
 loop-again : tie.Need-loop-again Inv-loop μ-loop
 loop-again c =

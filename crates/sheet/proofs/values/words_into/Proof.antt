@@ -3,9 +3,9 @@ use lib.ListN.{set, length-set}
 use Rattle.text.proofs.Lines.{fields-text, field-text}
 use native.Mathlib.Omega.{arith}
 use mathlib.Core.Path.{_≡_, refl, sym, ap, _∙_}
-use mathlib.Core.List.{List, [], _∷_, _++_}
-use Prim.Native.Nat.{ℕ, _+_, _-_, _<_, _≤_}
-use lib.ListN.{length, drop, replicate}
+use mathlib.Core.List.{List}
+use Prim.Native.Nat.{ℕ, _+_, _-_, _≤_}
+use lib.ListN.{length, drop}
 use Rattle.text.specs.Read.{Reading, readField, readFields}
 use Rattle.sheet.specs.Place.{numbersOf}
 use Rattle.sheet.proofs.Runs.{got, no-field, fields-more, taken-field}
@@ -21,8 +21,7 @@ Inv-loop bytes at n words₀ from p₀ i₀ words p i =
     × (length words ≡ length words₀) × (p ≤ length bytes) × (words ≡ sets words₀ from (numbersOf (readFields i (drop at bytes))))
 
 abbrev μ-loop : tie.MeasureT-loop
-μ-loop bytes at n words₀ from p₀ i₀ words p i =
-    n - i
+μ-loop bytes at n words₀ from p₀ i₀ words p i = n - i
 
 abbrev Start : Type 0
 Start = tie.Start Inv-loop μ-loop
@@ -58,7 +57,6 @@ cast-words : tie.Need-cast-words Inv-loop μ-loop
 cast-words c =
     let at-loop : Loop = search in
     let start : Start = search in
-    let bs = drop (start .args .at) (start .args .bytes .now) in
     omega (arith, field-text (drop (at-loop .loop .p) (start .args .bytes .now)) (again c) .1)
 
 loop-again : tie.Need-loop-again Inv-loop μ-loop

@@ -3,7 +3,7 @@
 -- that is known whole, so what `rows` says of the last list is said of `out`'s. The borrow is given up for good. The three texts
 -- put one behind the other are the result sheet (`Puts.antt`).
 use mathlib.Core.Path.{_≡_, refl, sym, ap, subst}
-use mathlib.Core.List.{[], _∷_, List, _++_}
+use mathlib.Core.List.{[], _∷_, List}
 use Prim.Native.Nat.{ℕ, _<_, _≤_, _^_}
 use lib.Dec.{T as Holds}
 use lib.ListN.{length}
