@@ -22,3 +22,5 @@ pub mod Falling
 pub mod Rising
 -- the computed plan is the plan, and how long it is
 pub mod Plans
+-- the need of a chain: read off the entry shape, of chains joined, of a chain run backwards
+pub mod Needs
