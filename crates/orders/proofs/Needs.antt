@@ -3,7 +3,7 @@
 -- a chain run backwards needs what the chain needs, on the shape that came back and on the entry shape. By induction on the chain.
 use mathlib.Core.Path.{_≡_, refl, sym, ap, ap₂, _∙_}
 use mathlib.Core.List.{List, [], _∷_, _++_, reverse, reverse-cons}
-use Prim.Native.Nat.{ℕ, zero, suc, _+_, _<_, _≤_, max}
+use Prim.Native.Nat.{ℕ, zero, suc, _+_, _<_, _≤_, zero-le, max}
 use native.Mathlib.Nat.{not-suc-le-zero, le-of-suc-le-suc, zero-max, max-zero, max-comm}
 use native.Mathlib.Numerals.{add-one}
 use native.Mathlib.Omega.{arith}
@@ -19,6 +19,9 @@ max-assoc a b c = omega arith
 -- a number that both of two count, and that they may each count
 pub max-share : (e a b : ℕ) → max e (max a b) ≡ max (max e a) (max e b)
 max-share e a b = omega arith
+
+larger-part : (e : ℕ) {a b : ℕ} → a ≤ b → max e a ≤ max e b
+larger-part e h = omega arith
 
 two-at : (k : ℕ) (ds : List ℕ) → suc k < length ds → exchanged k ds ≡ max (getD ds k 0) (getD ds (suc k) 0)
 unfolding exchanged
@@ -90,6 +93,13 @@ entry-append : (ds s t : List ℕ) → entryNeed ds (s ++ t) ≡ max (entryNeed 
 unfolding entryNeed
 entry-append ds [] t = sym (zero-max (entryNeed ds t))
 entry-append ds (k ∷ s) t = ap (max (exchanged k ds)) (entry-append ds s t) ∙ max-assoc (exchanged k ds) (entryNeed ds s) (entryNeed ds t)
+
+-- the first swaps of a chain need no more than the chain
+pub need-part : (ds c : List ℕ) (i : ℕ) → chainNeed ds (take i c) ≤ chainNeed ds c
+unfolding chainNeed
+need-part ds c zero = zero-le
+need-part ds [] (suc i) = zero-le
+need-part ds (k ∷ c) (suc i) = larger-part (exchanged k ds) (need-part (exchange k ds) c i)
 
 -- one swap more at the end
 pub need-more : (ds c : List ℕ) (i : ℕ) → i < length c

@@ -1,5 +1,5 @@
 -- `axes::chain` meets its promise: a refusal changes nothing, and what is accepted runs.
-use mathlib.Core.Path.{_≡_, sym}
+use mathlib.Core.Path.{_≡_}
 use Prim.Native.Nat.{ℕ}
 use native.Mathlib.Omega.{arith}
 use lib.ListN.{length}
@@ -52,7 +52,7 @@ chain-spec =
     (search needs)
     (search needs)
     returns-2
-    (λ c κs. let n : tie.After-chain-number = search in sym (first (search) (n .chain-number .ensures) (search)))
+    (λ c κs. let n : tie.After-chain-number = search in via (n .chain-number .ensures) (search))
     (search needs)
     (search needs)
     (λ c. let r : tie.After-run = search in r .run .ensures))
