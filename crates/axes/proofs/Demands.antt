@@ -23,6 +23,7 @@ use Rattle.orders.proofs.Layouts.{chain-joined, chain-home, chain-once}
 use Rattle.orders.proofs.Numbers.{number-below, order-number}
 use Rattle.orders.proofs.Plans.{plan-places}
 use Rattle.orders.proofs.Needs.{need-append, need-back}
+use Rattle.orders.proofs.PlanNeeds.{plan-least}
 use Rattle.refusals.specs.FirstOf.{Check, check, firstOf}
 use Rattle.refusals.specs.Conditions.{shortScratch, badSwap}
 use Rattle.refusals.specs.Calls.{chainChecks, requestChecks, planChecks}
@@ -207,6 +208,10 @@ module _ {r : ℕ} {ds c xs ss ss′ : List ℕ} {a a′ : Answer} {ys ts zs us 
       (Silent.more (le-ltb 6 (length (planOf (orderOf r (a .order)))) (omega (arith, plan-places r (a .order) low)))
       (Silent.more (le-ltb (length ss′) (planNeed r ds (a .order)) room) Silent.none)) in
       q .block .number-is ∙ by-last ds xs (planChecks r (a .order) ++ need) (sym (block-zero (ran axes p e .block))) refl ∙ silent-zero few
+
+  -- scratch that was enough for the chain is enough for the request
+  pub enough-asked : planNeed r ds (a .order) ≤ chainNeed ds c
+  enough-asked = rw (new-order axes p e) (plan-least ds c axes)
 
   pub one-meaning : (a′ .number ≡ 0) × Alike a a′ ys zs
   one-meaning = (

@@ -24,3 +24,5 @@ pub mod Rising
 pub mod Plans
 -- the need of a chain: read off the entry shape, of chains joined, of a chain run backwards
 pub mod Needs
+-- the need of a plan is the longest axis that falls, no chain of its order needs less, and the inverse order needs the same
+pub mod PlanNeeds

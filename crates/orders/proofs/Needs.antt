@@ -20,10 +20,10 @@ max-assoc a b c = omega arith
 pub max-share : (e a b : ℕ) → max e (max a b) ≡ max (max e a) (max e b)
 max-share e a b = omega arith
 
-larger-part : (e : ℕ) {a b : ℕ} → a ≤ b → max e a ≤ max e b
+pub larger-part : (e : ℕ) {a b : ℕ} → a ≤ b → max e a ≤ max e b
 larger-part e h = omega arith
 
-two-at : (k : ℕ) (ds : List ℕ) → suc k < length ds → exchanged k ds ≡ max (getD ds k 0) (getD ds (suc k) 0)
+pub two-at : (k : ℕ) (ds : List ℕ) → suc k < length ds → exchanged k ds ≡ max (getD ds k 0) (getD ds (suc k) 0)
 unfolding exchanged
 two-at k [] h = absurd (not-suc-le-zero h)
 two-at zero (a ∷ []) h = absurd (not-suc-le-zero (le-of-suc-le-suc h))
@@ -43,7 +43,7 @@ exchanged-past zero (a ∷ b ∷ l) h = absurd (not-suc-le-zero (le-of-suc-le-su
 exchanged-past (suc k) (a ∷ l) h = exchanged-past k l (le-of-suc-le-suc h)
 
 -- the same swap again exchanges the same axes
-exchanged-again : (k : ℕ) (ds : List ℕ) → exchanged k (exchange k ds) ≡ exchanged k ds
+pub exchanged-again : (k : ℕ) (ds : List ℕ) → exchanged k (exchange k ds) ≡ exchanged k ds
 unfolding exchanged exchange
 exchanged-again k [] = refl
 exchanged-again zero (a ∷ []) = refl

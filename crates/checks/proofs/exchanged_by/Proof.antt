@@ -1,5 +1,5 @@
 -- `exchanged_by` meets its contract: with both places it is the longer of the two axes, else 0.
-use mathlib.Core.Path.{_≡_, sym, _∙_}
+use mathlib.Core.Path.{sym, _∙_}
 use native.Mathlib.Omega.{arith}
 use borrow.Author.Needs.{needs}
 use Rattle.orders.proofs.Needs.{exchanged-two, exchanged-past}
