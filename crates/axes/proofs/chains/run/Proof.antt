@@ -61,8 +61,7 @@ loop-again c =
     let s : tie.After-swap-at Inv-loop μ-loop = search in
     let l : Loop = search in
     let x : Start = search in
-    let made = s .swap-at .ensures in
-    (
+    let made = s .swap-at .ensures in (
       refl,
       omega arith,
       one-swap _ (axes x) _ _ _ (l .loop .inv .2) (accepts x) (omega arith) (made .0) (made .1) (n .swapped .ensures) (c .next-order .ensures),
