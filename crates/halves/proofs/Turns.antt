@@ -12,10 +12,10 @@ use lib.Arith.{digits-lt}
 use Rattle.lists.proofs.Decide.{lt-or-ge}
 use Rattle.flat.specs.Turn.{Turn}
 use Rattle.flat.proofs.Turn.{literally, from-literal}
-use Rattle.halves.specs.Runs.{Runs, Merged}
-use Rattle.halves.specs.Block.{Block}
+use Rattle.halves.specs.Merge.{Merged}
+use Rattle.halves.specs.LentSlices.{Runs, Block}
 use Rattle.halves.proofs.Merges.{in-front, behind}
-use Rattle.halves.proofs.Cuts.{Both, rows-cut, columns-cut}
+use Rattle.halves.proofs.Cuts.{Parted, Both, rows-cut, columns-cut}
 
 -- the turn of a block that fills the list
 filled : {m n : ℕ} {xs ys : List ℕ} → length xs ≡ m * n → length ys ≡ length xs
@@ -23,6 +23,13 @@ filled : {m n : ℕ} {xs ys : List ℕ} → length xs ≡ m * n → length ys �
 filled {m} {n} {xs} {ys} long same f =
     from-literal m n xs ys same f
     (λ k h. List·getD-eq-default ys 0 {n = k} (omega arith) ∙ sym (List·getD-eq-default xs 0 {n = k} (omega arith)))
+
+-- a block of equal sides: what the exchange across its diagonal asks, and that it is the block's turn
+pub square-fill : {m n : ℕ} {xs : List ℕ} → Block m n xs → m ≡ n → length xs ≡ n * n
+square-fill {n = n} b e = b .fill ∙ ap (λ (m : ℕ). m * n) e
+
+pub square-turned : {m n : ℕ} {xs ys : List ℕ} → m ≡ n → Turn n n xs ys → Turn m n xs ys
+square-turned e t = rw e t
 
 -- h rows and g rows of n words, turned to a and b, and merged to zs
 module _ {h g n : ℕ} (xs : List ℕ) {a b zs : List ℕ} (long : length xs ≡ h * n + g * n)
@@ -115,8 +122,11 @@ module _ {m n : ℕ} {xs : List ℕ} (b : Block m n xs) (h : 1 < n) where
   pub split-runs : Runs m (n / 2) (n - n / 2) xs
   split-runs = record { some = b .rows; fill = b .fill ∙ ap (λ (k : ℕ). m * k) (sym columns-sum) }
 
-  pub split-block : {ys : List ℕ} → Merged m (n / 2) (n - n / 2) ys xs → Block m n ys
+  split-block : {ys : List ℕ} → Merged m (n / 2) (n - n / 2) ys xs → Block m n ys
   split-block s = record { rows = b .rows; columns = b .columns; fill = sym (s .same) ∙ b .fill }
+
+  pub split-parts : {ys : List ℕ} → Merged m (n / 2) (n - n / 2) ys xs → Parted (m * (n / 2)) m (n / 2) m (n - n / 2) ys
+  split-parts s = columns-cut (split-block s) h
 
   pub wide-turned : {ys z : List ℕ} → Merged m (n / 2) (n - n / 2) ys xs → Both (m * (n / 2)) m (n / 2) m (n - n / 2) ys z → Turn m n xs z
   wide-turned {ys} {z} s d =

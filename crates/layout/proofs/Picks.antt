@@ -1,6 +1,6 @@
 -- What stands at each place, taken twice: orders compose, and an order that another undoes brings every list home.
 use mathlib.Core.Path.{_≡_, refl, sym, ap, ap₂, _∙_, subst}
-use mathlib.Core.Bool.{Bool, true, false}
+use mathlib.Core.Bool.{Bool, true, false, cond}
 use mathlib.Core.List.{List, [], _∷_, map}
 use Prim.Native.Nat.{ℕ, zero, suc, _<_, zero-le, suc-le-suc}
 use native.Mathlib.Omega.{arith}
@@ -10,7 +10,6 @@ use lib.ListN.{length, getD, length-map}
 use lib.Seq.{ext-getD}
 use borrow.Author.Tests.{eqb-true, eqb-false}
 use Rattle.lists.specs.Tab.{tab, upto}
-use Rattle.lists.specs.Choose.{choose}
 use Rattle.lists.proofs.Tab.{length-tab, getD-tab, map-tab, tab-getD}
 use Rattle.layout.specs.Layout.{volume, Within, pick, placeOf, places}
 use Rattle.layout.specs.Layout.Within.{none, more}
@@ -76,9 +75,9 @@ undone {r} o l {p} e d b h =
     ∙ pick-upto l
 
 -- a search finds what is there
-found-at : (a b : ℕ) (l : List ℕ) (t : Bool) → eqb a b ≡ t → placeOf a (b ∷ l) ≡ choose t 0 (suc (placeOf a l))
+found-at : (a b : ℕ) (l : List ℕ) (t : Bool) → eqb a b ≡ t → placeOf a (b ∷ l) ≡ cond t 0 (suc (placeOf a l))
 unfolding placeOf
-found-at a b l t q = ap (λ (s : Bool). choose s 0 (suc (placeOf a l))) q
+found-at a b l t q = ap (λ (s : Bool). cond s 0 (suc (placeOf a l))) q
 
 abbrev pub Found : ℕ → List ℕ → Type 0
 Found a l = (placeOf a l < length l) × (getD l (placeOf a l) 0 ≡ a)

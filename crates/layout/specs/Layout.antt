@@ -1,11 +1,11 @@
 -- The layout of a block, over lengths of any number of axes. Assumes nothing: these are definitions.
+use mathlib.Core.Bool.{cond}
 use mathlib.Core.Path.{_≡_}
 use mathlib.Core.List.{List, [], _∷_, _++_, map}
 use Prim.Native.Nat.{ℕ, suc, _+_, _*_, _/_, _%_, _<_, _≤_}
 use lib.Dec.{eqb}
 use lib.ListN.{length, getD, drop}
 use Rattle.lists.specs.Tab.{tab}
-use Rattle.lists.specs.Choose.{choose}
 
 -- the words of a block: its lengths multiplied
 unfoldable pub volume : List ℕ → ℕ
@@ -42,7 +42,7 @@ coords (d ∷ ds) p = p / volume ds ∷ coords ds (p % volume ds)
 -- the first place of a in a list
 unfoldable pub placeOf : ℕ → List ℕ → ℕ
 placeOf a [] = 0
-placeOf a (b ∷ l) = choose (eqb a b) 0 (suc (placeOf a l))
+placeOf a (b ∷ l) = cond (eqb a b) 0 (suc (placeOf a l))
 
 -- for each axis, the place where it stands under the order o
 unfoldable pub places : List ℕ → List ℕ

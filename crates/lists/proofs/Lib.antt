@@ -1,3 +1,10 @@
+-- tabulated lists: what they hold, when two are equal, one store more
 pub mod Tab
+-- one computed test over a table, turned into the rule at each entry
 pub mod Test
+-- a test is decided, and two numbers compare, one way or the other
 pub mod Decide
+-- two facts of one result joined
+pub mod Via
+-- what is left of a list past its first entries
+pub mod Front

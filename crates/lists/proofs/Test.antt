@@ -1,29 +1,29 @@
 -- One computed test over a table, and the laws that turn it into the rule at each entry.
 use mathlib.Core.Path.{_≡_, refl, sym, ap, subst, _∙_}
-use mathlib.Core.Bool.{Bool, true, false}
+use mathlib.Core.Bool.{Bool, true, false, _&&_}
 use mathlib.Core.List.{List, [], _∷_, List·Memᴰ, List·Memᴰ·not-nil, List·Memᴰ·cases-cons}
 use mathlib.Core.Logic.{⊎-elim}
 use Prim.Native.Nat.{ℕ, zero, suc, _<_}
 use native.Mathlib.Nat.{not-suc-le-zero, le-of-suc-le-suc}
 use lib.Dec.{T, eqb, eqb→eq, eqb-refl}
-use Rattle.lists.specs.Choose.{both, same}
+use Rattle.lists.specs.Same.{same}
 
-pub both-left : (a b : Bool) → T (both a b) → T a
+pub both-left : (a b : Bool) → T (a && b) → T a
 both-left true b t = tt
 both-left false b t = t
 
-pub both-right : (a b : Bool) → T (both a b) → T b
+pub both-right : (a b : Bool) → T (a && b) → T b
 both-right true b t = t
 both-right false b t = absurd t
 
-pub both-are : (a b : Bool) → T a → T b → T (both a b)
+pub both-are : (a b : Bool) → T a → T b → T (a && b)
 both-are true b s t = t
 both-are false b s t = s
 
 -- the test passes at every entry
 abbrev pub every : {A : Type 0} → (A → Bool) → List A → Bool
 every f [] = true
-every f (x ∷ xs) = both (f x) (every f xs)
+every f (x ∷ xs) = f x && every f xs
 
 pub at-entry : {A : Type 0} (f : A → Bool) (rs : List A) → T (every f rs) → (r : A) → List·Memᴰ r rs → T (f r)
 at-entry f [] t r m = absurd (List·Memᴰ·not-nil m)
@@ -35,7 +35,7 @@ at-entry f (x ∷ xs) t r m =
 -- the test passes at every number below n
 abbrev pub below : ℕ → (ℕ → Bool) → Bool
 below zero f = true
-below (suc n) f = both (f 0) (below n (λ k. f (suc k)))
+below (suc n) f = f 0 && below n (λ k. f (suc k))
 
 pub at-number : (n : ℕ) (f : ℕ → Bool) → T (below n f) → (k : ℕ) → k < n → T (f k)
 at-number zero f t k h = absurd (not-suc-le-zero h)

@@ -1,2 +1,2 @@
 pub mod Tab
-pub mod Choose
+pub mod Same

@@ -1,5 +1,6 @@
 -- What exchanging two neighbouring labels does to the pairs in falling order: only the pairs of these two labels change.
 -- So in an order that a chain names the count of falling pairs rises or falls by one, and no chain is shorter than that count.
+use mathlib.Core.Bool.{cond}
 use mathlib.Core.Path.{_≡_, refl, sym, ap, _∙_}
 use mathlib.Core.List.{List, [], _∷_, map}
 use mathlib.Core.Logic.{⊎-elim}
@@ -9,7 +10,6 @@ use lib.Dec.{ltb, leb·suc-suc}
 use lib.ListN.{length}
 use borrow.Author.Tests.{lt-ltb, le-ltb}
 use Rattle.lists.specs.Tab.{upto}
-use Rattle.lists.specs.Choose.{choose}
 use Rattle.lists.proofs.Decide.{lt-or-ge}
 use Rattle.layout.specs.Layout.{placeOf}
 use Rattle.orders.specs.Chains.{follow, named}
@@ -20,7 +20,7 @@ use Rattle.orders.proofs.Counts.{equal, equal-one, equal-none, count, p
 
 -- 1 where the first is below the second, else 0
 lower : ℕ → ℕ → ℕ
-lower b a = choose (ltb b a) 1 0
+lower b a = cond (ltb b a) 1 0
 
 lower-one : (b a : ℕ) → b < a → lower b a ≡ 1
 unfolding lower

@@ -1,7 +1,7 @@
 -- Two neighbouring labels exchanged. A swap at the front of a chain exchanges labels of what the rest of the chain names:
 -- it exchanges entries of 0, 1, .., and a chain moves places, whatever stands there.
 use mathlib.Core.Path.{_≡_, refl, sym, ap, _∙_}
-use mathlib.Core.Bool.{Bool, true, false}
+use mathlib.Core.Bool.{Bool, true, false, cond}
 use mathlib.Core.List.{List, [], _∷_, map}
 use Prim.Native.Nat.{ℕ, zero, suc, _<_, _≤_}
 use native.Mathlib.Nat.{not-suc-le-zero, le-of-suc-le-suc}
@@ -9,7 +9,6 @@ use native.Mathlib.Omega.{arith}
 use lib.Dec.{eqb, eqb·suc-suc}
 use borrow.Author.Tests.{eqb-true, eqb-false, eq-eqb, ne-eqb}
 use Rattle.lists.specs.Tab.{tab, upto}
-use Rattle.lists.specs.Choose.{choose}
 use Rattle.lists.proofs.Tab.{length-tab, tab-ext, map-tab}
 use Rattle.orders.specs.Chains.{exchange, follow, named}
 use Rattle.orders.specs.Plans.{relabelled}
@@ -58,7 +57,7 @@ relabel-suc : (k a : ℕ) → relabelled (suc k) (suc a) ≡ suc (relabelled k a
 unfolding relabelled
 relabel-suc k a = rw (eqb·suc-suc a k, eqb·suc-suc a (suc k)) (go (eqb a k) (eqb a (suc k)))
   where
-    go : (s t : Bool) → choose s (suc (suc k)) (choose t (suc k) (suc a)) ≡ suc (choose s (suc k) (choose t k a))
+    go : (s t : Bool) → cond s (suc (suc k)) (cond t (suc k) (suc a)) ≡ suc (cond s (suc k) (cond t k a))
     go true t = refl
     go false true = refl
     go false false = refl

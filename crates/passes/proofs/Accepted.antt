@@ -11,11 +11,14 @@ use Rattle.refusals.specs.FirstOf.{check, firstOf}
 use Rattle.refusals.specs.Conditions.{shortScratch}
 use Rattle.refusals.specs.Calls.{passesChecks}
 use Rattle.refusals.specs.Scratch.{need, cleared}
+use Rattle.refusals.proofs.Promise.{accepted}
 use Rattle.refusals.proofs.Conditions.{Valid, InRange, valid, enough-scratch}
 use Rattle.refusals.proofs.Conditions.InRange.{none, more}
 use Rattle.flat.specs.Turn.{sides, Turn}
-use Rattle.flat.proofs.Turn.{volume-two, from-literal}
-use Rattle.passes.specs.Lines.{Lies, Past, TurnedAt}
+use Rattle.flat.proofs.Turn.{volume-two, from-literal, turn-home}
+use Rattle.passes.specs.ThroughScratch.{Grouped, Lies, Past, TurnedAt}
+use Rattle.passes.specs.Promises.{TurnPromise, TurnBackPromise}
+use Rattle.passes.specs.declared.line.GroupedSides.{GroupedSides}
 use Rattle.passes.proofs.Fits.{side-need}
 
 -- sides and buffers of a flat call that is accepted
@@ -43,11 +46,8 @@ flat-accepted m n buffer scratch e = go (v .0 .lengths)
       room = enough-scratch (need (sides m n)) scratch [] (v .1) .0;
     }
 
-pub accepted-by : {m n r : ℕ} (buffer scratch : List ℕ) → r ≡ firstOf (passesChecks (sides m n) buffer scratch) → r ≡ 0 → Accepted m n buffer scratch
-accepted-by {m} {n} buffer scratch e z = flat-accepted m n buffer scratch (sym e ∙ z)
-
 -- the block of a flat call lies at the buffer's start
-pub flat-lies : {m n : ℕ} {buffer scratch : List ℕ} → Accepted m n buffer scratch → Lies m n 0 1 buffer scratch
+flat-lies : {m n : ℕ} {buffer scratch : List ℕ} → Accepted m n buffer scratch → Lies m n 0 1 buffer scratch
 flat-lies {m} {n} a = record {
   apart = omega arith;
   inside = λ p h. omega (arith, a .enough);
@@ -58,7 +58,7 @@ flat-lies {m} {n} a = record {
 }
 
 -- turned there, it is turned
-pub flat-turned : (m n : ℕ) (xs ys : List ℕ) → TurnedAt m n 0 1 xs ys → Turn m n xs ys
+flat-turned : (m n : ℕ) (xs ys : List ℕ) → TurnedAt m n 0 1 xs ys → Turn m n xs ys
 flat-turned m n xs ys t =
     from-literal m n xs ys (t .same)
     (λ i j hi hj.
@@ -68,8 +68,20 @@ flat-turned m n xs ys t =
     (λ k h. t .others k (λ j d e. omega arith))
 
 -- scratch whose first words are zeroed is cleared, whatever stood there
-pub cleared-past : {k : ℕ} {scratch held : List ℕ} → Past k scratch held → cleared k held ≡ cleared k scratch
-cleared-past {k} {scratch} {held} p =
+pub past-cleared : {k : ℕ} {scratch held : List ℕ} → Past k scratch held → cleared k held ≡ cleared k scratch
+past-cleared {k} {scratch} {held} p =
     ap (λ (l : List ℕ). replicate k 0 ++ l)
     (ext-getD 0 (drop k held) (drop k scratch) (length-drop k held ∙ ap (λ (z : ℕ). z - k) (p .same) ∙ sym (length-drop k scratch))
     (λ i h. getD-drop k held i 0 ∙ p .rest (k + i) (omega arith) ∙ sym (getD-drop k scratch i 0)))
+
+-- what a flat call asks once the sides are grouped, and the outcomes of a block that is turned, or turned home, and of the cleared scratch
+module _ {m n : ℕ} {s : GroupedSides} (is : (s .m ≡ m) × (s .n ≡ n) × Grouped s) where
+  pub flat-asked : {b sc : List ℕ} → Accepted m n b sc → Grouped s × Lies (s .m) (s .n) 0 1 b sc
+  flat-asked a = (is .2, rw (is .0, is .1) (flat-lies a))
+
+  module _ {b₀ sc₀ b sc sc′ : List ℕ} (good : firstOf (passesChecks (sides m n) b₀ sc₀) ≡ 0) (zeroed : sc′ ≡ cleared (need (sides m n)) sc) where
+    pub turn-outcome : TurnedAt (s .m) (s .n) 0 1 b₀ b × Past (need (sides (s .m) (s .n))) sc₀ sc → TurnPromise m n b₀ sc₀ 0 b sc′
+    turn-outcome t = let u = rw (is .0, is .1) at t in accepted good (flat-turned m n b₀ b (u .0)) (zeroed ∙ past-cleared (u .1))
+
+    pub turn-back-outcome : TurnedAt (s .m) (s .n) 0 1 b b₀ × Past (need (sides (s .m) (s .n))) sc₀ sc → TurnBackPromise m n b₀ sc₀ 0 b sc′
+    turn-back-outcome t = let u = rw (is .0, is .1) at t in accepted good (turn-home (flat-turned m n b b₀ (u .0))) (zeroed ∙ past-cleared (u .1))

@@ -8,29 +8,30 @@ use native.Mathlib.Omega.{arith}
 use lib.ListN.{length}
 use Rattle.refusals.specs.Scratch.{need}
 use Rattle.flat.specs.Turn.{sides}
-use Rattle.passes.specs.Lines.{Sound, Lies, Fits, Past, LineMoved, TurnedAt, skipped, lineCount, lineOf}
-use Rattle.passes.specs.declared.line.Sides.{Sides}
+use Rattle.passes.specs.Lines.{LineMoved, skipped, lineCount, lineOf}
+use Rattle.passes.specs.ThroughScratch.{Grouped, Lies, Fits, Past, TurnedAt}
+use Rattle.passes.specs.declared.line.GroupedSides.{GroupedSides}
 use Rattle.passes.proofs.Fits.{line-fits, line-short, past-none, past-more, lies-in}
-use Rattle.passes.proofs.Strided.{Step, skipped-le, lines-turn}
+use Rattle.passes.proofs.Strided.{LineStep, skipped-le, lines-turn}
 use Rattle.passes.proofs.Ran.{Ran, ran-more}
 use Rattle.passes.proofs.Ran.Ran.{done, more}
 
-module _ (s : Sides) (base chunk : ℕ) where
+module _ (s : GroupedSides) (base chunk : ℕ) where
   -- after the first l lines
   pub record Forth (b₀ sc₀ : List ℕ) (l : ℕ) (b sc : List ℕ) : Type 0 where
     pub few : l ≤ lineCount (s .m) (s .n)
-    pub ran : Ran (Step (s .m) (s .n) base chunk) (skipped (s .m) (s .n) + l) (skipped (s .m) (s .n)) b₀ b
+    pub ran : Ran (LineStep (s .m) (s .n) base chunk) (skipped (s .m) (s .n) + l) (skipped (s .m) (s .n)) b₀ b
     pub same : length b ≡ length b₀
     pub past : Past (need (sides (s .m) (s .n))) sc₀ sc
 
   -- with the first l lines left to undo
   pub record Home (b₀ sc₀ : List ℕ) (l : ℕ) (b sc : List ℕ) : Type 0 where
     pub few : l ≤ lineCount (s .m) (s .n)
-    pub ran : Ran (Step (s .m) (s .n) base chunk) (s .n + s .m + s .n) (skipped (s .m) (s .n) + l) b b₀
+    pub ran : Ran (LineStep (s .m) (s .n) base chunk) (s .n + s .m + s .n) (skipped (s .m) (s .n) + l) b b₀
     pub same : length b ≡ length b₀
     pub past : Past (need (sides (s .m) (s .n))) sc₀ sc
 
-module _ {s : Sides} {base chunk : ℕ} {b₀ sc₀ : List ℕ} (sound : Sound s) (lies : Lies (s .m) (s .n) base chunk b₀ sc₀) where
+module _ {s : GroupedSides} {base chunk : ℕ} {b₀ sc₀ : List ℕ} (sound : Grouped s) (lies : Lies (s .m) (s .n) base chunk b₀ sc₀) where
   -- a line that is left fits
   pub going-fits : (l : ℕ) (b sc : List ℕ) → l < lineCount (s .m) (s .n) → length b ≡ length b₀ → Past (need (sides (s .m) (s .n))) sc₀ sc
       → Fits (s .m) (s .n) (lineOf (s .m) (s .n) base chunk l) b sc
@@ -44,7 +45,7 @@ module _ {s : Sides} {base chunk : ℕ} {b₀ sc₀ : List ℕ} (sound : Sound s
   pub forth-none : Forth s base chunk b₀ sc₀ 0 b₀ sc₀
   forth-none = record {
     few = omega arith;
-    ran = subst (λ (z : ℕ). Ran (Step (s .m) (s .n) base chunk) z (skipped (s .m) (s .n)) b₀ b₀) (sym (add-zero (skipped (s .m) (s .n)))) done;
+    ran = subst (λ (z : ℕ). Ran (LineStep (s .m) (s .n) base chunk) z (skipped (s .m) (s .n)) b₀ b₀) (sym (add-zero (skipped (s .m) (s .n)))) done;
     same = refl;
     past = past-none (need (sides (s .m) (s .n))) sc₀;
   }
@@ -54,7 +55,7 @@ module _ {s : Sides} {base chunk : ℕ} {b₀ sc₀ : List ℕ} (sound : Sound s
       → Forth s base chunk b₀ sc₀ (l + 1) b′ sc′
   forth-more {l} {b′ = b′} h f m p = record {
     few = h′;
-    ran = subst (λ (z : ℕ). Ran (Step (s .m) (s .n) base chunk) z (skipped (s .m) (s .n)) b₀ b′) (omega arith) (ran-more (f .ran) m);
+    ran = subst (λ (z : ℕ). Ran (LineStep (s .m) (s .n) base chunk) z (skipped (s .m) (s .n)) b₀ b′) (omega arith) (ran-more (f .ran) m);
     same = m .same ∙ f .same;
     past = past-more (going-short l h) (f .past) p;
   }
@@ -65,12 +66,12 @@ module _ {s : Sides} {base chunk : ℕ} {b₀ sc₀ : List ℕ} (sound : Sound s
   pub forth-all : {l : ℕ} {b sc : List ℕ} → l ≡ lineCount (s .m) (s .n) → Forth s base chunk b₀ sc₀ l b sc → TurnedAt (s .m) (s .n) base chunk b₀ b
   forth-all {l} {b} e f =
       lines-turn (s .m) (s .n) base chunk (sound .m-pos) (sound .n-pos) (lies .apart)
-      (subst (λ (z : ℕ). Ran (Step (s .m) (s .n) base chunk) z (skipped (s .m) (s .n)) b₀ b) (omega (arith, skipped-le (s .m) (s .n))) (f .ran))
+      (subst (λ (z : ℕ). Ran (LineStep (s .m) (s .n) base chunk) z (skipped (s .m) (s .n)) b₀ b) (omega (arith, skipped-le (s .m) (s .n))) (f .ran))
 
   pub home-all : Home s base chunk b₀ sc₀ (lineCount (s .m) (s .n)) b₀ sc₀
   home-all = record {
     few = omega arith;
-    ran = subst (λ (z : ℕ). Ran (Step (s .m) (s .n) base chunk) (s .n + s .m + s .n) z b₀ b₀) (omega (arith, skipped-le (s .m) (s .n))) done;
+    ran = subst (λ (z : ℕ). Ran (LineStep (s .m) (s .n) base chunk) (s .n + s .m + s .n) z b₀ b₀) (omega (arith, skipped-le (s .m) (s .n))) done;
     same = refl;
     past = past-none (need (sides (s .m) (s .n))) sc₀;
   }
@@ -80,7 +81,7 @@ module _ {s : Sides} {base chunk : ℕ} {b₀ sc₀ : List ℕ} (sound : Sound s
       → Home s base chunk b₀ sc₀ l b′ sc′
   home-less {l} {b} h f m p = record {
     few = omega arith;
-    ran = more h′ m (subst (λ (z : ℕ). Ran (Step (s .m) (s .n) base chunk) (s .n + s .m + s .n) z b b₀) (omega arith) (f .ran));
+    ran = more h′ m (subst (λ (z : ℕ). Ran (LineStep (s .m) (s .n) base chunk) (s .n + s .m + s .n) z b b₀) (omega arith) (f .ran));
     same = sym (m .same) ∙ f .same;
     past = past-more (going-short l h) (f .past) p;
   }
@@ -91,4 +92,4 @@ module _ {s : Sides} {base chunk : ℕ} {b₀ sc₀ : List ℕ} (sound : Sound s
   pub home-none : {b sc : List ℕ} → Home s base chunk b₀ sc₀ 0 b sc → TurnedAt (s .m) (s .n) base chunk b b₀
   home-none {b} f =
       lines-turn (s .m) (s .n) base chunk (sound .m-pos) (sound .n-pos) (lies .apart)
-      (subst (λ (z : ℕ). Ran (Step (s .m) (s .n) base chunk) (s .n + s .m + s .n) z b b₀) (add-zero (skipped (s .m) (s .n))) (f .ran))
+      (subst (λ (z : ℕ). Ran (LineStep (s .m) (s .n) base chunk) (s .n + s .m + s .n) z b b₀) (add-zero (skipped (s .m) (s .n))) (f .ran))

@@ -14,7 +14,8 @@ use Rattle.numbers.specs.Gcd.{gcdOf}
 use Rattle.flat.specs.Passes.{row1, column2, row3, Pass1, Pass2, Pass3}
 use Rattle.flat.proofs.Sides.{Sides, sides-are, row1-lt, column2-lt, row3-lt}
 use Rattle.flat.proofs.Passes.{followed}
-use Rattle.passes.specs.Lines.{Moved, column, row, lineAt, skipped, posOn, LineMoved, TurnedAt}
+use Rattle.passes.specs.Lines.{Moved, column, row, lineAt, skipped, posOn, LineMoved}
+use Rattle.passes.specs.ThroughScratch.{TurnedAt}
 use Rattle.passes.specs.declared.line.Line.{Line}
 use Rattle.passes.proofs.Family.{Family}
 use Rattle.passes.proofs.Ran.{Ran, cut, ran-some}
@@ -26,8 +27,8 @@ module _ (m n base chunk : ℕ) where
   cellAt i j = base + chunk * (i * n + j)
 
   -- line t of the block has moved
-  abbrev pub Step : ℕ → List ℕ → List ℕ → Type 0
-  Step t xs ys = LineMoved m n (lineAt m n base chunk t) xs ys
+  abbrev pub LineStep : ℕ → List ℕ → List ℕ → Type 0
+  LineStep t xs ys = LineMoved m n (lineAt m n base chunk t) xs ys
 
   -- which line number t is
   pub line1 : (t : ℕ) → t < n → lineAt m n base chunk t ≡ column m n base chunk 1 t
@@ -45,7 +46,8 @@ module _ (m n base chunk : ℕ) where
   -- the words of a column, and of a row, in the block's own terms
   pub column-at : (p j i : ℕ) → posOn (column m n base chunk p j) i ≡ cellAt i j
   column-at p j i =
-      let e : chunk * (i * n + j) ≡ chunk * n * i + chunk * j = mul-add chunk (i * n) j ∙ ap (λ (z : ℕ). z + chunk * j) (ap (λ (z : ℕ). chunk * z) (mul-comm i n) ∙ sym (mul-assoc chunk n i)) in
+      let e : chunk * (i * n + j) ≡ chunk * n * i + chunk * j
+      = mul-add chunk (i * n) j ∙ ap (λ (z : ℕ). z + chunk * j) (ap (λ (z : ℕ). chunk * z) (mul-comm i n) ∙ sym (mul-assoc chunk n i)) in
       omega arith
 
   pub row-at : (i j : ℕ) → posOn (row n base chunk i) j ≡ cellAt i j
@@ -109,15 +111,15 @@ module _ (m n base chunk : ℕ) (hm : 0 < m) (hn : 0 < n) (hc : 0 < chunk) where
   }
 
   -- the lines of each pass are that family
-  step1 : (t : ℕ) (xs ys : List ℕ) → t < n → Step m n base chunk (0 + t) xs ys → Moved m (λ i. cellAt m n base chunk i t) (λ i. i) (λ i. row1 m n i t) xs ys
+  step1 : (t : ℕ) (xs ys : List ℕ) → t < n → LineStep m n base chunk (0 + t) xs ys → Moved m (λ i. cellAt m n base chunk i t) (λ i. i) (λ i. row1 m n i t) xs ys
   step1 t xs ys h p =
       moved-at (column-at m n base chunk 1 t)
       (subst (λ (l : Line). LineMoved m n l xs ys) (ap (lineAt m n base chunk) (omega arith) ∙ line1 m n base chunk t h) p)
 
-  step2 : (t : ℕ) (xs ys : List ℕ) → t < m → Step m n base chunk (n + t) xs ys → Moved n (λ j. cellAt m n base chunk t j) (λ j. column2 m n t j) (λ j. j) xs ys
+  step2 : (t : ℕ) (xs ys : List ℕ) → t < m → LineStep m n base chunk (n + t) xs ys → Moved n (λ j. cellAt m n base chunk t j) (λ j. column2 m n t j) (λ j. j) xs ys
   step2 t xs ys h p = moved-at (row-at m n base chunk t) (subst (λ (l : Line). LineMoved m n l xs ys) (line2 m n base chunk t h) p)
 
-  step3 : (t : ℕ) (xs ys : List ℕ) → t < n → Step m n base chunk (n + m + t) xs ys → Moved m (λ i. cellAt m n base chunk i t) (λ i. i) (λ i. row3 m n i t) xs ys
+  step3 : (t : ℕ) (xs ys : List ℕ) → t < n → LineStep m n base chunk (n + m + t) xs ys → Moved m (λ i. cellAt m n base chunk i t) (λ i. i) (λ i. row3 m n i t) xs ys
   step3 t xs ys h p = moved-at (column-at m n base chunk 3 t) (subst (λ (l : Line). LineMoved m n l xs ys) (line3 m n base chunk t) p)
 
   -- the block's words by row and column
@@ -130,19 +132,19 @@ module _ (m n base chunk : ℕ) (hm : 0 < m) (hn : 0 < n) (hc : 0 < chunk) where
     pub pass : P (cells xs) (cells ys)
     pub others : (p : ℕ) → ((i j : ℕ) → i < m → j < n → cellAt m n base chunk i j ≡ p → ⊥) → getD ys p 0 ≡ getD xs p 0
 
-  passed1 : {xs ys : List ℕ} → Ran (Step m n base chunk) (0 + n) 0 xs ys → Passed (Pass1 m n) xs ys
+  passed1 : {xs ys : List ℕ} → Ran (LineStep m n base chunk) (0 + n) 0 xs ys → Passed (Pass1 m n) xs ys
   passed1 r =
-      let f = ran-some (Step m n base chunk) 0 (columns (row1 m n) (λ i j. row1-lt m n i j hm)) step1 r in
+      let f = ran-some (LineStep m n base chunk) 0 (columns (row1 m n) (λ i j. row1-lt m n i j hm)) step1 r in
       record { same = f .same; pass = λ i j a b. f .placed j i b a; others = λ p h. f .others p (λ u k a b e. h k u b a e) }
 
-  passed2 : {xs ys : List ℕ} → Ran (Step m n base chunk) (n + m) n xs ys → Passed (Pass2 m n) xs ys
+  passed2 : {xs ys : List ℕ} → Ran (LineStep m n base chunk) (n + m) n xs ys → Passed (Pass2 m n) xs ys
   passed2 r =
-      let f = ran-some (Step m n base chunk) n rows step2 r in
+      let f = ran-some (LineStep m n base chunk) n rows step2 r in
       record { same = f .same; pass = λ i j a b. f .placed i j a b; others = λ p h. f .others p (λ u k a b e. h u k a b e) }
 
-  passed3 : {xs ys : List ℕ} → Ran (Step m n base chunk) (n + m + n) (n + m) xs ys → Passed (Pass3 m n) xs ys
+  passed3 : {xs ys : List ℕ} → Ran (LineStep m n base chunk) (n + m + n) (n + m) xs ys → Passed (Pass3 m n) xs ys
   passed3 r =
-      let f = ran-some (Step m n base chunk) (n + m) (columns (row3 m n) (λ i j. row3-lt m n i j hm)) step3 r in
+      let f = ran-some (LineStep m n base chunk) (n + m) (columns (row3 m n) (λ i j. row3-lt m n i j hm)) step3 r in
       record { same = f .same; pass = λ i j a b. f .placed j i b a; others = λ p h. f .others p (λ u k a b e. h k u b a e) }
 
   -- where the sides share no factor pass 1 leaves every word where it is
@@ -156,20 +158,20 @@ module _ (m n base chunk : ℕ) (hm : 0 < m) (hn : 0 < n) (hc : 0 < chunk) where
       ∙ mod-eq-of-lt a
 
   -- the lines before pass 2
-  first-lines : {xs ys : List ℕ} → Ran (Step m n base chunk) n (skipped m n) xs ys → Passed (Pass1 m n) xs ys
+  first-lines : {xs ys : List ℕ} → Ran (LineStep m n base chunk) n (skipped m n) xs ys → Passed (Pass1 m n) xs ys
   first-lines {xs} {ys} r = go (ltb 1 (gcdOf m n)) refl
     where
       left-out : skipped m n ≡ n → gcdOf m n ≡ 1 → Passed (Pass1 m n) xs ys
       left-out e g =
-          subst (λ (zs : List ℕ). Passed (Pass1 m n) xs zs) (nothing-ran (subst (λ (z : ℕ). Ran (Step m n base chunk) n z xs ys) e r))
+          subst (λ (zs : List ℕ). Passed (Pass1 m n) xs zs) (nothing-ran (subst (λ (z : ℕ). Ran (LineStep m n base chunk) n z xs ys) e r))
           (record { same = refl; pass = λ i j a b. ap (λ (z : ℕ). cells xs z j) (sym (alone g i j a b)); others = λ p h. refl })
 
       go : (t : Bool) → ltb 1 (gcdOf m n) ≡ t → Passed (Pass1 m n) xs ys
-      go true q = passed1 (subst₂ (λ (z w : ℕ). Ran (Step m n base chunk) z w xs ys) (omega arith) (skipped-none m n q) r)
+      go true q = passed1 (subst₂ (λ (z w : ℕ). Ran (LineStep m n base chunk) z w xs ys) (omega arith) (skipped-none m n q) r)
       go false q = left-out (skipped-all m n q) (let c = s .c-pos in let d = ltb-false 1 (gcdOf m n) q in omega arith)
 
   -- the lines of the block turn it
-  pub lines-turn : {xs ws : List ℕ} → Ran (Step m n base chunk) (n + m + n) (skipped m n) xs ws → TurnedAt m n base chunk xs ws
+  pub lines-turn : {xs ws : List ℕ} → Ran (LineStep m n base chunk) (n + m + n) (skipped m n) xs ws → TurnedAt m n base chunk xs ws
   lines-turn {xs} {ws} r =
       let c = cut n (skipped-le m n) (omega arith) r in
       let d = cut (n + m) (omega arith) (omega arith) (c .rest) in

@@ -1,27 +1,27 @@
 -- The blocks of an adjacent swap are a family: turned one after the other, they are the layout that exchanges the two axes
 -- in the middle.
-use mathlib.Core.Path.{_≡_, refl, sym, ap, ap₂, _∙_, subst}
+use mathlib.Core.Path.{_≡_, sym, ap, ap₂, _∙_, subst}
 use mathlib.Core.List.{List, [], _∷_}
 use Prim.Native.Nat.{ℕ, _+_, _*_, _/_, _%_, _<_, _≤_}
 use native.Mathlib.Omega.{arith}
 use native.Mathlib.Nat.{mul-comm, mul-assoc, mul-add, add-mul, mul-one, mod-lt, div-add-mod', div-lt-iff-lt-mul, pos-of-ne-zero, le-trans, le-mul-of-pos-right, mul-pos}
 use lib.ListN.{length, getD}
 use lib.Arith.{digits-div, digits-mod, digits-lt}
-use mathlib.Core.Bool.{Bool, true, false}
-use lib.Dec.{ltb, eqb, lit<}
-use borrow.Author.Tests.{ltb-true, ltb-false, eqb-false}
-use Rattle.lists.specs.Choose.{either}
+use mathlib.Core.Bool.{false, _||_}
+use lib.Dec.{eqb, lit<}
+use borrow.Author.Tests.{ltb-false, eqb-false}
 use Rattle.refusals.specs.FirstOf.{check, firstOf}
 use Rattle.refusals.specs.Conditions.{badLength, tooManyWords, shortBuffer, shortScratch}
 use Rattle.refusals.specs.Scratch.{need}
-use Rattle.refusals.proofs.Conditions.{InRange, in-range, either-false, passed, enough-scratch}
+use Rattle.refusals.proofs.Conditions.{InRange, in-range, passed, enough-scratch}
+use Rattle.refusals.proofs.Some.{either-false}
 use Rattle.flat.specs.Turn.{sides}
 use Rattle.layout.specs.Layout.{volume, Within, at, pick, Laid}
 use Rattle.layout.specs.Layout.Within.{none, more}
 use Rattle.layout.proofs.Offsets.{at-lt}
-use Rattle.passes.specs.Lines.{Lies, AllLie, swapBase}
+use Rattle.passes.specs.ThroughScratch.{Lies, AllLie}
 use Rattle.passes.proofs.Fits.{side-need}
-use Rattle.passes.specs.Promises.{swapBlock, middle, noBlock, cappedWords, swapChecks}
+use Rattle.passes.specs.Promises.{swapBlock, middle, noBlock, swapChecks}
 use Rattle.passes.proofs.Family.{Family, Some}
 
 -- a word of the swap, by its block, row, column and word: its offset
@@ -41,6 +41,10 @@ swap-volume outer m n chunk =
     ap (λ (z : ℕ). outer * (m * (n * z))) (mul-one chunk)
     ∙ ap (λ (z : ℕ). outer * z) (sym (mul-assoc m n chunk) ∙ mul-comm (m * n) chunk)
     ∙ sym (mul-assoc outer chunk (m * n))
+
+-- where block t of an adjacent swap lies: t counts the words after the two axes within the blocks before them
+abbrev pub swapBase : ℕ → ℕ → ℕ → ℕ → ℕ
+swapBase m n chunk t = t / chunk * (m * n * chunk) + t % chunk
 
 -- where word p of block t stands, where it goes and whence it comes
 abbrev pub posOf : ℕ → ℕ → ℕ → ℕ → ℕ → ℕ
@@ -88,13 +92,16 @@ module _ (outer m n chunk : ℕ) (hm : 0 < m) (hn : 0 < n) (hc : 0 < chunk) wher
       blocks-apart : (t k u j : ℕ) → k < m * n → j < m * n → posOf m n chunk t k ≡ posOf m n chunk u j → t ≡ u
       blocks-apart t k u j hk hj e =
           let q = sym (flat-pos t k) ∙ e ∙ flat-pos u j in
-          let r : t % chunk ≡ u % chunk = sym (digits-mod (t / chunk * (m * n) + k) (mod-lt t hc)) ∙ ap (λ (z : ℕ). z % chunk) q ∙ digits-mod (u / chunk * (m * n) + j) (mod-lt u hc) in
-          let d : t / chunk * (m * n) + k ≡ u / chunk * (m * n) + j = sym (digits-div (t / chunk * (m * n) + k) (mod-lt t hc)) ∙ ap (λ (z : ℕ). z / chunk) q ∙ digits-div (u / chunk * (m * n) + j) (mod-lt u hc) in
+          let r : t % chunk ≡ u % chunk
+          = sym (digits-mod (t / chunk * (m * n) + k) (mod-lt t hc)) ∙ ap (λ (z : ℕ). z % chunk) q ∙ digits-mod (u / chunk * (m * n) + j) (mod-lt u hc) in
+          let d : t / chunk * (m * n) + k ≡ u / chunk * (m * n) + j
+          = sym (digits-div (t / chunk * (m * n) + k) (mod-lt t hc)) ∙ ap (λ (z : ℕ). z / chunk) q ∙ digits-div (u / chunk * (m * n) + j) (mod-lt u hc) in
           let e′ : t / chunk ≡ u / chunk = sym (digits-div (t / chunk) hk) ∙ ap (λ (z : ℕ). z / (m * n)) d ∙ digits-div (u / chunk) hj in
           sym (div-add-mod' t chunk) ∙ ap₂ (λ (x y : ℕ). x * chunk + y) e′ r ∙ div-add-mod' u chunk
 
   -- all blocks turned are the swap
-  pub swapped : (xs ys : List ℕ) → Some (outer * chunk) (m * n) (posOf m n chunk) (toOf m n) fromOf (outer * chunk) xs ys → Laid (swapBlock outer m n chunk) middle xs ys
+  pub swapped : (xs ys : List ℕ) → Some (outer * chunk) (m * n) (posOf m n chunk) (toOf m n) fromOf (outer * chunk) xs ys
+      → Laid (swapBlock outer m n chunk) middle xs ys
   unfolding pick
   swapped xs ys f = record {
     same = f .same;
@@ -102,7 +109,8 @@ module _ (outer m n chunk : ℕ) (hm : 0 < m) (hn : 0 < n) (hc : 0 < chunk) wher
     tail = λ k h. f .others k (λ t p a b e. let z = pos-lt t p a b in omega arith);
   }
     where
-      placed : (x : List ℕ) → Within (swapBlock outer m n chunk) x → getD ys (at (pick middle (swapBlock outer m n chunk)) (pick middle x)) 0 ≡ getD xs (at (swapBlock outer m n chunk) x) 0
+      placed : (x : List ℕ) → Within (swapBlock outer m n chunk) x
+          → getD ys (at (pick middle (swapBlock outer m n chunk)) (pick middle x)) 0 ≡ getD xs (at (swapBlock outer m n chunk) x) 0
       placed x (more {x = e} he (more {x = i} hi (more {x = j} hj (more {x = u} hu none)))) =
           let t = e * chunk + u in
           let p = i * n + j in
@@ -129,7 +137,8 @@ module _ {outer m n chunk : ℕ} {xs scratch : List ℕ} (hm : 0 < m) (hn : 0 < 
       let z = pos-lt outer m n chunk hm hn (y .words) t 0 h (mul-pos hm hn) in
       omega (arith, y .few, swap-volume outer m n chunk)
 
-  pub block-lies : (t : ℕ) (ys held : List ℕ) → t < outer * chunk → length ys ≡ length xs → length held ≡ length scratch → Lies m n (swapBase m n chunk t) chunk ys held
+  pub block-lies : (t : ℕ) (ys held : List ℕ) → t < outer * chunk → length ys ≡ length xs → length held ≡ length scratch
+      → Lies m n (swapBase m n chunk t) chunk ys held
   block-lies t ys held h e f = record {
     apart = y .words;
     inside = λ p k. let z = pos-lt outer m n chunk hm hn (y .words) t p h k in omega (arith, y .enough, swap-volume outer m n chunk);
@@ -151,8 +160,8 @@ pub record There (outer m n chunk : ℕ) : Type 0 where
 pub there : (outer m n chunk : ℕ) → noBlock outer m n chunk ≡ false → There outer m n chunk
 there outer m n chunk e = go (in-range (sides m n) (p .0))
   where
-    p : (badLength (sides m n) ≡ false) × (either (eqb outer 0) (eqb chunk 0) ≡ false)
-    p = either-false (badLength (sides m n)) (either (eqb outer 0) (eqb chunk 0)) e
+    p : (badLength (sides m n) ≡ false) × ((eqb outer 0 || eqb chunk 0) ≡ false)
+    p = either-false (badLength (sides m n)) (eqb outer 0 || eqb chunk 0) e
 
     q : (eqb outer 0 ≡ false) × (eqb chunk 0 ≡ false)
     q = either-false (eqb outer 0) (eqb chunk 0) (p .1)
@@ -167,29 +176,14 @@ there outer m n chunk e = go (in-range (sides m n) (p .0))
       chunk-pos = pos-of-ne-zero (eqb-false chunk 0 (q .1));
     }
 
--- a count that is cut to one more than a block may have
-pub capped-over : (v : ℕ) → 1048576 < cappedWords v → 1048576 < v
-capped-over v h = go (ltb 1048576 v) refl
-  where
-    go : (t : Bool) → ltb 1048576 v ≡ t → 1048576 < v
-    go true e = ltb-true 1048576 v e
-    go false e = rw e at h
-
-pub capped-under : (v : ℕ) → cappedWords v ≤ 1048576 → (v ≤ 1048576) × (cappedWords v ≡ v)
-capped-under v h = go (ltb 1048576 v) refl
-  where
-    go : (t : Bool) → ltb 1048576 v ≡ t → (v ≤ 1048576) × (cappedWords v ≡ v)
-    go true e = let z : 1048577 ≤ 1048576 = rw e at h in absurd (omega arith)
-    go false e = (ltb-false 1048576 v e, rw e)
-
 -- an adjacent swap that is accepted: it has a block, and its blocks lie in the buffer
-pub swap-accepted : {r : ℕ} (outer m n chunk : ℕ) (buffer scratch : List ℕ) → r ≡ firstOf (swapChecks outer m n chunk buffer scratch) → r ≡ 0
+pub swap-accepted : (outer m n chunk : ℕ) (buffer scratch : List ℕ) → firstOf (swapChecks outer m n chunk buffer scratch) ≡ 0
     → There outer m n chunk × AllLie outer m n chunk buffer scratch
-swap-accepted outer m n chunk buffer scratch e z =
+swap-accepted outer m n chunk buffer scratch e =
     let v = volume (swapBlock outer m n chunk) in
     let rest₄ = check 4 (shortScratch (need (sides m n)) scratch) ∷ [] in
     let rest₃ = check 3 (shortBuffer (swapBlock outer m n chunk) buffer) ∷ rest₄ in
-    let p = passed (noBlock outer m n chunk) 1 (firstOf (check 2 (tooManyWords (swapBlock outer m n chunk)) ∷ rest₃)) (lit< tt) (sym e ∙ z) in
+    let p = passed (noBlock outer m n chunk) 1 (firstOf (check 2 (tooManyWords (swapBlock outer m n chunk)) ∷ rest₃)) (lit< tt) e in
     let q = passed (tooManyWords (swapBlock outer m n chunk)) 2 (firstOf rest₃) (lit< tt) (p .1) in
     let r = passed (shortBuffer (swapBlock outer m n chunk) buffer) 3 (firstOf rest₄) (lit< tt) (q .1) in
     let h = there outer m n chunk (p .0) in (

@@ -1,10 +1,9 @@
 -- What the calls by passes promise. Assumes nothing: these are definitions.
 use mathlib.Core.Path.{_≡_}
-use mathlib.Core.Bool.{Bool}
+use mathlib.Core.Bool.{Bool, _||_}
 use mathlib.Core.List.{List, [], _∷_}
 use Prim.Native.Nat.{ℕ}
-use lib.Dec.{eqb, ltb}
-use Rattle.lists.specs.Choose.{choose, either}
+use lib.Dec.{eqb}
 use Rattle.layout.specs.Layout.{Laid}
 use Rattle.refusals.specs.FirstOf.{Check, check, firstOf}
 use Rattle.refusals.specs.Conditions.{badLength, tooManyWords, shortBuffer, shortScratch}
@@ -31,11 +30,7 @@ middle = 0 ∷ 2 ∷ 1 ∷ 3 ∷ []
 
 -- a side is out of range, or there is no block before or no word after the two axes
 abbrev pub noBlock : ℕ → ℕ → ℕ → ℕ → Bool
-noBlock outer m n chunk = either (badLength (sides m n)) (either (eqb outer 0) (eqb chunk 0))
-
--- a count of words, cut to one more than a block may have
-abbrev pub cappedWords : ℕ → ℕ
-cappedWords v = choose (ltb 1048576 v) 1048577 v
+noBlock outer m n chunk = badLength (sides m n) || (eqb outer 0 || eqb chunk 0)
 
 -- adjacent swap: 1, 2, 3, 4
 abbrev pub swapChecks : ℕ → ℕ → ℕ → ℕ → List ℕ → List ℕ → List Check

@@ -1,10 +1,9 @@
 // The flat turn by passes, its reverse, and the adjacent swap of four axes.
-mod adjacent;
-mod block;
-mod checks;
 mod gcd;
 mod line;
+mod refusal;
 mod scratch;
+mod turning;
 
 ghost use Rattle.passes.specs.Promises.{TurnPromise, TurnBackPromise, SwapPromise, ClearPromise};
 
@@ -12,12 +11,13 @@ ghost use Rattle.passes.specs.Promises.{TurnPromise, TurnBackPromise, Sw
 pub fn turn(buf: &mut [u32], scratch: &mut [u32], m: usize, n: usize) -> u32
     ensures { λ r. ⌜ TurnPromise m n (now (buf .entry)) (now (scratch .entry)) r (now (buf .exit)) (now (scratch .exit)) ⌝ }
 {
-    let number = checks::number(buf, scratch, m, n);
+    let lens = [m, n];
+    let number = checks::passes_number(&lens, buf, scratch);
     if number != 0 {
         return number;
     }
-    let s = block::sides_of(m, n);
-    block::turn_at(buf, scratch, s, 0, 1);
+    let s = turning::group_sides(m, n);
+    turning::turn_at(buf, scratch, s, 0, 1);
     scratch::clear_longest(scratch, m, n);
     0
 }
@@ -26,12 +26,13 @@ pub fn turn(buf: &mut [u32], scratch: &mut [u32], m: usize, n: usize) -> u32
 pub fn turn_back(buf: &mut [u32], scratch: &mut [u32], m: usize, n: usize) -> u32
     ensures { λ r. ⌜ TurnBackPromise m n (now (buf .entry)) (now (scratch .entry)) r (now (buf .exit)) (now (scratch .exit)) ⌝ }
 {
-    let number = checks::number(buf, scratch, m, n);
+    let lens = [m, n];
+    let number = checks::passes_number(&lens, buf, scratch);
     if number != 0 {
         return number;
     }
-    let s = block::sides_of(m, n);
-    block::turn_home_at(buf, scratch, s, 0, 1);
+    let s = turning::group_sides(m, n);
+    turning::turn_home_at(buf, scratch, s, 0, 1);
     scratch::clear_longest(scratch, m, n);
     0
 }
@@ -47,12 +48,12 @@ pub fn swap(
 ) -> u32
     ensures { λ r. ⌜ SwapPromise outer m n chunk (now (buf .entry)) (now (scratch .entry)) r (now (buf .exit)) (now (scratch .exit)) ⌝ }
 {
-    let number = adjacent::number(buf, scratch, outer, m, n, chunk);
+    let number = refusal::swap_number(buf, scratch, outer, m, n, chunk);
     if number != 0 {
         return number;
     }
-    let s = block::sides_of(m, n);
-    block::turn_all(buf, scratch, s, outer, chunk);
+    let s = turning::group_sides(m, n);
+    turning::turn_all(buf, scratch, s, outer, chunk);
     scratch::clear_longest(scratch, m, n);
     0
 }

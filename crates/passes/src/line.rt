@@ -2,10 +2,11 @@
 ghost use mathlib.Core.Path.{_≡_};
 ghost use Prim.Native.Nat.{ℕ, _+_, _*_, _<_, _≤_};
 ghost use lib.ListN.{length};
-ghost use Rattle.passes.specs.Lines.{Sound, Fits, Held, Returned, Past, paired, toPlace, fromPlace, LineMoved};
+ghost use Rattle.passes.specs.Lines.{paired, toPlace, fromPlace, LineMoved};
+ghost use Rattle.passes.specs.ThroughScratch.{Grouped, Fits, Lifted, Returned, Past};
 
 // The sides m and n, their quotients a and b by their greatest common divisor, and the columns of pass 1 that are left out.
-pub(crate) struct Sides {
+pub(crate) struct GroupedSides {
     pub m: usize,
     pub n: usize,
     pub a: usize,
@@ -23,8 +24,8 @@ pub(crate) struct Line {
 }
 
 // The place with which a pass pairs place k of its line.
-fn paired_place(s: Sides, pass: usize, index: usize, k: usize) -> usize
-    requires { ⌜ Sound s × (index ≤ 4096) × (k ≤ 4096) ⌝ }
+fn paired_place(s: GroupedSides, pass: usize, index: usize, k: usize) -> usize
+    requires { ⌜ Grouped s × (index ≤ 4096) × (k ≤ 4096) ⌝ }
     ensures { λ r. ⌜ r ≡ paired (s .m) (s .n) pass index k ⌝ }
 {
     if pass == 1 {
@@ -37,9 +38,9 @@ fn paired_place(s: Sides, pass: usize, index: usize, k: usize) -> usize
 }
 
 // Scratch receives, place by place, the words that the line's places are paired with.
-fn gather(buf: &[u32], scratch: &mut [u32], s: Sides, l: Line)
-    requires { ⌜ Sound s × Fits (s .m) (s .n) l (now buf) (now scratch) ⌝ }
-    ensures { λ _. ⌜ Held l (λ k. k) (paired (s .m) (s .n) (l .pass) (l .index)) (now (buf .entry)) (now (scratch .entry)) (now (scratch .exit)) ⌝ }
+fn gather(buf: &[u32], scratch: &mut [u32], s: GroupedSides, l: Line)
+    requires { ⌜ Grouped s × Fits (s .m) (s .n) l (now buf) (now scratch) ⌝ }
+    ensures { λ _. ⌜ Lifted l (λ k. k) (paired (s .m) (s .n) (l .pass) (l .index)) (now (buf .entry)) (now (scratch .entry)) (now (scratch .exit)) ⌝ }
 {
     let start = l.start;
     let stride = l.stride;
@@ -50,9 +51,9 @@ fn gather(buf: &[u32], scratch: &mut [u32], s: Sides, l: Line)
 }
 
 // Each word of the line goes to the place of scratch that its own is paired with.
-fn scatter(buf: &[u32], scratch: &mut [u32], s: Sides, l: Line)
-    requires { ⌜ Sound s × Fits (s .m) (s .n) l (now buf) (now scratch) ⌝ }
-    ensures { λ _. ⌜ Held l (paired (s .m) (s .n) (l .pass) (l .index)) (λ k. k) (now (buf .entry)) (now (scratch .entry)) (now (scratch .exit)) ⌝ }
+fn scatter(buf: &[u32], scratch: &mut [u32], s: GroupedSides, l: Line)
+    requires { ⌜ Grouped s × Fits (s .m) (s .n) l (now buf) (now scratch) ⌝ }
+    ensures { λ _. ⌜ Lifted l (paired (s .m) (s .n) (l .pass) (l .index)) (λ k. k) (now (buf .entry)) (now (scratch .entry)) (now (scratch .exit)) ⌝ }
 {
     let start = l.start;
     let stride = l.stride;
@@ -75,9 +76,9 @@ fn put_back(buf: &mut [u32], scratch: &[u32], l: Line)
 }
 
 // Scratch receives the line as its pass leaves it.
-fn lift(buf: &[u32], scratch: &mut [u32], s: Sides, l: Line)
-    requires { ⌜ Sound s × Fits (s .m) (s .n) l (now buf) (now scratch) ⌝ }
-    ensures { λ _. ⌜ Held l (toPlace (s .m) (s .n) l) (fromPlace (s .m) (s .n) l) (now (buf .entry)) (now (scratch .entry)) (now (scratch .exit)) ⌝ }
+fn lift(buf: &[u32], scratch: &mut [u32], s: GroupedSides, l: Line)
+    requires { ⌜ Grouped s × Fits (s .m) (s .n) l (now buf) (now scratch) ⌝ }
+    ensures { λ _. ⌜ Lifted l (toPlace (s .m) (s .n) l) (fromPlace (s .m) (s .n) l) (now (buf .entry)) (now (scratch .entry)) (now (scratch .exit)) ⌝ }
 {
     if l.pass == 2 {
         scatter(buf, scratch, s, l);
@@ -87,9 +88,9 @@ fn lift(buf: &[u32], scratch: &mut [u32], s: Sides, l: Line)
 }
 
 // Scratch receives the line as its pass found it.
-fn lift_home(buf: &[u32], scratch: &mut [u32], s: Sides, l: Line)
-    requires { ⌜ Sound s × Fits (s .m) (s .n) l (now buf) (now scratch) ⌝ }
-    ensures { λ _. ⌜ Held l (fromPlace (s .m) (s .n) l) (toPlace (s .m) (s .n) l) (now (buf .entry)) (now (scratch .entry)) (now (scratch .exit)) ⌝ }
+fn lift_home(buf: &[u32], scratch: &mut [u32], s: GroupedSides, l: Line)
+    requires { ⌜ Grouped s × Fits (s .m) (s .n) l (now buf) (now scratch) ⌝ }
+    ensures { λ _. ⌜ Lifted l (fromPlace (s .m) (s .n) l) (toPlace (s .m) (s .n) l) (now (buf .entry)) (now (scratch .entry)) (now (scratch .exit)) ⌝ }
 {
     if l.pass == 2 {
         gather(buf, scratch, s, l);
@@ -99,8 +100,8 @@ fn lift_home(buf: &[u32], scratch: &mut [u32], s: Sides, l: Line)
 }
 
 // The line moves as its pass says.
-pub(crate) fn forth(buf: &mut [u32], scratch: &mut [u32], s: Sides, l: Line)
-    requires { ⌜ Sound s × Fits (s .m) (s .n) l (now buf) (now scratch) ⌝ }
+pub(crate) fn forth(buf: &mut [u32], scratch: &mut [u32], s: GroupedSides, l: Line)
+    requires { ⌜ Grouped s × Fits (s .m) (s .n) l (now buf) (now scratch) ⌝ }
     ensures { λ _. ⌜ LineMoved (s .m) (s .n) l (now (buf .entry)) (now (buf .exit)) × Past (l .count) (now (scratch .entry)) (now (scratch .exit)) ⌝ }
 {
     lift(buf, scratch, s, l);
@@ -108,8 +109,8 @@ pub(crate) fn forth(buf: &mut [u32], scratch: &mut [u32], s: Sides, l: Line)
 }
 
 // The line moves back to where its pass found it.
-pub(crate) fn back(buf: &mut [u32], scratch: &mut [u32], s: Sides, l: Line)
-    requires { ⌜ Sound s × Fits (s .m) (s .n) l (now buf) (now scratch) ⌝ }
+pub(crate) fn back(buf: &mut [u32], scratch: &mut [u32], s: GroupedSides, l: Line)
+    requires { ⌜ Grouped s × Fits (s .m) (s .n) l (now buf) (now scratch) ⌝ }
     ensures { λ _. ⌜ LineMoved (s .m) (s .n) l (now (buf .exit)) (now (buf .entry)) × Past (l .count) (now (scratch .entry)) (now (scratch .exit)) ⌝ }
 {
     lift_home(buf, scratch, s, l);

@@ -20,9 +20,7 @@ pub(crate) fn clear_longest(scratch: &mut [u32], m: usize, n: usize)
     requires { ⌜ need (sides m n) ≤ length (now scratch) ⌝ }
     ensures { λ _. ⌜ now (scratch .exit) ≡ cleared (need (sides m n)) (now (scratch .entry)) ⌝ }
 {
-    if m < n {
-        zero(scratch, n);
-        return;
-    }
-    zero(scratch, m);
+    let lens = [m, n];
+    let longest = checks::longest_of(&lens);
+    zero(scratch, longest);
 }

@@ -1,58 +1,78 @@
 -- What a condition that does not hold tells: lengths in range, enough words, enough scratch.
 use mathlib.Core.Path.{_≡_, refl}
-use mathlib.Core.Bool.{Bool, true, false}
-use mathlib.Core.List.{List, [], _∷_}
+use mathlib.Core.Bool.{Bool, true, false, cond}
+use mathlib.Core.List.{List, [], _∷_, _++_}
 use Prim.Native.Nat.{ℕ, _<_, _≤_}
 use native.Mathlib.Nat.{pos-of-ne-zero}
 use native.Mathlib.Omega.{arith}
 use lib.Dec.{ltb, eqb, lit<}
-use lib.ListN.{length}
-use borrow.Author.Tests.{ltb-false, eqb-false}
-use Rattle.lists.specs.Choose.{choose, either}
+use lib.ListN.{length, getD}
+use borrow.Author.Tests.{ltb-false, eqb-false, ne-eqb, lt-ltb, le-ltb}
 use Rattle.layout.specs.Layout.{volume}
 use Rattle.refusals.specs.FirstOf.{Check, check, firstOf}
 use Rattle.refusals.specs.Conditions.{outOfRange, badLength, tooManyWords, shortBuffer, shortScratch}
-
-pub either-false : (a b : Bool) → either a b ≡ false → (a ≡ false) × (b ≡ false)
-either-false true b e = let z : _≡_ {A = ℕ} 0 1 = cc in absurd (omega arith)
-either-false false b e = (refl, e)
+use Rattle.refusals.specs.Calls.{sizeChecks, blockChecks}
+use Rattle.refusals.proofs.Some.{either-false, none-at}
 
 -- every length is 1 to 4,096
 pub data InRange : List ℕ → Type 0 where
   none : InRange []
   more : {d : ℕ} {ds : List ℕ} → 0 < d → d ≤ 4096 → InRange ds → InRange (d ∷ ds)
 
+-- what `outOfRange` tells of a length, either way
+pub range-zero : (d : ℕ) → d ≡ 0 → outOfRange d ≡ true
+range-zero d e = rw e
+
+pub range-above : (d : ℕ) → (d ≡ 0 → ⊥) → 4096 < d → outOfRange d ≡ true
+range-above d z h = rw (ne-eqb d 0 z, lt-ltb 4096 d h)
+
+pub range-in : (d : ℕ) → (d ≡ 0 → ⊥) → d ≤ 4096 → outOfRange d ≡ false
+range-in d z h = rw (ne-eqb d 0 z, le-ltb 4096 d h)
+
+pub ranged : (d : ℕ) → outOfRange d ≡ false → (0 < d) × (d ≤ 4096)
+ranged d e =
+    let q = either-false (eqb d 0) (ltb 4096 d) e in
+    (pos-of-ne-zero (eqb-false d 0 (q .0)), ltb-false 4096 d (q .1))
+
 pub in-range : (ds : List ℕ) → badLength ds ≡ false → InRange ds
 in-range [] e = InRange.none
 in-range (d ∷ ds) e =
     let p = either-false (outOfRange d) (badLength ds) e in
-    let q = either-false (eqb d 0) (ltb 4096 d) (p .0) in
-    InRange.more (pos-of-ne-zero (eqb-false d 0 (q .0))) (ltb-false 4096 d (q .1)) (in-range ds (p .1))
+    let q = ranged d (p .0) in
+    InRange.more (q .0) (q .1) (in-range ds (p .1))
 
--- a block that is accepted: lengths in range, not too many words, all of them in the buffer
+-- the same, by the place of the length
+pub length-at : (ds : List ℕ) → badLength ds ≡ false → (k : ℕ) → k < length ds → (0 < getD ds k 0) × (getD ds k 0 ≤ 4096)
+length-at ds e k h = ranged (getD ds k 0) (none-at outOfRange ds e k h)
+
+-- a block whose size is accepted: lengths in range, not too many words
+pub record Sized (ds : List ℕ) : Type 0 where
+  pub lengths : InRange ds
+  pub few : volume ds ≤ 1048576
+
+-- a check that was passed, and what follows it
+pub passed : (t : Bool) (k r : ℕ) → 0 < k → cond t k r ≡ 0 → (t ≡ false) × (r ≡ 0)
+passed true k r h e = absurd (omega arith)
+passed false k r h e = (refl, e)
+
+pub size-valid : (ds : List ℕ) (rest : List Check) → firstOf (sizeChecks ds ++ rest) ≡ 0 → Sized ds × (firstOf rest ≡ 0)
+size-valid ds rest e =
+    let p = passed (badLength ds) 1 _ (lit< tt) e in
+    let q = passed (tooManyWords ds) 2 (firstOf rest) (lit< tt) (p .1) in
+    (record { lengths = in-range ds (p .0); few = ltb-false 1048576 (volume ds) (q .0) }, q .1)
+
+-- a block that is accepted: its size is, and all of its words are in the buffer
 pub record Valid (ds buffer : List ℕ) : Type 0 where
   pub lengths : InRange ds
   pub few : volume ds ≤ 1048576
   pub enough : volume ds ≤ length buffer
 
--- a check that was passed, and what follows it
-pub passed : (t : Bool) (k r : ℕ) → 0 < k → choose t k r ≡ 0 → (t ≡ false) × (r ≡ 0)
-passed true k r h e = absurd (omega arith)
-passed false k r h e = (refl, e)
-
 pub valid : (ds buffer : List ℕ) (rest : List Check)
-    → firstOf (check 1 (badLength ds) ∷ check 2 (tooManyWords ds) ∷ check 3 (shortBuffer ds buffer) ∷ rest) ≡ 0 → Valid ds buffer × (firstOf rest ≡ 0)
+    → firstOf (blockChecks ds buffer ++ rest) ≡ 0 → Valid ds buffer × (firstOf rest ≡ 0)
 valid ds buffer rest e =
-    let p = passed (badLength ds) 1 _ (lit< tt) e in
-    let q = passed (tooManyWords ds) 2 _ (lit< tt) (p .1) in
-    let r = passed (shortBuffer ds buffer) 3 (firstOf rest) (lit< tt) (q .1) in (
-      record {
-        lengths = in-range ds (p .0);
-        few = ltb-false 1048576 (volume ds) (q .0);
-        enough = ltb-false (length buffer) (volume ds) (r .0);
-      },
-      r .1,
-    )
+    let s = size-valid ds (check 3 (shortBuffer ds buffer) ∷ rest) e in
+    let r = passed (shortBuffer ds buffer) 3 (firstOf rest) (lit< tt) (s .1) in
+    (record { lengths = s .0 .lengths; few = s .0 .few; enough = ltb-false (length buffer) (volume ds) (r .0) }, r .1)
 
 -- scratch that is accepted has as many words as are needed
 pub enough-scratch : (needed : ℕ) (scratch : List ℕ) (rest : List Check) → firstOf (check 4 (shortScratch needed scratch) ∷ rest) ≡ 0

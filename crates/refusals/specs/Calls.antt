@@ -1,31 +1,34 @@
 -- The order of checks of each call. Assumes nothing: these are definitions.
-use mathlib.Core.List.{List, [], _∷_}
+use mathlib.Core.List.{List, [], _∷_, _++_}
 use Prim.Native.Nat.{ℕ}
 use Rattle.refusals.specs.FirstOf.{Check, check}
 use Rattle.refusals.specs.Conditions.{badLength, tooManyWords, shortBuffer, shortScratch, longChain, badSwap, noOrder, longPlan}
 use Rattle.refusals.specs.Scratch.{need}
 
+-- the size of a block: 1, 2
+abbrev pub sizeChecks : List ℕ → List Check
+sizeChecks ds = check 1 (badLength ds) ∷ check 2 (tooManyWords ds) ∷ []
+
+-- a block in a buffer: 1, 2, 3; the list of every call on a block begins so
+abbrev pub blockChecks : List ℕ → List ℕ → List Check
+blockChecks ds buffer = sizeChecks ds ++ (check 3 (shortBuffer ds buffer) ∷ [])
+
 -- flat by passes and reverse: 1, 2, 3, 4
 abbrev pub passesChecks : List ℕ → List ℕ → List ℕ → List Check
-passesChecks ds buffer scratch =
-    check 1 (badLength ds) ∷ check 2 (tooManyWords ds) ∷ check 3 (shortBuffer ds buffer) ∷ check 4 (shortScratch (need ds) scratch) ∷ []
+passesChecks ds buffer scratch = blockChecks ds buffer ++ (check 4 (shortScratch (need ds) scratch) ∷ [])
 
 -- recursion: 1, 2, 3
 abbrev pub recursionChecks : List ℕ → List ℕ → List Check
-recursionChecks ds buffer = check 1 (badLength ds) ∷ check 2 (tooManyWords ds) ∷ check 3 (shortBuffer ds buffer) ∷ []
+recursionChecks ds buffer = blockChecks ds buffer
 
--- chain: 1 to 6 rising
-abbrev pub chainChecks : List ℕ → List ℕ → List ℕ → List ℕ → List Check
-chainChecks ds buffer scratch chain =
-    check 1 (badLength ds) ∷ check 2 (tooManyWords ds) ∷ check 3 (shortBuffer ds buffer) ∷ check 4 (shortScratch (need ds) scratch)
-    ∷ check 5 (longChain chain) ∷ check 6 (badSwap chain) ∷ []
-
--- direct request: 1, 2, 3, 4, 7, 8
-abbrev pub requestChecks : List ℕ → List ℕ → List ℕ → ℕ → List Check
-requestChecks ds buffer scratch order =
-    check 1 (badLength ds) ∷ check 2 (tooManyWords ds) ∷ check 3 (shortBuffer ds buffer) ∷ check 4 (shortScratch (need ds) scratch)
-    ∷ check 7 (noOrder order) ∷ check 8 (longPlan order) ∷ []
+-- chain of swaps on r axes: 1 to 6 rising
+abbrev pub chainChecks : ℕ → List ℕ → List ℕ → List ℕ → List ℕ → List Check
+chainChecks r ds buffer scratch chain = passesChecks ds buffer scratch ++ (check 5 (longChain chain) ∷ check 6 (badSwap r chain) ∷ [])
 
 -- plan alone: 7, 8
-abbrev pub planChecks : ℕ → List Check
-planChecks order = check 7 (noOrder order) ∷ check 8 (longPlan order) ∷ []
+abbrev pub planChecks : ℕ → ℕ → List Check
+planChecks r order = check 7 (noOrder r order) ∷ check 8 (longPlan r order) ∷ []
+
+-- direct request for an order of r axes: 1, 2, 3, 4, 7, 8
+abbrev pub requestChecks : ℕ → List ℕ → List ℕ → List ℕ → ℕ → List Check
+requestChecks r ds buffer scratch order = passesChecks ds buffer scratch ++ planChecks r order

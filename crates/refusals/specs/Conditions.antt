@@ -1,22 +1,21 @@
 -- The condition of each number. Assumes nothing: these are definitions.
-use mathlib.Core.Bool.{Bool, false}
+use mathlib.Core.Bool.{Bool, false, cond, _||_}
 use mathlib.Core.List.{List, [], _∷_}
-use Prim.Native.Nat.{ℕ, suc, max}
+use Prim.Native.Nat.{ℕ, suc, _-_, max}
 use lib.Dec.{ltb, eqb}
 use lib.ListN.{length}
-use Rattle.lists.specs.Choose.{choose, either}
 use Rattle.layout.specs.Layout.{volume}
-use Rattle.orders.specs.Numbers.{orderOf}
+use Rattle.orders.specs.Numbers.{orderCount, orderOf}
 use Rattle.orders.specs.Plans.{planOf}
 
 -- the test holds at some entry
 abbrev pub some : (ℕ → Bool) → List ℕ → Bool
 some f [] = false
-some f (x ∷ xs) = either (f x) (some f xs)
+some f (x ∷ xs) = f x || some f xs
 
 -- a length that no axis may have: 0 or above 4,096
 abbrev pub outOfRange : ℕ → Bool
-outOfRange d = either (eqb d 0) (ltb 4096 d)
+outOfRange d = eqb d 0 || ltb 4096 d
 
 -- 1: an axis length is 0 or above 4,096
 abbrev pub badLength : List ℕ → Bool
@@ -43,23 +42,23 @@ shortScratch need scratch = ltb (length scratch) need
 abbrev pub longChain : List ℕ → Bool
 longChain chain = ltb 32 (length chain)
 
--- a swap that four axes do not have
-abbrev pub noSwap : ℕ → Bool
-noSwap k = ltb 2 k
+-- a swap that r axes do not have: above r - 2, for four axes above 2
+abbrev pub noSwap : ℕ → ℕ → Bool
+noSwap r k = ltb (r - 2) k
 
 -- 6: a swap number is above 2
-abbrev pub badSwap : List ℕ → Bool
-badSwap chain = some noSwap chain
+abbrev pub badSwap : ℕ → List ℕ → Bool
+badSwap r chain = some (noSwap r) chain
 
 -- the place of the first entry at which the test holds, from 0; the count of entries where there is none
 unfoldable pub firstPlace : (ℕ → Bool) → List ℕ → ℕ
 firstPlace f [] = 0
-firstPlace f (x ∷ xs) = choose (f x) 0 (suc (firstPlace f xs))
+firstPlace f (x ∷ xs) = cond (f x) 0 (suc (firstPlace f xs))
 
--- 7: the order number is above 23
-abbrev pub noOrder : ℕ → Bool
-noOrder k = ltb 23 k
+-- 7: the order number is above the last, for four axes above 23
+abbrev pub noOrder : ℕ → ℕ → Bool
+noOrder r k = ltb (orderCount r - 1) k
 
 -- 8: the plan of the order asked for has more than six swaps
-abbrev pub longPlan : ℕ → Bool
-longPlan k = ltb 6 (length (planOf (orderOf 4 k)))
+abbrev pub longPlan : ℕ → ℕ → Bool
+longPlan r k = ltb 6 (length (planOf (orderOf r k)))

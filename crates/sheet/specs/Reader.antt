@@ -1,7 +1,7 @@
 -- What the reader answers and stores. Assumes nothing: these are definitions.
 use mathlib.Core.Path.{_≡_}
-use mathlib.Core.List.{List, [], _∷_, _++_}
-use Prim.Native.Nat.{ℕ, _-_}
+use mathlib.Core.List.{List, _++_}
+use Prim.Native.Nat.{ℕ}
 use lib.ListN.{length, drop, replicate}
 use Rattle.text.specs.Meaning.{Outcome, meaning}
 use Rattle.sheet.specs.Swaps.{padded}

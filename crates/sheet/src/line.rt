@@ -3,7 +3,7 @@ use crate::field;
 ghost use mathlib.Core.Path.{_≡_};
 ghost use Prim.Native.Nat.{_+_, _≤_};
 ghost use lib.ListN.{length, take, drop, getD};
-ghost use Rattle.lists.specs.Choose.{same};
+ghost use Rattle.lists.specs.Same.{same};
 ghost use Rattle.text.specs.Read.{readFields, readLine, tabs};
 ghost use Rattle.sheet.specs.Place.{At, numbersOf};
 

@@ -1,8 +1,8 @@
 -- Text by its printer: bytes of a number, of a field, of a line. Assumes nothing: these are definitions.
+use mathlib.Core.Bool.{cond}
 use mathlib.Core.List.{List, [], _∷_, _++_}
 use Prim.Native.Nat.{ℕ, zero, suc, _+_, _/_, _%_}
 use lib.Dec.{ltb}
-use Rattle.lists.specs.Choose.{choose}
 
 -- the greatest number of a sheet
 abbrev pub limit : ℕ
@@ -19,7 +19,7 @@ lineFeed = 10
 -- the decimal digits of v as bytes, at most n of them, without leading zeros
 unfoldable pub digits : ℕ → ℕ → List ℕ
 digits zero v = []
-digits (suc n) v = choose (ltb v 10) ((48 + v) ∷ []) (digits n (v / 10) ++ ((48 + v % 10) ∷ []))
+digits (suc n) v = cond (ltb v 10) ((48 + v) ∷ []) (digits n (v / 10) ++ ((48 + v % 10) ∷ []))
 
 -- a number is decimal, without leading zeros except 0 itself: ten digits suffice up to 4,294,967,295
 unfoldable pub decimal : ℕ → List ℕ

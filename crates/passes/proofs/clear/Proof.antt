@@ -13,20 +13,15 @@ returns c = record {
   kept = λ _. refl;
 }
 
-zero-requires : tie.Need-zero-requires
-zero-requires c κs = search needs
-
-same-length : tie.Need-same-length
-same-length c = search needs
-
 returns-2 : tie.Need-returns-2
 returns-2 c =
-    let h = c .before .before .before .before .if1 .left in
+    let z : tie.After-zero = search in
+    let e : tie.Else1 = search in
     record {
-      number-is = rw (le-ltb _ _ h);
-      zeroed = λ _. c .before .before .zero .ensures;
+      number-is = rw (le-ltb _ _ (e .if1 .left));
+      zeroed = λ _. z .zero .ensures;
       kept = λ n. absurd (n refl);
     }
 
 pub clear-spec : {M : Type 1} → statement M
-clear-spec = tie.close (tie.spec returns zero-requires same-length returns-2)
+clear-spec = tie.close (tie.spec returns (search needs) (search needs) returns-2)

@@ -1,68 +1,47 @@
 -- `swap` meets its contract: refused by its checks, or every block is turned and scratch cleared.
-use mathlib.Core.Path.{sym, _∙_}
+use mathlib.Core.Path.{_≡_, _∙_}
 use native.Mathlib.Omega.{arith}
-use Rattle.refusals.proofs.Promise.{refused, accepted}
-use Rattle.passes.proofs.Accepted.{cleared-past}
-use Rattle.passes.proofs.Swaps.{swap-accepted}
 use borrow.Author.Needs.{needs}
+use Rattle.lists.proofs.Via.{via}
+use Rattle.refusals.specs.FirstOf.{firstOf}
+use Rattle.refusals.proofs.Promise.{refused, accepted}
+use Rattle.passes.specs.Promises.{swapChecks}
+use Rattle.passes.specs.ThroughScratch.{AllLie}
+use Rattle.passes.proofs.Accepted.{past-cleared}
+use Rattle.passes.proofs.Swaps.{There, swap-accepted}
 use Rattle.passes.proofs.swap.Statement.{statement}
 use Rattle.passes.proofs.swap.Tie as tie
 
-number-requires : tie.Need-number-requires
-number-requires c κs = search needs
-
-same-length : tie.Need-same-length
-same-length c = search needs
-
-same-length-2 : tie.Need-same-length-2
-same-length-2 c = search needs
-
-returns : tie.Need-returns
-returns c = refused (c .before .number .ensures) (c .if1 .taken)
-
-sides-of-requires : tie.Need-sides-of-requires
-sides-of-requires c κs =
-    let x = c .before .before .before .before .before .before in
-    let a = swap-accepted (x .args .outer) (x .args .m) (x .args .n) (x .args .chunk) (x .args .buf .now) (x .args .scratch .now) (c .before .number .ensures) (omega (arith, c .if1 .left)) in
-    (a .0 .m-pos, a .0 .n-pos, a .0 .m-few, a .0 .n-few)
+-- what the checks tell of the arguments where none holds
+checked : (x : tie.Start) → let a = x .args in firstOf (swapChecks (a .outer) (a .m) (a .n) (a .chunk) (a .buf .now) (a .scratch .now)) ≡ 0
+    → There (a .outer) (a .m) (a .n) (a .chunk) × AllLie (a .outer) (a .m) (a .n) (a .chunk) (a .buf .now) (a .scratch .now)
+checked x = swap-accepted _ _ _ _ _ _
 
 turn-all-requires : tie.Need-turn-all-requires
 turn-all-requires c κs =
-    let x = c .before .before .before .before .before .before .before .before .before in
-    let a = swap-accepted (x .args .outer) (x .args .m) (x .args .n) (x .args .chunk) (x .args .buf .now) (x .args .scratch .now) (c .before .before .before .before .number .ensures) (omega (arith, c .before .before .before .if1 .left)) in
-    let s = c .before .before .sides-of .ensures in
-    (s .2, rw (s .0, s .1) (a .1))
-
-clear-longest-requires : tie.Need-clear-longest-requires
-clear-longest-requires c κs =
-    let x = c .before .before .before .before .before .before .before .before .before .before .before .before .before .before .before in
-    let a = swap-accepted (x .args .outer) (x .args .m) (x .args .n) (x .args .chunk) (x .args .buf .now) (x .args .scratch .now) (c .before .before .before .before .before .before .before .before .before .before .number .ensures) (omega (arith, c .before .before .before .before .before .before .before .before .before .if1 .left)) in
-    rw (c .before .before .before .before .before .turn-all .ensures .1 .same) (a .1 .room)
-
-same-length-3 : tie.Need-same-length-3
-same-length-3 c = search needs
-
-same-length-4 : tie.Need-same-length-4
-same-length-4 c = search needs
+    let s : tie.After-group-sides = search in
+    let is = s .group-sides .ensures in
+    (is .2, rw (is .0, is .1) (checked (search) (search via) .1))
 
 returns-2 : tie.Need-returns-2
 returns-2 c =
-    let x = c .before .before .before .before .before .before .before .before .before .before .before .before .before .before .before .before .before .before in
-    let s = c .before .before .before .before .before .before .before .before .before .before .before .sides-of .ensures in
-    let t = rw (s .0, s .1) at (c .before .before .before .before .before .before .before .before .turn-all .ensures) in
-    accepted (sym (c .before .before .before .before .before .before .before .before .before .before .before .before .before .number .ensures) ∙ omega (arith, c .before .before .before .before .before .before .before .before .before .before .before .before .if1 .left)) (t .0) (c .before .before .clear-longest .ensures ∙ cleared-past (t .1))
+    let z : tie.After-clear-longest = search in
+    let t : tie.After-turn-all = search in
+    let s : tie.After-group-sides = search in
+    let turned = rw (s .group-sides .ensures .0, s .group-sides .ensures .1) at (t .turn-all .ensures) in
+    accepted (search via) (turned .0) (z .clear-longest .ensures ∙ past-cleared (turned .1))
 
 pub swap-spec : {M : Type 1} → statement M
 swap-spec =
     tie.close
     (tie.spec
-    number-requires
-    same-length
-    same-length-2
-    returns
-    sides-of-requires
+    (search needs)
+    (search needs)
+    (search needs)
+    (λ c. search refused)
+    (λ c κs. omega (arith, checked (search) (search via) .0))
     turn-all-requires
-    clear-longest-requires
-    same-length-3
-    same-length-4
+    (λ c κs. omega (arith, checked (search) (search via) .1))
+    (search needs)
+    (search needs)
     returns-2)

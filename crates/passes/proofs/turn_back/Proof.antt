@@ -1,70 +1,40 @@
 -- `turn_back` meets its contract: as `turn`, with the passes undone; a turn of the block at exit gives the block at entry.
-use mathlib.Core.Path.{sym, _∙_}
+use mathlib.Core.Path.{_≡_}
 use native.Mathlib.Omega.{arith}
-use Rattle.flat.proofs.Turn.{turn-home}
-use Rattle.refusals.proofs.Promise.{refused, accepted}
-use Rattle.passes.proofs.Accepted.{accepted-by, flat-lies, flat-turned, cleared-past}
 use borrow.Author.Needs.{needs}
+use Rattle.lists.proofs.Via.{via}
+use Rattle.refusals.specs.FirstOf.{firstOf}
+use Rattle.refusals.specs.Calls.{passesChecks}
+use Rattle.refusals.proofs.Promise.{refused}
+use Rattle.flat.specs.Turn.{sides}
+use Rattle.passes.proofs.Accepted.{Accepted, flat-accepted, flat-asked, turn-back-outcome}
 use Rattle.passes.proofs.turn_back.Statement.{statement}
 use Rattle.passes.proofs.turn_back.Tie as tie
 
-number-requires : tie.Need-number-requires
-number-requires c κs = search needs
-
-same-length : tie.Need-same-length
-same-length c = search needs
-
-same-length-2 : tie.Need-same-length-2
-same-length-2 c = search needs
-
-returns : tie.Need-returns
-returns c = refused (c .before .number .ensures) (c .if1 .taken)
-
-sides-of-requires : tie.Need-sides-of-requires
-sides-of-requires c κs =
-    let x = c .before .before .before .before .before .before in
-    let a = accepted-by (x .args .buf .now) (x .args .scratch .now) (c .before .number .ensures) (omega (arith, c .if1 .left)) in
-    (a .m-pos, a .n-pos, a .m-few, a .n-few)
-
-turn-home-at-requires : tie.Need-turn-home-at-requires
-turn-home-at-requires c κs =
-    let x = c .before .before .before .before .before .before .before .before .before in
-    let s = c .before .before .sides-of .ensures in
-    let a = accepted-by (x .args .buf .now) (x .args .scratch .now) (c .before .before .before .before .number .ensures) (omega (arith, c .before .before .before .if1 .left)) in
-    (s .2, rw (s .0, s .1) (flat-lies a))
-
-clear-longest-requires : tie.Need-clear-longest-requires
-clear-longest-requires c κs =
-    let x = c .before .before .before .before .before .before .before .before .before .before .before .before .before .before .before in
-    let a = accepted-by (x .args .buf .now) (x .args .scratch .now) (c .before .before .before .before .before .before .before .before .before .before .number .ensures) (omega (arith, c .before .before .before .before .before .before .before .before .before .if1 .left)) in
-    rw (c .before .before .before .before .before .turn-home-at .ensures .1 .same) (a .room)
-
-same-length-3 : tie.Need-same-length-3
-same-length-3 c = search needs
-
-same-length-4 : tie.Need-same-length-4
-same-length-4 c = search needs
+-- what the checks tell of the arguments where none holds
+checked : (x : tie.Start) → let a = x .args in firstOf (passesChecks (sides (a .m) (a .n)) (a .buf .now) (a .scratch .now)) ≡ 0
+    → Accepted (a .m) (a .n) (a .buf .now) (a .scratch .now)
+checked x = flat-accepted _ _ _ _
 
 returns-2 : tie.Need-returns-2
 returns-2 c =
-    let x = c .before .before .before .before .before .before .before .before .before .before .before .before .before .before .before .before .before .before in
-    let s = c .before .before .before .before .before .before .before .before .before .before .before .sides-of .ensures in
-    let t = rw (s .0, s .1) at (c .before .before .before .before .before .before .before .before .turn-home-at .ensures) in
-    accepted (sym (c .before .before .before .before .before .before .before .before .before .before .before .before .before .number .ensures) ∙ omega (arith, c .before .before .before .before .before .before .before .before .before .before .before .before .if1 .left))
-    (turn-home (flat-turned (x .args .m) (x .args .n) (c .before .before .before .before .before .before .before .before .turn-home-at .last .0) (x .args .buf .now) (t .0)))
-    (c .before .before .clear-longest .ensures ∙ cleared-past (t .1))
+    let z : tie.After-clear-longest = search in
+    let t : tie.After-turn-home-at = search in
+    let s : tie.After-group-sides = search in
+    turn-back-outcome (s .group-sides .ensures) (search via) (z .clear-longest .ensures) (t .turn-home-at .ensures)
 
 pub turn-back-spec : {M : Type 1} → statement M
 turn-back-spec =
     tie.close
     (tie.spec
-    number-requires
-    same-length
-    same-length-2
-    returns
-    sides-of-requires
-    turn-home-at-requires
-    clear-longest-requires
-    same-length-3
-    same-length-4
+    (search needs)
+    (search needs)
+    (search needs)
+    (search needs)
+    (λ c. search refused)
+    (λ c κs. omega (arith, checked (search) (search via)))
+    (λ c κs. let s : tie.After-group-sides = search in flat-asked (s .group-sides .ensures) (checked (search) (search via)))
+    (λ c κs. omega (arith, checked (search) (search via)))
+    (search needs)
+    (search needs)
     returns-2)

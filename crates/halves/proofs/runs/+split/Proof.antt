@@ -6,7 +6,7 @@ use borrow.Author.Needs.{needs}
 use Rattle.halves.proofs.Four.{Halved, halved}
 use Rattle.halves.proofs.Merges.{merged-one}
 use Rattle.halves.proofs.Halving.{stretch-long, cut-within, low-runs, cut-after, high-runs, both-runs, split-whole}
-use borrow.Fn.Kinds.{In}
+use borrow.Fn.Kinds.{In, Out}
 use borrow.Fn.PlainCycle.{Measures, is, falls, and}
 use Rattle.halves.proofs.runs.split.Reads as split
 use Rattle.halves.proofs.runs.split.Kinds as split-kinds
@@ -28,114 +28,86 @@ split-below t = and 1 split-kinds.ps (falls 1 split-kinds.ps _<_ μ-split t) spl
 abbrev split-calls : ℕ → split-lts.Claims
 split-calls t = (split-below t, split.Post, rotate-reads.Asked, rotate-reads.Learnt)
 
--- the run counts of this call and of the two below it
-split-cuts : (t : ℕ) (x : split-lts.Start (split-calls t) (split-at t) split.Post)
-    → Halved (x .args .n) (x .args .p) (x .args .q)
-split-cuts t x = halved (x .args .n) (x .args .p) (x .args .q) (omega arith)
+-- a place of split, or a need, at a call of measure t
+abbrev At : (split-lts.Claims → In 1 split-kinds.ps → Out 1 split-kinds.ps split-kinds.r → Type 0) → ℕ → Type 0
+At P t = P (split-calls t) (split-at t) split.Post
 
-split-returns : (t : ℕ) → split-lts.Need-returns (split-calls t) (split-at t) split.Post
-split-returns t c = let x = c .before .before .args in merged-one (x .n) (x .p) (x .q) (x .s .now) (omega arith)
+module _ (t : ℕ) where
+  -- the run counts of this call and of the two below it
+  cuts : (x : At split-lts.Start t) → Halved (x .args .n) (x .args .p) (x .args .q)
+  cuts x = halved (x .args .n) (x .args .p) (x .args .q) (omega arith)
 
-split-sub-g : (t : ℕ) → split-lts.Need-sub-g (split-calls t) (split-at t) split.Post
-split-sub-g t c = search needs
+  returns : At split-lts.Need-returns t
+  returns c = let x : At split-lts.Start t = search in merged-one (x .args .n) (x .args .p) (x .args .q) (x .args .s .now) (omega arith)
 
-split-add-cut : (t : ℕ) → split-lts.Need-add-cut (split-calls t) (split-at t) split.Post
-split-add-cut t c = omega (arith, split-cuts t (c .before .before))
+  low-within : At split-lts.Need-slice-relend-prefix-split t
+  low-within c = let x : At split-lts.Start t = search in cut-within (x .pre .1)
 
-split-mul-cut : (t : ℕ) → split-lts.Need-mul-cut (split-calls t) (split-at t) split.Post
-split-mul-cut t c = omega (arith, split-cuts t (c .before .before))
+  low-long : At split-lts.Need-slice-aggregate-split t
+  low-long c = let x : At split-lts.Start t = search in sym (low-runs (x .pre .1) (omega arith) .fill)
 
-split-slice-relend-prefix-split : (t : ℕ) → split-lts.Need-slice-relend-prefix-split (split-calls t) (split-at t) split.Post
-split-slice-relend-prefix-split t c = cut-within (c .before .before .pre .1)
+  low-requires : At split-lts.Need-split-requires t
+  low-requires c κs = let x : At split-lts.Start t = search in (omega arith, low-runs (x .pre .1) (omega arith))
 
-split-slice-aggregate-split : (t : ℕ) → split-lts.Need-slice-aggregate-split (split-calls t) (split-at t) split.Post
-split-slice-aggregate-split t c = sym (low-runs (c .before .before .before .pre .1) (omega arith) .fill)
+  high-within : At split-lts.Need-sub-split t
+  high-within c =
+      let low : At split-lts.After-split t = search in
+      let x : At split-lts.Start t = search in
+      cut-after (x .pre .1) (low .split .last .0) (low .split .kept .0)
 
-split-split-requires : (t : ℕ) → split-lts.Need-split-requires (split-calls t) (split-at t) split.Post
-split-split-requires t c κs = (omega arith, low-runs (c .before .before .before .pre .1) (omega arith))
+  high-requires : At split-lts.Need-split-requires-2 t
+  high-requires c κs =
+      let low : At split-lts.After-split t = search in
+      let x : At split-lts.Start t = search in
+      (omega arith, high-runs (x .pre .1) (low .split .last .0) (low .split .kept .0) (omega arith))
 
-split-mul-split : (t : ℕ) → split-lts.Need-mul-split (split-calls t) (split-at t) split.Post
-split-mul-split t c = omega (arith, split-cuts t (c .before .before .before .before .before .before))
+  stretch-within : At split-lts.Need-part-rotate-end t
+  stretch-within c =
+      let high : At split-lts.After-split2 t = search in
+      let low : At split-lts.After-split t = search in
+      let x : At split-lts.Start t = search in
+      omega (arith, cuts x, both-runs (x .pre .1) (low .split .ensures) (high .split2 .ensures) .fill)
 
-split-sub-split : (t : ℕ) → split-lts.Need-sub-split (split-calls t) (split-at t) split.Post
-split-sub-split t c =
-    let low = c .before .before .split in
-    cut-after (c .before .before .before .before .before .before .pre .1) (low .last .0) (low .kept .0)
+  rotate-requires : At split-lts.Need-rotate-requires t
+  rotate-requires c κs =
+      let high : At split-lts.After-split2 t = search in
+      let low : At split-lts.After-split t = search in
+      let x : At split-lts.Start t = search in
+      omega (arith, cuts x, stretch-long (both-runs (x .pre .1) (low .split .ensures) (high .split2 .ensures)))
 
-split-part-split-start : (t : ℕ) → split-lts.Need-part-split-start (split-calls t) (split-at t) split.Post
-split-part-split-start t c =
-    let low = c .before .before .split in
-    cut-after (c .before .before .before .before .before .before .pre .1) (low .last .0) (low .kept .0)
-
-split-part-split-end : (t : ℕ) → split-lts.Need-part-split-end (split-calls t) (split-at t) split.Post
-split-part-split-end t c = search needs
-
-split-split-requires-2 : (t : ℕ) → split-lts.Need-split-requires-2 (split-calls t) (split-at t) split.Post
-split-split-requires-2 t c κs =
-    let low = c .before .before .before .split in
-    (omega arith, high-runs (c .before .before .before .before .before .before .before .pre .1) (low .last .0) (low .kept .0) (omega arith))
-
-split-mul-from : (t : ℕ) → split-lts.Need-mul-from (split-calls t) (split-at t) split.Post
-split-mul-from t c = omega (arith, split-cuts t (c .before .before .before .before .before .before .before .before .before .before))
-
-split-mul-to : (t : ℕ) → split-lts.Need-mul-to (split-calls t) (split-at t) split.Post
-split-mul-to t c = omega (arith, split-cuts t (c .before .before .before .before .before .before .before .before .before .before))
-
-split-mul-to-2 : (t : ℕ) → split-lts.Need-mul-to-2 (split-calls t) (split-at t) split.Post
-split-mul-to-2 t c = omega (arith, split-cuts t (c .before .before .before .before .before .before .before .before .before .before))
-
-split-add-to : (t : ℕ) → split-lts.Need-add-to (split-calls t) (split-at t) split.Post
-split-add-to t c = omega (arith, split-cuts t (c .before .before .before .before .before .before .before .before .before .before))
-
-split-mul-rotate : (t : ℕ) → split-lts.Need-mul-rotate (split-calls t) (split-at t) split.Post
-split-mul-rotate t c = omega (arith, split-cuts t (c .before .before .before .before .before .before .before .before .before .before))
-
-split-sub-rotate : (t : ℕ) → split-lts.Need-sub-rotate (split-calls t) (split-at t) split.Post
-split-sub-rotate t c = omega (arith, split-cuts t (c .before .before .before .before .before .before .before .before .before .before))
-
-split-part-rotate-start : (t : ℕ) → split-lts.Need-part-rotate-start (split-calls t) (split-at t) split.Post
-split-part-rotate-start t c = omega (arith, split-cuts t (c .before .before .before .before .before .before .before .before .before .before))
-
-split-part-rotate-end : (t : ℕ) → split-lts.Need-part-rotate-end (split-calls t) (split-at t) split.Post
-split-part-rotate-end t c = omega (arith, split-cuts t (c .before .before .before .before .before .before .before .before .before .before), both-runs (c .before .before .before .before .before .before .before .before .before .before .pre .1) (c .before .before .before .before .before .before .split .ensures) (c .before .before .split2 .ensures) .fill)
-
-split-mul-rotate-2 : (t : ℕ) → split-lts.Need-mul-rotate-2 (split-calls t) (split-at t) split.Post
-split-mul-rotate-2 t c = omega (arith, split-cuts t (c .before .before .before .before .before .before .before .before .before .before .before))
-
-split-rotate-requires : (t : ℕ) → split-lts.Need-rotate-requires (split-calls t) (split-at t) split.Post
-split-rotate-requires t c κs = omega (arith, split-cuts t (c .before .before .before .before .before .before .before .before .before .before .before), stretch-long (both-runs (c .before .before .before .before .before .before .before .before .before .before .before .pre .1) (c .before .before .before .before .before .before .before .split .ensures) (c .before .before .before .split2 .ensures)))
-
-split-same-length : (t : ℕ) → split-lts.Need-same-length (split-calls t) (split-at t) split.Post
-split-same-length t c = search needs
-
-split-returns-2 : (t : ℕ) → split-lts.Need-returns-2 (split-calls t) (split-at t) split.Post
-split-returns-2 t c = split-whole (c .before .before .before .before .before .before .before .before .before .before .before .before .before .before .pre .1) (c .before .before .before .before .before .before .before .before .before .before .split .ensures) (c .before .before .before .before .before .before .split2 .ensures) (c .before .before .rotate .ensures)
+  returns-2 : At split-lts.Need-returns-2 t
+  returns-2 c =
+      let r : At split-lts.After-rotate t = search in
+      let high : At split-lts.After-split2 t = search in
+      let low : At split-lts.After-split t = search in
+      let x : At split-lts.Start t = search in
+      split-whole (x .pre .1) (low .split .ensures) (high .split2 .ensures) (r .rotate .ensures)
 
 pub +split-spec : {M : Type 1} → statement M
 +split-spec = close μ-split λ t. split-lts.spec (split-calls t)
     (split-at t)
     split.Post
-    (split-returns t)
-    (split-sub-g t)
-    (split-add-cut t)
-    (split-mul-cut t)
-    (split-slice-relend-prefix-split t)
-    (split-slice-aggregate-split t)
-    (split-split-requires t)
-    (split-mul-split t)
-    (split-sub-split t)
-    (split-part-split-start t)
-    (split-part-split-end t)
-    (split-split-requires-2 t)
-    (split-mul-from t)
-    (split-mul-to t)
-    (split-mul-to-2 t)
-    (split-add-to t)
-    (split-mul-rotate t)
-    (split-sub-rotate t)
-    (split-part-rotate-start t)
-    (split-part-rotate-end t)
-    (split-mul-rotate-2 t)
-    (split-rotate-requires t)
-    (split-same-length t)
-    (split-returns-2 t)
+    (returns t)
+    (search needs)
+    (λ c. omega (arith, cuts t (search)))
+    (λ c. omega (arith, cuts t (search)))
+    (low-within t)
+    (low-long t)
+    (low-requires t)
+    (λ c. omega (arith, cuts t (search)))
+    (high-within t)
+    (high-within t)
+    (search needs)
+    (high-requires t)
+    (λ c. omega (arith, cuts t (search)))
+    (λ c. omega (arith, cuts t (search)))
+    (λ c. omega (arith, cuts t (search)))
+    (λ c. omega (arith, cuts t (search)))
+    (λ c. omega (arith, cuts t (search)))
+    (λ c. omega (arith, cuts t (search)))
+    (λ c. omega (arith, cuts t (search)))
+    (stretch-within t)
+    (λ c. omega (arith, cuts t (search)))
+    (rotate-requires t)
+    (search needs)
+    (returns-2 t)

@@ -14,22 +14,24 @@ Inv-loop m n x₀ y₀ x y = gcdOf x y ≡ gcdOf m n
 abbrev μ-loop : tie.MeasureT-loop
 μ-loop m n x₀ y₀ x y = y
 
-loop-holds : tie.Need-loop-holds Inv-loop μ-loop
-loop-holds c = refl
-
-rem-rest : tie.Need-rem-rest Inv-loop μ-loop
-rem-rest c = search needs
-
-loop-less : tie.Need-loop-less Inv-loop μ-loop
-loop-less c = mod-lt (c .before .loop .x) (omega arith)
-
-loop-again : tie.Need-loop-again Inv-loop μ-loop
-loop-again c = gcd-step (c .before .loop .x) (c .before .loop .y) ∙ c .before .loop .inv
+-- where the loop stands
+abbrev Loop : Type 0
+Loop = tie.At-loop Inv-loop μ-loop
 
 returns : tie.Need-returns Inv-loop μ-loop
 returns c =
-    let e : c .before .loop .y ≡ 0 = omega arith in
-    sym (gcd-end (c .before .loop .x)) ∙ ap (gcdOf (c .before .loop .x)) (sym e) ∙ c .before .loop .inv
+    let l : Loop = search in
+    let e : l .loop .y ≡ 0 = omega arith in
+    sym (gcd-end (l .loop .x)) ∙ ap (gcdOf (l .loop .x)) (sym e) ∙ l .loop .inv
 
 pub gcd-spec : {M : Type 1} → statement M
-gcd-spec = tie.close (tie.spec Inv-loop μ-loop loop-holds rem-rest loop-less loop-again returns)
+gcd-spec =
+    tie.close
+    (tie.spec
+    Inv-loop
+    μ-loop
+    (λ c. refl)
+    (search needs)
+    (λ c. let l : Loop = search in mod-lt (l .loop .x) (omega arith))
+    (λ c. let l : Loop = search in gcd-step (l .loop .x) (l .loop .y) ∙ l .loop .inv)
+    returns)

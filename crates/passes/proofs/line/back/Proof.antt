@@ -1,26 +1,22 @@
 -- `back` meets its contract: the line is lifted into scratch as its pass found it, and put back.
 use borrow.Author.Needs.{needs}
-use Rattle.passes.proofs.Held.{moved-through, moved-home, held-past, from-within}
+use Rattle.passes.proofs.Lifted.{moved-back}
 use Rattle.passes.proofs.line.back.Statement.{statement}
 use Rattle.passes.proofs.line.back.Tie as tie
 
-lift-home-requires : tie.Need-lift-home-requires
-lift-home-requires c κs = search needs
-
-put-back-requires : tie.Need-put-back-requires
-put-back-requires c κs = search needs
-
-same-length : tie.Need-same-length
-same-length c = search needs
-
-same-length-2 : tie.Need-same-length-2
-same-length-2 c = search needs
-
 returns : tie.Need-returns
 returns c =
-    let x = c .before .before .before .before .before .before .before .before .before .before .before .before in
-    (moved-home (moved-through (from-within (x .pre .1)) (c .before .before .before .before .before .before .before .lift-home .ensures) (c .before .before .put-back .ensures)), held-past (c .before .before .before .before .before .before .before .lift-home .ensures))
+    let p : tie.After-put-back = search in
+    let l : tie.After-lift-home = search in
+    let x : tie.Start = search in
+    moved-back (x .pre .1) (l .lift-home .ensures) (p .put-back .ensures)
 
 pub back-spec : {M : Type 1} → statement M
 back-spec =
-    tie.close (tie.spec lift-home-requires put-back-requires same-length same-length-2 returns)
+    tie.close
+    (tie.spec
+    (λ c κs. search needs)
+    (λ c κs. search needs)
+    (search needs)
+    (search needs)
+    returns)

@@ -1,25 +1,22 @@
 -- `forth` meets its contract: the line is lifted into scratch and put back.
 use borrow.Author.Needs.{needs}
-use Rattle.passes.proofs.Held.{moved-through, held-past, to-within}
+use Rattle.passes.proofs.Lifted.{moved-forth}
 use Rattle.passes.proofs.line.forth.Statement.{statement}
 use Rattle.passes.proofs.line.forth.Tie as tie
 
-lift-requires : tie.Need-lift-requires
-lift-requires c κs = search needs
-
-put-back-requires : tie.Need-put-back-requires
-put-back-requires c κs = search needs
-
-same-length : tie.Need-same-length
-same-length c = search needs
-
-same-length-2 : tie.Need-same-length-2
-same-length-2 c = search needs
-
 returns : tie.Need-returns
 returns c =
-    let x = c .before .before .before .before .before .before .before .before .before .before .before .before in
-    (moved-through (to-within (x .pre .1)) (c .before .before .before .before .before .before .before .lift .ensures) (c .before .before .put-back .ensures), held-past (c .before .before .before .before .before .before .before .lift .ensures))
+    let p : tie.After-put-back = search in
+    let l : tie.After-lift = search in
+    let x : tie.Start = search in
+    moved-forth (x .pre .1) (l .lift .ensures) (p .put-back .ensures)
 
 pub forth-spec : {M : Type 1} → statement M
-forth-spec = tie.close (tie.spec lift-requires put-back-requires same-length same-length-2 returns)
+forth-spec =
+    tie.close
+    (tie.spec
+    (λ c κs. search needs)
+    (λ c κs. search needs)
+    (search needs)
+    (search needs)
+    returns)

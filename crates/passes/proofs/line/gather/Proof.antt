@@ -1,78 +1,35 @@
 -- `gather` meets its contract: scratch is filled place by place, each with the word of the line's paired place.
-use mathlib.Core.Path.{_≡_}
 use Prim.Native.Nat.{_-_, _<_, _≤_}
 use native.Mathlib.Omega.{arith}
 use borrow.Author.Needs.{needs}
 use lib.ListN.{length, getD}
 use Rattle.passes.specs.Lines.{posOn, paired}
-use Rattle.passes.proofs.Filling.{Filling, filling-more}
+use Rattle.passes.proofs.Filling.{Filling, filling-more, all-lifted}
 use Rattle.passes.proofs.line.gather.Statement.{statement}
 use Rattle.passes.proofs.line.gather.Tie as tie
 
 abbrev Inv-loop : tie.InvT-loop
-Inv-loop buf scratch₀ s l start stride k₀ k-end scratch k = (k ≤ l .count) × Filling (λ j. j) (λ j. getD buf (posOn l (paired (s .m) (s .n) (l .pass) (l .index) j)) 0) (l .count) k scratch₀ scratch
+Inv-loop buf scratch₀ s l start stride k₀ k-end scratch k =
+    (k ≤ l .count) × Filling (λ j. j) (λ j. getD buf (posOn l (paired (s .m) (s .n) (l .pass) (l .index) j)) 0) (l .count) k scratch₀ scratch
 
 abbrev μ-loop : tie.MeasureT-loop
 μ-loop buf scratch₀ s l start stride k₀ k-end scratch k = l .count - k
 
 -- the place that is read lies in the buffer
-inside : (c : tie.After-paired-place Inv-loop μ-loop)
-    → posOn (c .before .before .before .before .before .args .l) (c .paired-place .result) < length (c .before .before .before .before .before .args .buf .now)
-inside c =
-    let x = c .before .before .before .before .before in
-    let k = c .before .before .loop .k in
-    rw (c .paired-place .ensures) (x .pre .1 .inside (paired (x .args .s .m) (x .args .s .n) (x .args .l .pass) (x .args .l .index) k) (x .pre .1 .within k (c .before .loop-test .taken)))
-
-loop-holds : tie.Need-loop-holds Inv-loop μ-loop
-loop-holds c = search needs
-
-paired-place-requires : tie.Need-paired-place-requires Inv-loop μ-loop
-paired-place-requires c κs = search needs
-
-mul-scratch : tie.Need-mul-scratch Inv-loop μ-loop
-mul-scratch c = omega (arith, inside c)
-
-add-scratch : tie.Need-add-scratch Inv-loop μ-loop
-add-scratch c = omega (arith, inside c)
-
-mul-scratch-2 : tie.Need-mul-scratch-2 Inv-loop μ-loop
-mul-scratch-2 c = omega (arith, inside c)
-
-shared-slice-read-scratch : tie.Need-shared-slice-read-scratch Inv-loop μ-loop
-shared-slice-read-scratch c = inside (c .before)
-
-mul-scratch-3 : tie.Need-mul-scratch-3 Inv-loop μ-loop
-mul-scratch-3 c = search needs
-
-slice-write-scratch : tie.Need-slice-write-scratch Inv-loop μ-loop
-slice-write-scratch c = search needs
-
-add-k : tie.Need-add-k Inv-loop μ-loop
-add-k c = search needs
-
-loop-less : tie.Need-loop-less Inv-loop μ-loop
-loop-less c = search needs
+inside : (p : tie.After-paired-place Inv-loop μ-loop)
+    → let l = p .before .before in
+    let a = l .before .before .before .args in
+    posOn (a .l) (p .paired-place .result) < length (a .buf .now)
+inside p = let x : tie.Start Inv-loop μ-loop = search in rw (p .paired-place .ensures) (x .pre .1 .inside _ (x .pre .1 .within _ (omega arith)))
 
 loop-again : tie.Need-loop-again Inv-loop μ-loop
 loop-again c =
-    let x = c .before .before .before .before .before .before in
-    let l = c .before .before .before .loop in
-    let h = c .before .before .loop-test .taken in
-    (omega (arith, h), rw (c .before .paired-place .ensures) (filling-more (λ i j _ _ e. e) h (omega (arith, h, x .pre .1 .room)) (l .inv .1)))
-
-same-length : tie.Need-same-length Inv-loop μ-loop
-same-length c = search needs
+    let p : tie.After-paired-place Inv-loop μ-loop = search in
+    let l : tie.At-loop Inv-loop μ-loop = search in
+    (omega arith, rw (p .paired-place .ensures) (filling-more (λ i j _ _ e. e) (omega arith) (omega arith) (l .loop .inv .1)))
 
 returns : tie.Need-returns Inv-loop μ-loop
-returns c =
-    let x = c .before .before .before .before in
-    let l = c .before .loop in
-    let e : l .k ≡ x .args .l .count = omega arith in
-    record {
-      same = l .inv .1 .same;
-      placed = λ k h. l .inv .1 .placed k (omega arith);
-      rest = λ k h. l .inv .1 .others k (λ j d q. omega arith);
-    }
+returns c = let l : tie.At-loop Inv-loop μ-loop = search in all-lifted (λ j d. d) (l .loop .inv .1) (omega arith)
 
 pub gather-spec : {M : Type 1} → statement M
 gather-spec =
@@ -80,16 +37,16 @@ gather-spec =
     (tie.spec
     Inv-loop
     μ-loop
-    loop-holds
-    paired-place-requires
-    mul-scratch
-    add-scratch
-    mul-scratch-2
-    shared-slice-read-scratch
-    mul-scratch-3
-    slice-write-scratch
-    add-k
-    loop-less
+    (search needs)
+    (search needs)
+    (λ c. omega (arith, inside (search)))
+    (λ c. omega (arith, inside (search)))
+    (λ c. omega (arith, inside (search)))
+    (λ c. inside (search))
+    (search needs)
+    (search needs)
+    (search needs)
+    (search needs)
     loop-again
-    same-length
+    (search needs)
     returns)

@@ -1,99 +1,83 @@
 -- `paired_place` meets its contract: each pass's formula as it stands, sides and places of at most 4,096 keep every product small.
-use Prim.Native.Nat.{_+_, _/_, _<_}
+use mathlib.Core.Path.{_≡_}
+use Prim.Native.Nat.{_+_, _*_, _-_, _/_, _%_, _<_, _≤_}
 use native.Mathlib.Nat.{mul-le-mul, div-le-self, mod-lt, le-mul-of-pos-right}
 use native.Mathlib.Omega.{arith}
 use borrow.Author.Needs.{needs}
 use borrow.Author.Tests.{eq-eqb, ne-eqb}
 use Rattle.flat.specs.Passes.{row1, column2, row3}
 use Rattle.flat.proofs.Sides.{sides-are}
-use Rattle.passes.specs.Lines.{Sound}
 use Rattle.passes.proofs.line.paired_place.Statement.{statement}
 use Rattle.passes.proofs.line.paired_place.Tie as tie
-use Rattle.passes.specs.declared.line.Sides.{Sides}
 
--- the groups of sound sides are not empty
-a-pos : {s : Sides} → Sound s → 0 < s .a
-a-pos {s} h = rw (h .a-is) (sides-are (s .m) (s .n) (h .m-pos) (h .n-pos) .a-pos)
+module _ (x : tie.Start) where
+  -- the groups of the sides are not empty
+  groups : (0 < x .args .s .a) × (0 < x .args .s .b)
+  groups =
+      let g = x .pre .0 in
+      let s = sides-are (x .args .s .m) (x .args .s .n) (g .m-pos) (g .n-pos) in
+      (rw (g .a-is) (s .a-pos), rw (g .b-is) (s .b-pos))
 
-b-pos : {s : Sides} → Sound s → 0 < s .b
-b-pos {s} h = rw (h .b-is) (sides-are (s .m) (s .n) (h .m-pos) (h .n-pos) .b-pos)
+  -- every part of a formula is small
+  small : (x .args .index / x .args .s .b ≤ x .args .index) × (x .args .k / x .args .s .b ≤ x .args .k) × (x .args .k / x .args .s .a ≤ x .args .k)
+  small = (div-le-self _ _, div-le-self _ _, div-le-self _ _)
 
-div-result : tie.Need-div-result
-div-result c = b-pos (c .before .before .pre .0)
+  products : (x .args .k * x .args .s .m ≤ 16777216) × (x .args .k * x .args .s .n ≤ 16777216) × (x .args .k ≤ x .args .k * x .args .s .n)
+  products =
+      let g = x .pre .0 in
+      (mul-le-mul (x .pre .2) (g .m-few), mul-le-mul (x .pre .2) (g .n-few), le-mul-of-pos-right _ (g .n-pos))
 
-add-result : tie.Need-add-result
-add-result c = let x = c .before .before in omega (arith, div-le-self (x .args .index) (x .args .s .b))
+  row : (x .args .index + x .args .k / x .args .s .b) % x .args .s .m < x .args .s .m
+  row = mod-lt _ (x .pre .0 .m-pos)
 
-rem-result : tie.Need-rem-result
-rem-result c = search needs
+  -- each formula is that of its pass
+  formula-1 : (x .args .k + x .args .index / x .args .s .b) % x .args .s .m ≡ row1 (x .args .s .m) (x .args .s .n) (x .args .k) (x .args .index)
+  unfolding row1
+  formula-1 = rw (x .pre .0 .b-is)
+
+  formula-2 : ((x .args .index + x .args .k / x .args .s .b) % x .args .s .m + x .args .k * x .args .s .m) % x .args .s .n
+      ≡ column2 (x .args .s .m) (x .args .s .n) (x .args .index) (x .args .k)
+  unfolding column2
+  formula-2 = rw (x .pre .0 .b-is)
+
+  formula-3 : (x .args .index + x .args .k * x .args .s .n - x .args .k / x .args .s .a) % x .args .s .m
+      ≡ row3 (x .args .s .m) (x .args .s .n) (x .args .k) (x .args .index)
+  unfolding row3
+  formula-3 = rw (x .pre .0 .a-is)
 
 returns : tie.Need-returns
-unfolding row1
-returns c = let x = c .before .before .before in simp (eq-eqb _ _ (c .before .before .if1 .taken)) (rw (x .pre .0 .b-is))
-
-div-result-2 : tie.Need-div-result-2
-div-result-2 c = b-pos (c .before .before .before .pre .0)
-
-add-result-2 : tie.Need-add-result-2
-add-result-2 c = let x = c .before .before .before in omega (arith, div-le-self (x .args .k) (x .args .s .b))
-
-rem-result-2 : tie.Need-rem-result-2
-rem-result-2 c = search needs
-
-mul-result : tie.Need-mul-result
-mul-result c = let x = c .before .before .before .before .before in omega (arith, mul-le-mul (x .pre .2) (x .pre .0 .m-few))
-
-add-result-3 : tie.Need-add-result-3
-add-result-3 c = let x = c .before .before .before .before .before in omega (arith, mul-le-mul (x .pre .2) (x .pre .0 .m-few), mod-lt (x .args .index + x .args .k / x .args .s .b) (x .pre .0 .m-pos))
-
-rem-result-3 : tie.Need-rem-result-3
-rem-result-3 c = search needs
+returns c = let t : tie.Then1 = search in simp (eq-eqb _ _ (t .if1 .taken)) (formula-1 (search))
 
 returns-2 : tie.Need-returns-2
-unfolding column2
 returns-2 c =
-    let x = c .before .before .before .before .before .before in
-    simp (ne-eqb _ _ (c .before .before .before .before .before .if1 .left), eq-eqb _ _ (c .before .before .before .before .if2 .taken)) (rw (x .pre .0 .b-is))
-
-mul-result-2 : tie.Need-mul-result-2
-mul-result-2 c = let x = c .before .before .before in omega (arith, mul-le-mul (x .pre .2) (x .pre .0 .n-few))
-
-add-result-4 : tie.Need-add-result-4
-add-result-4 c = let x = c .before .before .before in omega (arith, mul-le-mul (x .pre .2) (x .pre .0 .n-few))
-
-div-result-3 : tie.Need-div-result-3
-div-result-3 c = a-pos (c .before .before .before .before .pre .0)
-
-sub-result : tie.Need-sub-result
-sub-result c = let x = c .before .before .before .before in omega (arith, div-le-self (x .args .k) (x .args .s .a), le-mul-of-pos-right (x .args .k) (x .pre .0 .n-pos))
-
-rem-result-4 : tie.Need-rem-result-4
-rem-result-4 c = search needs
+    let t : tie.Then2 = search in
+    let e : tie.Else1 = search in
+    simp (ne-eqb _ _ (e .if1 .left), eq-eqb _ _ (t .if2 .taken)) (formula-2 (search))
 
 returns-3 : tie.Need-returns-3
-unfolding row3
 returns-3 c =
-    let x = c .before .before .before .before .before in
-    simp (ne-eqb _ _ (c .before .before .before .before .if1 .left), ne-eqb _ _ (c .before .before .before .if2 .left)) (rw (x .pre .0 .a-is))
+    let f : tie.Else2 = search in
+    let e : tie.Else1 = search in
+    simp (ne-eqb _ _ (e .if1 .left), ne-eqb _ _ (f .if2 .left)) (formula-3 (search))
 
 pub paired-place-spec : {M : Type 1} → statement M
 paired-place-spec =
     tie.close
     (tie.spec
-    div-result
-    add-result
-    rem-result
+    (λ c. groups (search) .1)
+    (λ c. omega (arith, small (search)))
+    (search needs)
     returns
-    div-result-2
-    add-result-2
-    rem-result-2
-    mul-result
-    add-result-3
-    rem-result-3
+    (λ c. groups (search) .1)
+    (λ c. omega (arith, small (search)))
+    (search needs)
+    (λ c. omega (arith, products (search)))
+    (λ c. omega (arith, products (search), row (search)))
+    (search needs)
     returns-2
-    mul-result-2
-    add-result-4
-    div-result-3
-    sub-result
-    rem-result-4
+    (λ c. omega (arith, products (search)))
+    (λ c. omega (arith, products (search)))
+    (λ c. groups (search) .0)
+    (λ c. omega (arith, products (search), small (search)))
+    (search needs)
     returns-3)

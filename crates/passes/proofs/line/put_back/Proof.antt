@@ -6,7 +6,7 @@ use native.Mathlib.Omega.{arith}
 use borrow.Author.Needs.{needs}
 use lib.ListN.{length, getD}
 use Rattle.passes.specs.Lines.{posOn}
-use Rattle.passes.proofs.Filling.{Filling, filling-more}
+use Rattle.passes.proofs.Filling.{Filling, filling-more, all-returned}
 use Rattle.passes.proofs.line.put_back.Statement.{statement}
 use Rattle.passes.proofs.line.put_back.Tie as tie
 
@@ -17,60 +17,21 @@ abbrev μ-loop : tie.MeasureT-loop
 μ-loop buf₀ scratch start stride k₀ k-end buf k = k-end - k
 
 -- the place that is written lies in the buffer
-inside : (c : tie.In-loop Inv-loop μ-loop) → posOn (c .before .before .args .l) (c .before .loop .k) < length (c .before .before .args .buf .now)
-inside c = c .before .before .pre .0 (c .before .loop .k) (c .loop-test .taken)
+inside : (c : tie.In-loop Inv-loop μ-loop) → let a = c .before .before .args in posOn (a .l) (c .before .loop .k) < length (a .buf .now)
+inside c = let x : tie.Start Inv-loop μ-loop = search in x .pre .0 _ (omega arith)
 
 -- no two places of a line are one
 apart : (start stride : ℕ) → 0 < stride → (i j : ℕ) → start + stride * i ≡ start + stride * j → i ≡ j
 apart start stride h i j e = eq-of-mul-eq-mul-left stride h i j (omega arith)
 
-loop-holds : tie.Need-loop-holds Inv-loop μ-loop
-loop-holds c = search needs
-
-mul-buf : tie.Need-mul-buf Inv-loop μ-loop
-mul-buf c = search needs
-
-shared-slice-read-buf : tie.Need-shared-slice-read-buf Inv-loop μ-loop
-shared-slice-read-buf c = search needs
-
-mul-buf-2 : tie.Need-mul-buf-2 Inv-loop μ-loop
-mul-buf-2 c = omega (arith, inside (c .before))
-
-add-buf : tie.Need-add-buf Inv-loop μ-loop
-add-buf c = omega (arith, inside (c .before))
-
-mul-buf-3 : tie.Need-mul-buf-3 Inv-loop μ-loop
-mul-buf-3 c = omega (arith, inside (c .before))
-
-slice-write-buf : tie.Need-slice-write-buf Inv-loop μ-loop
-slice-write-buf c = omega (arith, inside (c .before), c .before .before .loop .inv .1 .same)
-
-add-k : tie.Need-add-k Inv-loop μ-loop
-add-k c = search needs
-
-loop-less : tie.Need-loop-less Inv-loop μ-loop
-loop-less c = search needs
-
 loop-again : tie.Need-loop-again Inv-loop μ-loop
 loop-again c =
-    let x = c .before .before .before in
-    let l = c .before .before .loop in
-    let h = c .before .loop-test .taken in
-    (omega (arith, h), filling-more (λ i j _ _ e. apart (x .args .l .start) (x .args .l .stride) (x .pre .1) i j e) h (inside (c .before)) (l .inv .1))
-
-same-length : tie.Need-same-length Inv-loop μ-loop
-same-length c = search needs
+    let l : tie.At-loop Inv-loop μ-loop = search in
+    let x : tie.Start Inv-loop μ-loop = search in
+    (omega arith, filling-more (λ i j _ _ e. apart (x .args .l .start) (x .args .l .stride) (x .pre .1) i j e) (omega arith) (inside (search)) (l .loop .inv .1))
 
 returns : tie.Need-returns Inv-loop μ-loop
-returns c =
-    let x = c .before .before in
-    let l = c .before .loop in
-    let e : l .k ≡ x .args .l .count = omega arith in
-    record {
-      same = l .inv .1 .same;
-      placed = λ k h. l .inv .1 .placed k (omega arith);
-      others = l .inv .1 .others;
-    }
+returns c = let l : tie.At-loop Inv-loop μ-loop = search in all-returned (l .loop .inv .1) (omega arith)
 
 pub put-back-spec : {M : Type 1} → statement M
 put-back-spec =
@@ -78,15 +39,15 @@ put-back-spec =
     (tie.spec
     Inv-loop
     μ-loop
-    loop-holds
-    mul-buf
-    shared-slice-read-buf
-    mul-buf-2
-    add-buf
-    mul-buf-3
-    slice-write-buf
-    add-k
-    loop-less
+    (search needs)
+    (search needs)
+    (search needs)
+    (λ c. omega (arith, inside (search)))
+    (λ c. omega (arith, inside (search)))
+    (λ c. omega (arith, inside (search)))
+    (λ c. omega (arith, inside (search)))
+    (search needs)
+    (search needs)
     loop-again
-    same-length
+    (search needs)
     returns)

@@ -15,32 +15,18 @@ Inv-loop scratch₀ n k₀ scratch k = (k ≤ n) × (length scratch ≡ length s
 abbrev μ-loop : tie.MeasureT-loop
 μ-loop scratch₀ n k₀ scratch k = n - k
 
-loop-holds : tie.Need-loop-holds Inv-loop μ-loop
-loop-holds c = (omega arith, refl, refl)
-
-mul-scratch : tie.Need-mul-scratch Inv-loop μ-loop
-mul-scratch c = search needs
-
-slice-write-scratch : tie.Need-slice-write-scratch Inv-loop μ-loop
-slice-write-scratch c = omega arith
-
-add-k : tie.Need-add-k Inv-loop μ-loop
-add-k c = search needs
-
-loop-less : tie.Need-loop-less Inv-loop μ-loop
-loop-less c = omega arith
-
 loop-again : tie.Need-loop-again Inv-loop μ-loop
 loop-again c =
-    let x = c .before .before in
-    let l = c .before .loop in
-    (omega arith, simp length-set (omega arith), rw (l .inv .2) (fill-more (l .k) 0 (x .args .scratch .now) (omega arith)))
-
-same-length : tie.Need-same-length Inv-loop μ-loop
-same-length c = search needs
+    let l : tie.At-loop Inv-loop μ-loop = search in
+    let x : tie.Start Inv-loop μ-loop = search in
+    (omega arith, simp length-set (omega arith), rw (l .loop .inv .2) (fill-more (l .loop .k) 0 (x .args .scratch .now) (omega arith)))
 
 returns : tie.Need-returns Inv-loop μ-loop
-returns c = let e : c .before .loop .k ≡ c .before .before .args .n = omega arith in rw (← e) (c .before .loop .inv .2)
+returns c =
+    let l : tie.At-loop Inv-loop μ-loop = search in
+    let x : tie.Start Inv-loop μ-loop = search in
+    let e : l .loop .k ≡ x .args .n = omega arith in
+    rw (← e) (l .loop .inv .2)
 
 pub zero-spec : {M : Type 1} → statement M
 zero-spec =
@@ -48,11 +34,11 @@ zero-spec =
     (tie.spec
     Inv-loop
     μ-loop
-    loop-holds
-    mul-scratch
-    slice-write-scratch
-    add-k
-    loop-less
+    (λ c. (omega arith, refl, refl))
+    (search needs)
+    (λ c. omega arith)
+    (search needs)
+    (λ c. omega arith)
     loop-again
-    same-length
+    (search needs)
     returns)

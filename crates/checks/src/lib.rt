@@ -1,0 +1,137 @@
+// The checks that every call on a block makes, on lengths and counts. Each function is total: no caller needs to have tested anything.
+ghost use mathlib.Core.Path.{_≡_};
+ghost use Prim.Native.Nat.{_*_, _≤_, max};
+ghost use lib.Dec.{ltb};
+ghost use Rattle.layout.specs.Layout.{volume};
+ghost use Rattle.refusals.specs.FirstOf.{firstOf};
+ghost use Rattle.refusals.specs.Conditions.{outOfRange, badLength, longest, firstPlace};
+ghost use Rattle.refusals.specs.Calls.{sizeChecks, blockChecks, passesChecks};
+ghost use Rattle.checks.specs.Words.{capped};
+
+// Whether no axis may have this length: 0 or above 4,096.
+fn out_of_range(length: usize) -> bool
+    ensures { λ r. ⌜ r ≡ outOfRange length ⌝ }
+{
+    if length == 0 {
+        return true;
+    }
+    4096 < length
+}
+
+// Whether an axis length is 0 or above 4,096.
+pub fn bad_length(lens: &[usize]) -> bool
+    ensures { λ r. ⌜ r ≡ badLength (now (lens .entry)) ⌝ }
+{
+    for k in 0..lens.len() {
+        if out_of_range(lens[k]) {
+            return true;
+        }
+    }
+    false
+}
+
+// A count of words times a length, cut to one more than a block may have.
+fn times(words: usize, length: usize) -> usize
+    requires { ⌜ words ≤ 1048577 ⌝ }
+    ensures { λ r. ⌜ r ≡ capped (words * length) ⌝ }
+{
+    if words == 0 {
+        return 0;
+    }
+    if 1048576 < length {
+        return 1048577;
+    }
+    let product = words * length;
+    if 1048576 < product {
+        return 1048577;
+    }
+    product
+}
+
+// The words of a block: its lengths multiplied, cut to one more than a block may have.
+pub fn words_of(lens: &[usize]) -> usize
+    ensures { λ r. ⌜ r ≡ capped (volume (now (lens .entry))) ⌝ }
+{
+    let mut words = 1;
+    for k in 0..lens.len() {
+        words = times(words, lens[k]);
+    }
+    words
+}
+
+// The longer of two lengths.
+fn longer(first: usize, second: usize) -> usize
+    ensures { λ r. ⌜ r ≡ max first second ⌝ }
+{
+    if first < second {
+        return second;
+    }
+    first
+}
+
+// The longest axis.
+pub fn longest_of(lens: &[usize]) -> usize
+    ensures { λ r. ⌜ r ≡ longest (now (lens .entry)) ⌝ }
+{
+    let mut most = 0;
+    for k in 0..lens.len() {
+        most = longer(most, lens[k]);
+    }
+    most
+}
+
+// The place of the first number above the last one allowed; the count of numbers where there is none.
+pub fn first_above(numbers: &[usize], last: usize) -> usize
+    ensures { λ r. ⌜ r ≡ firstPlace (ltb last) (now (numbers .entry)) ⌝ }
+{
+    for k in 0..numbers.len() {
+        if last < numbers[k] {
+            return k;
+        }
+    }
+    numbers.len()
+}
+
+// The first of the checks 1 and 2 of a block's size that holds, else 0.
+pub fn size_number(lens: &[usize]) -> u32
+    ensures { λ r. ⌜ r ≡ firstOf (sizeChecks (now (lens .entry))) ⌝ }
+{
+    if bad_length(lens) {
+        return 1;
+    }
+    let words = words_of(lens);
+    if 1048576 < words {
+        return 2;
+    }
+    0
+}
+
+// The first of the checks 1, 2 and 3 of a block in a buffer that holds, else 0.
+pub fn block_number(lens: &[usize], buf: &[u32]) -> u32
+    ensures { λ r. ⌜ r ≡ firstOf (blockChecks (now (lens .entry)) (now (buf .entry))) ⌝ }
+{
+    let number = size_number(lens);
+    if number != 0 {
+        return number;
+    }
+    let words = words_of(lens);
+    if buf.len() < words {
+        return 3;
+    }
+    0
+}
+
+// The first of the checks 1 to 4 of a block in a buffer, turned through scratch, that holds, else 0.
+pub fn passes_number(lens: &[usize], buf: &[u32], scratch: &[u32]) -> u32
+    ensures { λ r. ⌜ r ≡ firstOf (passesChecks (now (lens .entry)) (now (buf .entry)) (now (scratch .entry))) ⌝ }
+{
+    let number = block_number(lens, buf);
+    if number != 0 {
+        return number;
+    }
+    let need = longest_of(lens);
+    if scratch.len() < need {
+        return 4;
+    }
+    0
+}

@@ -1,0 +1,88 @@
+-- The C interface: any two outcomes that a contract allows from one entry coincide, record and every lent slice, because
+-- those of the call below do.
+use mathlib.Core.Path.{_≡_, ap}
+use Prim.Native.Nat.{ℕ}
+use contract.Lifetimes.{Lfts}
+use denote.Triple.Clauses.{AtExit}
+use borrow.Fn.Kinds.{endedOf, Dens, GoodsP}
+use borrow.Author.Needs.{needs}
+use Rattle.axes.specs.declared.Answer.{Answer as Below-Answer}
+use Rattle.axes.specs.declared.Planned.{Planned as Below-Planned}
+use Rattle.sheet.specs.declared.Sheet.{Sheet as Below-Sheet}
+use Rattle.sheet.specs.declared.Written.{Written as Below-Written}
+use Rattle.exports.specs.declared.Answer.{Answer}
+use Rattle.exports.specs.declared.Planned.{Planned}
+use Rattle.exports.specs.declared.Sheet.{Sheet}
+use Rattle.exports.specs.declared.Written.{Written}
+use Rattle.passes.proofs.OneOutcome as passes
+use Rattle.halves.proofs.OneOutcome as halves
+use Rattle.axes.proofs.OneOutcome as axes-outcome
+use Rattle.sheet.proofs.OneOutcome as sheets
+use Rattle.job.proofs.OneOutcome as jobs
+use Rattle.exports.proofs.zib_turn.Kinds as turn-kinds
+use Rattle.exports.proofs.zib_turn.Reads as turn
+use Rattle.exports.proofs.zib_turn_back.Kinds as turn-back-kinds
+use Rattle.exports.proofs.zib_turn_back.Reads as turn-back
+use Rattle.exports.proofs.zib_turn_halves.Kinds as turn-halves-kinds
+use Rattle.exports.proofs.zib_turn_halves.Reads as turn-halves
+use Rattle.exports.proofs.zib_chain.Kinds as chain-kinds
+use Rattle.exports.proofs.zib_chain.Reads as chain
+use Rattle.exports.proofs.zib_request.Kinds as request-kinds
+use Rattle.exports.proofs.zib_request.Reads as request
+use Rattle.exports.proofs.zib_plan.Kinds as plan-kinds
+use Rattle.exports.proofs.zib_plan.Reads as plan
+use Rattle.exports.proofs.zib_read_sheet.Kinds as read-sheet-kinds
+use Rattle.exports.proofs.zib_read_sheet.Reads as read-sheet
+use Rattle.exports.proofs.zib_write_sheet.Kinds as write-sheet-kinds
+use Rattle.exports.proofs.zib_write_sheet.Reads as write-sheet
+use Rattle.exports.proofs.zib_job.Kinds as job-kinds
+use Rattle.exports.proofs.zib_job.Reads as job
+
+-- a record of the interface from that of the call below, field by field
+abbrev as-answer : Below-Answer → Answer
+as-answer r = record { number = r .number; place = r .place; lens = r .lens; order = r .order; swaps = r .swaps }
+
+abbrev as-plan : Below-Planned → Planned
+as-plan r = record { number = r .number; swaps = r .swaps; len = r .len }
+
+abbrev as-sheet : Below-Sheet → Sheet
+as-sheet r = record { number = r .number; place = r .place; lens = r .lens; swaps = r .swaps; count = r .count }
+
+abbrev as-wrote : Below-Written → Written
+as-wrote r = record { number = r .number; count = r .count }
+
+pub turn-once : (κs : Lfts 2) (a : Dens κs turn-kinds.ps) (r r′ : ℕ) (s s′ : AtExit (endedOf 2 turn-kinds.ps turn-kinds.r) κs)
+    → turn.Post κs a r s → turn.Post κs a r′ s′ → (r ≡ r′) × (s .0 .now ≡ s′ .0 .now) × (s .1 .0 .now ≡ s′ .1 .0 .now)
+turn-once κs a r r′ s s′ p q = passes.turn-once p q
+
+pub turn-back-once : (κs : Lfts 2) (a : Dens κs turn-back-kinds.ps) (r r′ : ℕ) (s s′ : AtExit (endedOf 2 turn-back-kinds.ps turn-back-kinds.r) κs)
+    → turn-back.Post κs a r s → turn-back.Post κs a r′ s′ → (r ≡ r′) × (s .0 .now ≡ s′ .0 .now) × (s .1 .0 .now ≡ s′ .1 .0 .now)
+turn-back-once κs a r r′ s s′ p q = passes.turn-back-once p q
+
+pub turn-halves-once : (κs : Lfts 1) (a : Dens κs turn-halves-kinds.ps) (r r′ : ℕ) (s s′ : AtExit (endedOf 1 turn-halves-kinds.ps turn-halves-kinds.r) κs)
+    → turn-halves.Post κs a r s → turn-halves.Post κs a r′ s′ → (r ≡ r′) × (s .0 .now ≡ s′ .0 .now)
+turn-halves-once κs a r r′ s s′ p q = halves.turn-once p q
+
+pub chain-once : (κs : Lfts 3) (a : Dens κs chain-kinds.ps) (r r′ : Answer) (s s′ : AtExit (endedOf 3 chain-kinds.ps chain-kinds.r) κs)
+    → GoodsP κs chain-kinds.ps a → chain.Post κs a r s → chain.Post κs a r′ s′ → (r ≡ r′) × (s .0 .now ≡ s′ .0 .now) × (s .1 .0 .now ≡ s′ .1 .0 .now)
+chain-once κs a r r′ s s′ g p q = let e = axes-outcome.chain-once (search needs) p q in (ap as-answer (e .0), e .1, e .2)
+
+pub request-once : (κs : Lfts 2) (a : Dens κs request-kinds.ps) (r r′ : Answer) (s s′ : AtExit (endedOf 2 request-kinds.ps request-kinds.r) κs)
+    → GoodsP κs request-kinds.ps a → request.Post κs a r s → request.Post κs a r′ s′ → (r ≡ r′) × (s .0 .now ≡ s′ .0 .now) × (s .1 .0 .now ≡ s′ .1 .0 .now)
+request-once κs a r r′ s s′ g p q = let e = axes-outcome.request-once (search needs) p q in (ap as-answer (e .0), e .1, e .2)
+
+pub plan-once : (κs : Lfts 0) (a : Dens κs plan-kinds.ps) (r r′ : Planned) (s s′ : AtExit (endedOf 0 plan-kinds.ps plan-kinds.r) κs)
+    → plan.Post κs a r s → plan.Post κs a r′ s′ → r ≡ r′
+plan-once κs a r r′ s s′ p q = ap as-plan (axes-outcome.plan-once p q)
+
+pub read-sheet-once : (κs : Lfts 2) (a : Dens κs read-sheet-kinds.ps) (r r′ : Sheet) (s s′ : AtExit (endedOf 2 read-sheet-kinds.ps read-sheet-kinds.r) κs)
+    → read-sheet.Post κs a r s → read-sheet.Post κs a r′ s′ → (r ≡ r′) × (s .1 .0 .now ≡ s′ .1 .0 .now)
+read-sheet-once κs a r r′ s s′ p q = let e = sheets.read-once p q in (ap as-sheet (e .0), e .1)
+
+pub write-sheet-once : (κs : Lfts 2) (a : Dens κs write-sheet-kinds.ps) (r r′ : Written) (s s′ : AtExit (endedOf 2 write-sheet-kinds.ps write-sheet-kinds.r) κs)
+    → write-sheet.Post κs a r s → write-sheet.Post κs a r′ s′ → (r ≡ r′) × (s .1 .1 .1 .0 .now ≡ s′ .1 .1 .1 .0 .now)
+write-sheet-once κs a r r′ s s′ p q = let e = sheets.write-once p q in (ap as-wrote (e .0), e .1)
+
+pub job-once : (κs : Lfts 4) (a : Dens κs job-kinds.ps) (r r′ : ℕ) (s s′ : AtExit (endedOf 4 job-kinds.ps job-kinds.r) κs)
+    → job.Post κs a r s → job.Post κs a r′ s′ → (r ≡ r′) × (s .1 .0 .now ≡ s′ .1 .0 .now) × (s .1 .1 .0 .now ≡ s′ .1 .1 .0 .now) × (s .1 .1 .1 .0 .now ≡ s′ .1 .1 .1 .0 .now)
+job-once κs a r r′ s s′ p q = jobs.job-once p q

@@ -1,0 +1,22 @@
+-- one outcome: any two outcomes that a contract allows from one entry coincide
+pub mod Flat
+pub mod Axes
+pub mod Sheets
+pub mod Exports
+-- demand 2: passes and recursion leave the same words
+pub mod Methods
+-- demand 3 about the contract of the chain as the checker reads it
+pub mod Demand3
+-- what a wrong outcome runs into
+pub mod Wrong
+-- the wrong outcomes of each call, refuted
+pub mod RefutedTurn
+pub mod RefutedTurnBack
+pub mod RefutedSwap
+pub mod RefutedRecursion
+pub mod RefutedChain
+pub mod RefutedRequest
+pub mod RefutedPlan
+pub mod RefutedRead
+pub mod RefutedWrite
+pub mod RefutedJob

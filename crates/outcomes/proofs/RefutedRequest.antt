@@ -1,0 +1,104 @@
+-- Wrong outcomes of a direct request: each breaks the promise. The case is order 9 (1230) of 2 by 3 by 1 by 1 holding 0 to 5, with a
+-- sixth word behind the block and four words of scratch of which three are needed; the right outcome is 0 3 1 4 2 5 6, scratch 0 0 0 9,
+-- lengths 3 1 1 2, order 9 and three swaps.
+use mathlib.Core.Path.{_≡_, refl, sym, ap, _∙_}
+use mathlib.Core.List.{List, [], _∷_}
+use Prim.Native.Nat.{ℕ}
+use native.Mathlib.Omega.{arith}
+use lib.ListN.{replicate}
+use Rattle.layout.specs.Layout.{volume, at, pick, placeOf}
+use Rattle.orders.specs.Numbers.{arrangements, orders, orderOf}
+use Rattle.orders.specs.Plans.{under, falling, relabelled, firstBack, planned, planOf}
+use Rattle.refusals.specs.FirstOf.{firstOf}
+use Rattle.refusals.specs.Conditions.{longest}
+use Rattle.refusals.specs.Calls.{requestChecks}
+use Rattle.axes.specs.declared.Answer.{Answer}
+use Rattle.axes.specs.Promises.{RequestPromise}
+use Rattle.outcomes.proofs.Wrong.{other-number, other-list, misplaced, tail-changed, refuses, Broken, broken}
+
+abbrev lengths : List ℕ
+lengths = 2 ∷ 3 ∷ 1 ∷ 1 ∷ []
+
+abbrev block : List ℕ
+block = 0 ∷ 1 ∷ 2 ∷ 3 ∷ 4 ∷ 5 ∷ 6 ∷ []
+
+abbrev scratch : List ℕ
+scratch = replicate 4 9
+
+abbrev Leaves : Answer → List ℕ → List ℕ → Type 0
+Leaves a buffer scratch′ = RequestPromise 4 lengths 9 block scratch a buffer scratch′
+
+accepts : {a : Answer} {b s : List ℕ} → Leaves a b s → a .number ≡ 0
+unfolding volume longest arrangements orders orderOf under falling relabelled firstBack planned planOf placeOf
+accepts p = p .block .number-is
+
+-- one that refuses always: wherever no condition holds
+pub refuses-always : {r order : ℕ} {ds b₀ s₀ b s : List ℕ} {a : Answer} → RequestPromise r ds order b₀ s₀ a b s
+    → firstOf (requestChecks r ds b₀ s₀ order) ≡ 0 → (a .number ≡ 0 → ⊥) → ⊥
+refuses-always p = refuses (p .block)
+
+-- one that gives a fixed answer: right for the case, it is wrong for order 24
+pub fixed-answer : {a : Answer} {b s b′ s′ : List ℕ} → Leaves a b s → RequestPromise 4 lengths 24 block scratch a b′ s′ → ⊥
+unfolding volume longest
+fixed-answer p q = other-number (sym (accepts p) ∙ q .block .number-is) tt
+
+-- one that moves nothing; it is what one leaves that reads the order as where each axis goes, 18 for 9
+pub words-of-the-inverse : {a : Answer} {s : List ℕ} → Leaves a block s → ⊥
+unfolding arrangements orders orderOf at pick volume
+words-of-the-inverse p = misplaced (p .block .words (accepts p)) (0 ∷ 1 ∷ 0 ∷ 0 ∷ []) tt tt
+
+pub lengths-of-the-inverse : {a : Answer} {b s : List ℕ} → Leaves a b s → a .lens ≡ 1 ∷ 2 ∷ 3 ∷ 1 ∷ [] → ⊥
+unfolding arrangements orders orderOf pick
+lengths-of-the-inverse p e = other-list (sym e ∙ ap (λ (r : Answer). r .lens) (p .given (accepts p))) tt
+
+pub number-of-the-inverse : {a : Answer} {b s : List ℕ} → Leaves a b s → a .order ≡ 18 → ⊥
+number-of-the-inverse p e = other-number (sym e ∙ ap (λ (r : Answer). r .order) (p .given (accepts p))) tt
+
+-- one that invents the swap count
+pub swap-count-invented : {a : Answer} {b s : List ℕ} → Leaves a b s → a .swaps ≡ 1 → ⊥
+unfolding arrangements orders orderOf under falling relabelled firstBack planned planOf placeOf
+swap-count-invented p e = other-number (sym e ∙ ap (λ (r : Answer). r .swaps) (p .given (accepts p))) tt
+
+-- the word past the block changed
+pub tail-word-changed : {a : Answer} {s : List ℕ} → Leaves a (0 ∷ 3 ∷ 1 ∷ 4 ∷ 2 ∷ 5 ∷ 0 ∷ []) s → ⊥
+unfolding volume
+tail-word-changed p = tail-changed (p .block .words (accepts p)) 6 tt tt
+
+-- scratch left as it was, and cleared one word too far
+pub scratch-left : {a : Answer} {b : List ℕ} → Leaves a b scratch → ⊥
+unfolding longest
+scratch-left p = other-list (p .block .zeroed (accepts p)) tt
+
+pub scratch-too-far : {a : Answer} {b : List ℕ} → Leaves a b (replicate 4 0) → ⊥
+unfolding longest
+scratch-too-far p = other-list (p .block .zeroed (accepts p)) tt
+
+-- order 24: a refusal that touches a word, and one that answers the number that was asked
+abbrev Refused : Answer → List ℕ → Type 0
+Refused a b = RequestPromise 4 lengths 24 block scratch a b scratch
+
+seven : {a : Answer} {b : List ℕ} → Refused a b → a .number ≡ 7
+unfolding volume longest
+seven p = p .block .number-is
+
+pub refusal-touches-a-word : {a : Answer} → Refused a (1 ∷ 1 ∷ 2 ∷ 3 ∷ 4 ∷ 5 ∷ 6 ∷ []) → ⊥
+refusal-touches-a-word p = other-list (p .block .kept (λ y. omega (arith, seven p)) .0) tt
+
+pub refusal-answers-the-order : {a : Answer} {b : List ℕ} → Refused a b → a .order ≡ 24 → ⊥
+refusal-answers-the-order p e = other-number (sym e ∙ ap (λ (r : Answer). r .order) (p .refusal (λ y. omega (arith, seven p)))) tt
+
+-- the order of checks: of two conditions that hold the later is answered; 7 and 8 never both hold
+pub two-before-one : (b s : List ℕ) (order : ℕ) → Broken (requestChecks 4 (4097 ∷ 4096 ∷ 1 ∷ 1 ∷ []) b s order) 2
+two-before-one b s order = broken (requestChecks 4 (4097 ∷ 4096 ∷ 1 ∷ 1 ∷ []) b s order) 2 tt
+
+pub three-before-two : (s : List ℕ) (order : ℕ) → Broken (requestChecks 4 (4096 ∷ 257 ∷ 1 ∷ 1 ∷ []) [] s order) 3
+unfolding volume
+three-before-two s order = broken (requestChecks 4 (4096 ∷ 257 ∷ 1 ∷ 1 ∷ []) [] s order) 3 tt
+
+pub four-before-three : (order : ℕ) → Broken (requestChecks 4 lengths [] [] order) 4
+unfolding volume
+four-before-three order = broken (requestChecks 4 lengths [] [] order) 4 tt
+
+pub seven-before-four : Broken (requestChecks 4 lengths block [] 24) 7
+unfolding volume longest
+seven-before-four = broken (requestChecks 4 lengths block [] 24) 7 tt

@@ -1,0 +1,47 @@
+// The number that an adjacent swap answers before it touches a word: that of the first of its checks that holds, else 0.
+ghost use mathlib.Core.Path.{_≡_};
+ghost use Rattle.refusals.specs.FirstOf.{firstOf};
+ghost use Rattle.passes.specs.Promises.{swapChecks, noBlock};
+
+// Whether an adjacent swap has a side out of range, no block before the two axes or no word after them.
+fn no_block(outer: usize, m: usize, n: usize, chunk: usize) -> bool
+    ensures { λ r. ⌜ r ≡ noBlock outer m n chunk ⌝ }
+{
+    let lens = [m, n];
+    if checks::bad_length(&lens) {
+        return true;
+    }
+    if outer == 0 {
+        return true;
+    }
+    chunk == 0
+}
+
+// Adjacent swap: 1, 2, 3, 4.
+pub(crate) fn swap_number(
+    buf: &[u32],
+    scratch: &[u32],
+    outer: usize,
+    m: usize,
+    n: usize,
+    chunk: usize,
+) -> u32
+    ensures { λ r. ⌜ r ≡ firstOf (swapChecks outer m n chunk (now (buf .entry)) (now (scratch .entry))) ⌝ }
+{
+    if no_block(outer, m, n, chunk) {
+        return 1;
+    }
+    let block = [outer, m, n, chunk];
+    let words = checks::words_of(&block);
+    if 1048576 < words {
+        return 2;
+    }
+    if buf.len() < words {
+        return 3;
+    }
+    let sides = [m, n];
+    if scratch.len() < checks::longest_of(&sides) {
+        return 4;
+    }
+    0
+}

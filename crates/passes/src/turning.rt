@@ -1,0 +1,140 @@
+// Blocks turned where they lie, line by line.
+use crate::gcd;
+use crate::line;
+use crate::line::GroupedSides;
+use crate::line::Line;
+ghost use mathlib.Core.Path.{_≡_};
+ghost use Prim.Native.Nat.{_<_, _≤_};
+ghost use Rattle.layout.specs.Layout.{Laid};
+ghost use Rattle.flat.specs.Turn.{sides};
+ghost use Rattle.refusals.specs.Scratch.{need};
+ghost use Rattle.passes.specs.Lines.{lineCount, lineOf};
+ghost use Rattle.passes.specs.ThroughScratch.{Grouped, Lies, AllLie, Past, TurnedAt};
+ghost use Rattle.passes.specs.Promises.{swapBlock, middle};
+
+// The sides of an m by n block, with their quotients by their greatest common divisor.
+pub(crate) fn group_sides(m: usize, n: usize) -> GroupedSides
+    requires { ⌜ (0 < m) × (0 < n) × (m ≤ 4096) × (n ≤ 4096) ⌝ }
+    ensures { λ r. ⌜ (r .m ≡ m) × (r .n ≡ n) × Grouped r ⌝ }
+{
+    let c = gcd::gcd(m, n);
+    let a = m / c;
+    let b = n / c;
+    if 1 < c {
+        return GroupedSides {
+            m,
+            n,
+            a,
+            b,
+            skipped: 0,
+        };
+    }
+    GroupedSides {
+        m,
+        n,
+        a,
+        b,
+        skipped: n,
+    }
+}
+
+// How many lines the passes have.
+fn line_count(s: GroupedSides) -> usize
+    requires { ⌜ Grouped s ⌝ }
+    ensures { λ r. ⌜ r ≡ lineCount (s .m) (s .n) ⌝ }
+{
+    s.n + s.m + s.n - s.skipped
+}
+
+// Line l of a block, counted from 0 across the passes.
+fn line_of(s: GroupedSides, base: usize, chunk: usize, l: usize) -> Line
+    requires { ⌜ Grouped s × (base ≤ 1048576) × (chunk ≤ 1048576) × (l < lineCount (s .m) (s .n)) ⌝ }
+    ensures { λ r. ⌜ r ≡ lineOf (s .m) (s .n) base chunk l ⌝ }
+{
+    let m = s.m;
+    let n = s.n;
+    let t = s.skipped + l;
+    if t < n {
+        return Line {
+            pass: 1,
+            index: t,
+            start: base + chunk * t,
+            stride: chunk * n,
+            count: m,
+        };
+    }
+    if t < n + m {
+        let i = t - n;
+        return Line {
+            pass: 2,
+            index: i,
+            start: base + chunk * (i * n),
+            stride: chunk,
+            count: n,
+        };
+    }
+    let j = t - (n + m);
+    Line {
+        pass: 3,
+        index: j,
+        start: base + chunk * j,
+        stride: chunk * n,
+        count: m,
+    }
+}
+
+// The block is turned by its passes.
+pub(crate) fn turn_at(
+    buf: &mut [u32],
+    scratch: &mut [u32],
+    s: GroupedSides,
+    base: usize,
+    chunk: usize,
+)
+    requires { ⌜ Grouped s × Lies (s .m) (s .n) base chunk (now buf) (now scratch) ⌝ }
+    ensures { λ _. ⌜ TurnedAt (s .m) (s .n) base chunk (now (buf .entry)) (now (buf .exit)) × Past (need (sides (s .m) (s .n))) (now (scratch .entry)) (now (scratch .exit)) ⌝ }
+{
+    let count = line_count(s);
+    for l in 0..count {
+        let line = line_of(s, base, chunk, l);
+        line::forth(buf, scratch, s, line);
+    }
+}
+
+// The passes of the block are undone, the last first.
+pub(crate) fn turn_home_at(
+    buf: &mut [u32],
+    scratch: &mut [u32],
+    s: GroupedSides,
+    base: usize,
+    chunk: usize,
+)
+    requires { ⌜ Grouped s × Lies (s .m) (s .n) base chunk (now buf) (now scratch) ⌝ }
+    ensures { λ _. ⌜ TurnedAt (s .m) (s .n) base chunk (now (buf .exit)) (now (buf .entry)) × Past (need (sides (s .m) (s .n))) (now (scratch .entry)) (now (scratch .exit)) ⌝ }
+{
+    let mut l = line_count(s);
+    while 0 < l {
+        l -= 1;
+        let line = line_of(s, base, chunk, l);
+        line::back(buf, scratch, s, line);
+    }
+}
+
+// Every block of an adjacent swap is turned where it lies: one for each block before the two axes and each word after them.
+pub(crate) fn turn_all(
+    buf: &mut [u32],
+    scratch: &mut [u32],
+    s: GroupedSides,
+    outer: usize,
+    chunk: usize,
+)
+    requires { ⌜ Grouped s × AllLie outer (s .m) (s .n) chunk (now buf) (now scratch) ⌝ }
+    ensures { λ _. ⌜ Laid (swapBlock outer (s .m) (s .n) chunk) middle (now (buf .entry)) (now (buf .exit)) × Past (need (sides (s .m) (s .n))) (now (scratch .entry)) (now (scratch .exit)) ⌝ }
+{
+    let words = s.m * s.n * chunk;
+    let count = outer * chunk;
+    for t in 0..count {
+        let base = t / chunk * words + t % chunk;
+        turn_at(buf, scratch, s, base, chunk);
+    }
+}
