@@ -80,7 +80,7 @@ pub extern "C" fn zib_chain(
     shape: Shape,
     swaps: &[usize],
 ) -> Answer
-    ensures { λ r. ⌜ ChainPromise (shape .lens) (now (swaps .entry)) (now (buf .entry)) (now (scratch .entry)) (answered r) (now (buf .exit)) (now (scratch .exit)) ⌝ }
+    ensures { λ r. ⌜ ChainPromise 4 (shape .lens) (now (swaps .entry)) (now (buf .entry)) (now (scratch .entry)) (answered r) (now (buf .exit)) (now (scratch .exit)) ⌝ }
 {
     let entry = shape.lens;
     let a = axes::chain(buf, scratch, axes::Shape { lens: entry }, swaps);
@@ -102,7 +102,7 @@ pub extern "C" fn zib_request(
     shape: Shape,
     order: usize,
 ) -> Answer
-    ensures { λ r. ⌜ RequestPromise (shape .lens) order (now (buf .entry)) (now (scratch .entry)) (answered r) (now (buf .exit)) (now (scratch .exit)) ⌝ }
+    ensures { λ r. ⌜ RequestPromise 4 (shape .lens) order (now (buf .entry)) (now (scratch .entry)) (answered r) (now (buf .exit)) (now (scratch .exit)) ⌝ }
 {
     let entry = shape.lens;
     let a = axes::request(buf, scratch, axes::Shape { lens: entry }, order);
@@ -119,7 +119,7 @@ pub extern "C" fn zib_request(
 // The plan for an order.
 #[no_mangle]
 pub extern "C" fn zib_plan(order: usize) -> Planned
-    ensures { λ r. ⌜ PlanPromise order (planned r) ⌝ }
+    ensures { λ r. ⌜ PlanPromise 4 order (planned r) ⌝ }
 {
     let p = axes::plan(order);
     let swaps = p.swaps;

@@ -1,4 +1,8 @@
+-- the benches of document 01 marked P hold
 pub mod Benches
+-- the turn in the words of document 01, both ways round; a turn and its reverse undo each other
 pub mod Turn
+-- the numbers of the three passes: every line's places are paired one to one
 pub mod Sides
+-- the three passes, one after the other, are the turn
 pub mod Passes

@@ -11,7 +11,7 @@ use Rattle.layout.specs.Layout.Within.{none, more}
 use Rattle.layout.proofs.Picks.{Below, Undone}
 use Rattle.layout.proofs.Laws.{home, one-layout, laid-is}
 use Rattle.layout.proofs.Picks.Below.{empty, next}
-use Rattle.flat.specs.Turn.{sides, across, Turn, TurnBack, turned, turnedBack}
+use Rattle.flat.specs.Turn.{sides, across, Turn, TurnBack, turned}
 
 pub volume-two : (m n : ℕ) → volume (sides m n) ≡ m * n
 unfolding volume
@@ -29,7 +29,11 @@ literally {m} {n} xs ys t i j hi hj =
     ∙ t .placed (i ∷ j ∷ []) (more hi (more hj none))
     ∙ ap (λ (z : ℕ). getD xs z 0) (at-two m n i j)
 
--- and that, with every word past the block as it was, is the turn
+-- the reverse turn with the same m and n: the word at i·n + j is the one that stood at j·m + i
+pub literally-back : {m n : ℕ} (xs ys : List ℕ) → TurnBack m n xs ys → (i j : ℕ) → i < m → j < n → getD ys (i * n + j) 0 ≡ getD xs (j * m + i) 0
+literally-back xs ys t i j hi hj = literally xs ys t j i hj hi
+
+-- the words of `literally`, with every word past the block as it was, are the turn
 pub from-literal : (m n : ℕ) (xs ys : List ℕ) → length ys ≡ length xs
     → ((i j : ℕ) → i < m → j < n → getD ys (j * m + i) 0 ≡ getD xs (i * n + j) 0)
     → ((k : ℕ) → m * n ≤ k → getD ys k 0 ≡ getD xs k 0) → Turn m n xs ys
@@ -79,7 +83,3 @@ one-turn {m} {n} t s = one-layout (sides m n) across-undone refl t s
 pub turned-is : (m n : ℕ) (xs : List ℕ) → m * n ≤ length xs → Turn m n xs (turned m n xs)
 unfolding turned
 turned-is m n xs h = laid-is (sides m n) across-undone refl xs (rw (volume-two m n) h)
-
-pub turnedBack-is : (m n : ℕ) (xs : List ℕ) → m * n ≤ length xs → TurnBack m n xs (turnedBack m n xs)
-unfolding turnedBack turned
-turnedBack-is m n xs h = turned-is n m xs (rw (mul-comm n m) h)

@@ -9,7 +9,7 @@ use lib.ListN.{length, take, drop, length-append}
 use lib.Seq.{length-take-le}
 use borrow.Rule.Slice.PartMut.{midOf, putMid}
 use Rattle.flat.specs.Turn.{Turn}
-use Rattle.halves.specs.Block.{Block}
+use Rattle.halves.specs.LentSlices.{Block}
 use Rattle.halves.proofs.Parts.{whole, second, second-length, joined}
 
 -- the first k words are m₁ by n₁, the others m₂ by n₂

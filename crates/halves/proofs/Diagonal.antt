@@ -12,7 +12,7 @@ use lib.Arith.{digits-lt, digits-div, digits-mod}
 use Rattle.lists.proofs.Decide.{lt-or-ge}
 use Rattle.flat.specs.Turn.{Turn}
 use Rattle.flat.proofs.Turn.{from-literal}
-use Rattle.halves.specs.Block.{Crossed}
+use Rattle.halves.specs.LentSlices.{Crossed}
 
 -- the words at x and at y exchanged
 abbrev pub swapped : List ℕ → ℕ → ℕ → List ℕ

@@ -1,12 +1,24 @@
+-- one exchange more of two stretches
 mod Stretches
+-- a slice lent in parts, and the whole once they are back
 mod Parts
+-- rotation by exchanges of the shorter side
 mod Rotations
+-- words in front of and behind a cut, and runs merged half by half
 mod Merges
+-- a list in four parts of which the middle two change places
 mod Four
+-- one level of merge and of split
 mod Halving
+-- the exchange across the diagonal, word by word and row by row
 mod Diagonal
+-- a block cut in two, each part lent and turned
 mod Cuts
+-- parts turned and merged, or split and turned, are the block turned
 mod Turns
-mod Accepted
+-- the block at the start of a buffer, lent and turned
+mod Lent
+-- split undoes merge, and merge undoes split
 pub mod Undo
-pub mod Once
+-- any two outcomes that the promise of `turn` allows coincide
+pub mod OneOutcome

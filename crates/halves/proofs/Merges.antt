@@ -10,7 +10,7 @@ use lib.ListN.{length, getD, List·getD-append, length-append}
 use lib.Seq.{getD-append-add}
 use lib.Arith.{digits-lt}
 use Rattle.lists.proofs.Decide.{lt-or-ge}
-use Rattle.halves.specs.Runs.{Merged}
+use Rattle.halves.specs.Merge.{Merged}
 
 -- what stands in the first part and in the second part of a list
 pub in-front : (xs ys : List ℕ) {n k : ℕ} → length xs ≡ n → k < n → getD (xs ++ ys) k 0 ≡ getD xs k 0

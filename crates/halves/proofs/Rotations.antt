@@ -6,7 +6,7 @@ use Prim.Native.Nat.{ℕ, _+_, _-_, _≤_}
 use native.Mathlib.Omega.{arith}
 use lib.ListN.{length, take, drop, length-drop, take-append-drop, drop-of-length-le}
 use lib.Seq.{length-take-le, take-at, drop-at, take-take, drop-drop, take-all}
-use Rattle.halves.specs.Rotation.{exchanged, rotated}
+use Rattle.halves.specs.LentSlices.{exchanged, rotated}
 use borrow.Rule.Slice.PartMut.{midOf, putMid}
 use Rattle.halves.proofs.Parts.{rest-lent, rest-back, take-past, drop-past}
 

@@ -8,7 +8,7 @@ use native.Mathlib.Omega.{arith}
 use native.Mathlib.Nat.{add-suc, add-zero}
 use lib.ListN.{length, take, drop, getD, set, length-append, length-drop, take-append-drop}
 use lib.Seq.{length-take-le, take-suc, drop-cons, getD-take, getD-drop, getD-at, set-at}
-use Rattle.halves.specs.Rotation.{exchanged}
+use Rattle.halves.specs.LentSlices.{exchanged}
 
 -- two words of a list exchanged, the list being written around them
 module _ (p m q r : List ℕ) (x y i n : ℕ) (front : length p ≡ i) (back : length (p ++ (x ∷ (m ++ q))) ≡ n) where

@@ -12,8 +12,8 @@ use lib.Arith.{digits-lt}
 use Rattle.lists.proofs.Decide.{lt-or-ge}
 use Rattle.flat.specs.Turn.{Turn}
 use Rattle.flat.proofs.Turn.{literally, from-literal}
-use Rattle.halves.specs.Runs.{Runs, Merged}
-use Rattle.halves.specs.Block.{Block}
+use Rattle.halves.specs.Merge.{Merged}
+use Rattle.halves.specs.LentSlices.{Runs, Block}
 use Rattle.halves.proofs.Merges.{in-front, behind}
 use Rattle.halves.proofs.Cuts.{Parted, Both, rows-cut, columns-cut}
 

@@ -9,7 +9,8 @@ use native.Mathlib.Nat.{mod-lt, div-add-mod', div-lt-iff-lt-mul, mul-zero, mul-a
 use lib.ListN.{length, getD}
 use lib.Seq.{ext-getD}
 use Rattle.lists.proofs.Decide.{lt-or-ge}
-use Rattle.halves.specs.Runs.{Runs, Merged}
+use Rattle.halves.specs.Merge.{Merged}
+use Rattle.halves.specs.LentSlices.{Runs}
 
 -- an offset below n · d in its two digits
 module _ (n d : ℕ) {k : ℕ} (h : k < n * d) where

@@ -1,4 +1,3 @@
-pub mod Rotation
-pub mod Runs
-pub mod Block
+pub mod Merge
+pub mod LentSlices
 pub mod Promise

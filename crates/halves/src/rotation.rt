@@ -2,7 +2,7 @@
 ghost use mathlib.Core.Path.{_≡_};
 ghost use Prim.Native.Nat.{_+_, _≤_};
 ghost use lib.ListN.{length};
-ghost use Rattle.halves.specs.Rotation.{exchanged, rotated};
+ghost use Rattle.halves.specs.LentSlices.{exchanged, rotated};
 
 // Exchanges the first w words with the w words from k on.
 fn exchange(s: &mut [u32], k: usize, w: usize)

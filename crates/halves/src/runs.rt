@@ -1,6 +1,7 @@
 // Merge and split of runs, by recursion on contiguous parts, the run count falling to one.
 use crate::rotation::rotate;
-ghost use Rattle.halves.specs.Runs.{Runs, Merged};
+ghost use Rattle.halves.specs.Merge.{Merged};
+ghost use Rattle.halves.specs.LentSlices.{Runs};
 
 // Merges n runs of p words and the n runs of q words that follow them: p, q, p, q and so on.
 pub(crate) fn merge(s: &mut [u32], n: usize, p: usize, q: usize)

@@ -2,10 +2,10 @@
 -- those of the call below do.
 use mathlib.Core.Path.{_≡_, ap}
 use Prim.Native.Nat.{ℕ}
-use lib.ListN.{length}
 use contract.Lifetimes.{Lfts}
 use denote.Triple.Clauses.{AtExit}
-use borrow.Fn.Kinds.{endedOf, Dens}
+use borrow.Fn.Kinds.{endedOf, Dens, GoodsP}
+use borrow.Author.Needs.{needs}
 use Rattle.axes.specs.declared.Answer.{Answer as Below-Answer}
 use Rattle.axes.specs.declared.Planned.{Planned as Below-Planned}
 use Rattle.sheet.specs.declared.Sheet.{Sheet as Below-Sheet}
@@ -14,11 +14,11 @@ use Rattle.exports.specs.declared.Answer.{Answer}
 use Rattle.exports.specs.declared.Planned.{Planned}
 use Rattle.exports.specs.declared.Sheet.{Sheet}
 use Rattle.exports.specs.declared.Written.{Written}
-use Rattle.passes.proofs.Once as passes
-use Rattle.halves.proofs.Once as halves
-use Rattle.axes.proofs.Outcomes.{one-chain, one-request, one-plan}
-use Rattle.sheet.proofs.Promises as sheets
-use Rattle.job.proofs.Outcomes as jobs
+use Rattle.passes.proofs.OneOutcome as passes
+use Rattle.halves.proofs.OneOutcome as halves
+use Rattle.axes.proofs.OneOutcome as axes-outcome
+use Rattle.sheet.proofs.OneOutcome as sheets
+use Rattle.job.proofs.OneOutcome as jobs
 use Rattle.exports.proofs.zib_turn.Kinds as turn-kinds
 use Rattle.exports.proofs.zib_turn.Reads as turn
 use Rattle.exports.proofs.zib_turn_back.Kinds as turn-back-kinds
@@ -61,19 +61,19 @@ turn-back-once κs a r r′ s s′ p q = passes.turn-back-once p q
 
 pub turn-halves-once : (κs : Lfts 1) (a : Dens κs turn-halves-kinds.ps) (r r′ : ℕ) (s s′ : AtExit (endedOf 1 turn-halves-kinds.ps turn-halves-kinds.r) κs)
     → turn-halves.Post κs a r s → turn-halves.Post κs a r′ s′ → (r ≡ r′) × (s .0 .now ≡ s′ .0 .now)
-turn-halves-once κs a r r′ s s′ p q = halves.one-outcome p q
+turn-halves-once κs a r r′ s s′ p q = halves.turn-once p q
 
 pub chain-once : (κs : Lfts 3) (a : Dens κs chain-kinds.ps) (r r′ : Answer) (s s′ : AtExit (endedOf 3 chain-kinds.ps chain-kinds.r) κs)
-    → length (a .1 .1 .0 .lens) ≡ 4 → chain.Post κs a r s → chain.Post κs a r′ s′ → (r ≡ r′) × (s .0 .now ≡ s′ .0 .now) × (s .1 .0 .now ≡ s′ .1 .0 .now)
-chain-once κs a r r′ s s′ axes p q = let e = one-chain axes p q in (ap as-answer (e .0), e .1, e .2)
+    → GoodsP κs chain-kinds.ps a → chain.Post κs a r s → chain.Post κs a r′ s′ → (r ≡ r′) × (s .0 .now ≡ s′ .0 .now) × (s .1 .0 .now ≡ s′ .1 .0 .now)
+chain-once κs a r r′ s s′ g p q = let e = axes-outcome.chain-once (search needs) p q in (ap as-answer (e .0), e .1, e .2)
 
 pub request-once : (κs : Lfts 2) (a : Dens κs request-kinds.ps) (r r′ : Answer) (s s′ : AtExit (endedOf 2 request-kinds.ps request-kinds.r) κs)
-    → length (a .1 .1 .0 .lens) ≡ 4 → request.Post κs a r s → request.Post κs a r′ s′ → (r ≡ r′) × (s .0 .now ≡ s′ .0 .now) × (s .1 .0 .now ≡ s′ .1 .0 .now)
-request-once κs a r r′ s s′ axes p q = let e = one-request axes p q in (ap as-answer (e .0), e .1, e .2)
+    → GoodsP κs request-kinds.ps a → request.Post κs a r s → request.Post κs a r′ s′ → (r ≡ r′) × (s .0 .now ≡ s′ .0 .now) × (s .1 .0 .now ≡ s′ .1 .0 .now)
+request-once κs a r r′ s s′ g p q = let e = axes-outcome.request-once (search needs) p q in (ap as-answer (e .0), e .1, e .2)
 
 pub plan-once : (κs : Lfts 0) (a : Dens κs plan-kinds.ps) (r r′ : Planned) (s s′ : AtExit (endedOf 0 plan-kinds.ps plan-kinds.r) κs)
     → plan.Post κs a r s → plan.Post κs a r′ s′ → r ≡ r′
-plan-once κs a r r′ s s′ p q = ap as-plan (one-plan p q)
+plan-once κs a r r′ s s′ p q = ap as-plan (axes-outcome.plan-once p q)
 
 pub read-sheet-once : (κs : Lfts 2) (a : Dens κs read-sheet-kinds.ps) (r r′ : Sheet) (s s′ : AtExit (endedOf 2 read-sheet-kinds.ps read-sheet-kinds.r) κs)
     → read-sheet.Post κs a r s → read-sheet.Post κs a r′ s′ → (r ≡ r′) × (s .1 .0 .now ≡ s′ .1 .0 .now)

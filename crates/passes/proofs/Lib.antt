@@ -1,10 +1,22 @@
+-- a loop that stores word after word at places no two of which are one
 pub mod Filling
+-- a line lifted into scratch and put back has moved, forwards or home
 pub mod Lifted
+-- families of words moved one after the other, none sharing an offset
 pub mod Family
+-- steps run one after the other, and cut where a pass ends
 pub mod Ran
+-- the lines of a block turn it where it lies
 pub mod Strided
+-- every line of a block that lies in the buffer fits
 pub mod Fits
+-- a block on its way: after some of its lines, one more, and at the end
 pub mod Going
+-- what the checks of the flat calls tell, and what the turn and the cleared scratch are then
 pub mod Accepted
+-- the blocks of an adjacent swap, turned one after the other, are the swap
 pub mod Swaps
-pub mod Once
+-- any two outcomes that the promise of a call allows coincide
+pub mod OneOutcome
+-- a turn and its reverse, either one first, restore every word
+pub mod ThereAndBack

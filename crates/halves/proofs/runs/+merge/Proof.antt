@@ -6,7 +6,7 @@ use borrow.Author.Needs.{needs}
 use Rattle.halves.proofs.Four.{Halved, halved}
 use Rattle.halves.proofs.Merges.{merged-one}
 use Rattle.halves.proofs.Halving.{stretch-long, next-runs, cut-within, low-runs, cut-after, high-runs, merged-whole}
-use borrow.Fn.Kinds.{In}
+use borrow.Fn.Kinds.{In, Out}
 use borrow.Fn.PlainCycle.{Measures, is, falls, and}
 use Rattle.halves.proofs.runs.merge.Reads as merge
 use Rattle.halves.proofs.runs.merge.Kinds as merge-kinds
@@ -28,68 +28,59 @@ merge-below t = and 1 merge-kinds.ps (falls 1 merge-kinds.ps _<_ μ-merge t) mer
 abbrev merge-calls : ℕ → merge-lts.Claims
 merge-calls t = (rotate-reads.Asked, rotate-reads.Learnt, merge-below t, merge.Post)
 
+-- a place of merge, or a need, at a call of measure t
+abbrev At : (merge-lts.Claims → In 1 merge-kinds.ps → Out 1 merge-kinds.ps merge-kinds.r → Type 0) → ℕ → Type 0
+At P t = P (merge-calls t) (merge-at t) merge.Post
+
 module _ (t : ℕ) where
-  -- the places that the answers look back to
-  abbrev Entry : Type 0
-  Entry = merge-lts.Start (merge-calls t) (merge-at t) merge.Post
-
-  abbrev Rotated : Type 0
-  Rotated = merge-lts.After-rotate (merge-calls t) (merge-at t) merge.Post
-
-  abbrev Low : Type 0
-  Low = merge-lts.After-merge (merge-calls t) (merge-at t) merge.Post
-
-  abbrev High : Type 0
-  High = merge-lts.After-merge2 (merge-calls t) (merge-at t) merge.Post
-
   -- the run counts of this call and of the two below it
-  cuts : (x : Entry) → Halved (x .args .n) (x .args .p) (x .args .q)
+  cuts : (x : At merge-lts.Start t) → Halved (x .args .n) (x .args .p) (x .args .q)
   cuts x = halved (x .args .n) (x .args .p) (x .args .q) (omega arith)
 
-  returns : merge-lts.Need-returns (merge-calls t) (merge-at t) merge.Post
-  returns c = let x : Entry = search in merged-one (x .args .n) (x .args .p) (x .args .q) (x .args .s .now) (omega arith)
+  returns : At merge-lts.Need-returns t
+  returns c = let x : At merge-lts.Start t = search in merged-one (x .args .n) (x .args .p) (x .args .q) (x .args .s .now) (omega arith)
 
-  rotate-requires : merge-lts.Need-rotate-requires (merge-calls t) (merge-at t) merge.Post
-  rotate-requires c κs = let x : Entry = search in omega (arith, cuts x, stretch-long (x .pre .1))
+  rotate-requires : At merge-lts.Need-rotate-requires t
+  rotate-requires c κs = let x : At merge-lts.Start t = search in omega (arith, cuts x, stretch-long (x .pre .1))
 
-  low-within : merge-lts.Need-slice-relend-prefix-merge (merge-calls t) (merge-at t) merge.Post
+  low-within : At merge-lts.Need-slice-relend-prefix-merge t
   low-within c =
-      let r : Rotated = search in
-      let x : Entry = search in
+      let r : At merge-lts.After-rotate t = search in
+      let x : At merge-lts.Start t = search in
       cut-within (next-runs (x .pre .1) (r .rotate .ensures))
 
-  low-long : merge-lts.Need-slice-aggregate-merge (merge-calls t) (merge-at t) merge.Post
+  low-long : At merge-lts.Need-slice-aggregate-merge t
   low-long c =
-      let r : Rotated = search in
-      let x : Entry = search in
+      let r : At merge-lts.After-rotate t = search in
+      let x : At merge-lts.Start t = search in
       sym (low-runs (next-runs (x .pre .1) (r .rotate .ensures)) (omega arith) .fill)
 
-  low-requires : merge-lts.Need-merge-requires (merge-calls t) (merge-at t) merge.Post
+  low-requires : At merge-lts.Need-merge-requires t
   low-requires c κs =
-      let r : Rotated = search in
-      let x : Entry = search in
+      let r : At merge-lts.After-rotate t = search in
+      let x : At merge-lts.Start t = search in
       (omega arith, low-runs (next-runs (x .pre .1) (r .rotate .ensures)) (omega arith))
 
-  high-within : merge-lts.Need-sub-merge (merge-calls t) (merge-at t) merge.Post
+  high-within : At merge-lts.Need-sub-merge t
   high-within c =
-      let low : Low = search in
-      let r : Rotated = search in
-      let x : Entry = search in
+      let low : At merge-lts.After-merge t = search in
+      let r : At merge-lts.After-rotate t = search in
+      let x : At merge-lts.Start t = search in
       cut-after (next-runs (x .pre .1) (r .rotate .ensures)) (low .merge .last .0) (low .merge .kept .0)
 
-  high-requires : merge-lts.Need-merge-requires-2 (merge-calls t) (merge-at t) merge.Post
+  high-requires : At merge-lts.Need-merge-requires-2 t
   high-requires c κs =
-      let low : Low = search in
-      let r : Rotated = search in
-      let x : Entry = search in
+      let low : At merge-lts.After-merge t = search in
+      let r : At merge-lts.After-rotate t = search in
+      let x : At merge-lts.Start t = search in
       (omega arith, high-runs (next-runs (x .pre .1) (r .rotate .ensures)) (low .merge .last .0) (low .merge .kept .0) (omega arith))
 
-  returns-2 : merge-lts.Need-returns-2 (merge-calls t) (merge-at t) merge.Post
+  returns-2 : At merge-lts.Need-returns-2 t
   returns-2 c =
-      let high : High = search in
-      let low : Low = search in
-      let r : Rotated = search in
-      let x : Entry = search in
+      let high : At merge-lts.After-merge2 t = search in
+      let low : At merge-lts.After-merge t = search in
+      let r : At merge-lts.After-rotate t = search in
+      let x : At merge-lts.Start t = search in
       merged-whole (x .pre .1) (r .rotate .ensures) (low .merge .ensures) (high .merge2 .ensures)
 
 pub +merge-spec : {M : Type 1} → statement M

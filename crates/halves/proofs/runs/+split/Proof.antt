@@ -6,7 +6,7 @@ use borrow.Author.Needs.{needs}
 use Rattle.halves.proofs.Four.{Halved, halved}
 use Rattle.halves.proofs.Merges.{merged-one}
 use Rattle.halves.proofs.Halving.{stretch-long, cut-within, low-runs, cut-after, high-runs, both-runs, split-whole}
-use borrow.Fn.Kinds.{In}
+use borrow.Fn.Kinds.{In, Out}
 use borrow.Fn.PlainCycle.{Measures, is, falls, and}
 use Rattle.halves.proofs.runs.split.Reads as split
 use Rattle.halves.proofs.runs.split.Kinds as split-kinds
@@ -28,68 +28,59 @@ split-below t = and 1 split-kinds.ps (falls 1 split-kinds.ps _<_ μ-split t) spl
 abbrev split-calls : ℕ → split-lts.Claims
 split-calls t = (split-below t, split.Post, rotate-reads.Asked, rotate-reads.Learnt)
 
+-- a place of split, or a need, at a call of measure t
+abbrev At : (split-lts.Claims → In 1 split-kinds.ps → Out 1 split-kinds.ps split-kinds.r → Type 0) → ℕ → Type 0
+At P t = P (split-calls t) (split-at t) split.Post
+
 module _ (t : ℕ) where
-  -- the places that the answers look back to
-  abbrev Entry : Type 0
-  Entry = split-lts.Start (split-calls t) (split-at t) split.Post
-
-  abbrev Low : Type 0
-  Low = split-lts.After-split (split-calls t) (split-at t) split.Post
-
-  abbrev High : Type 0
-  High = split-lts.After-split2 (split-calls t) (split-at t) split.Post
-
-  abbrev Rotated : Type 0
-  Rotated = split-lts.After-rotate (split-calls t) (split-at t) split.Post
-
   -- the run counts of this call and of the two below it
-  cuts : (x : Entry) → Halved (x .args .n) (x .args .p) (x .args .q)
+  cuts : (x : At split-lts.Start t) → Halved (x .args .n) (x .args .p) (x .args .q)
   cuts x = halved (x .args .n) (x .args .p) (x .args .q) (omega arith)
 
-  returns : split-lts.Need-returns (split-calls t) (split-at t) split.Post
-  returns c = let x : Entry = search in merged-one (x .args .n) (x .args .p) (x .args .q) (x .args .s .now) (omega arith)
+  returns : At split-lts.Need-returns t
+  returns c = let x : At split-lts.Start t = search in merged-one (x .args .n) (x .args .p) (x .args .q) (x .args .s .now) (omega arith)
 
-  low-within : split-lts.Need-slice-relend-prefix-split (split-calls t) (split-at t) split.Post
-  low-within c = let x : Entry = search in cut-within (x .pre .1)
+  low-within : At split-lts.Need-slice-relend-prefix-split t
+  low-within c = let x : At split-lts.Start t = search in cut-within (x .pre .1)
 
-  low-long : split-lts.Need-slice-aggregate-split (split-calls t) (split-at t) split.Post
-  low-long c = let x : Entry = search in sym (low-runs (x .pre .1) (omega arith) .fill)
+  low-long : At split-lts.Need-slice-aggregate-split t
+  low-long c = let x : At split-lts.Start t = search in sym (low-runs (x .pre .1) (omega arith) .fill)
 
-  low-requires : split-lts.Need-split-requires (split-calls t) (split-at t) split.Post
-  low-requires c κs = let x : Entry = search in (omega arith, low-runs (x .pre .1) (omega arith))
+  low-requires : At split-lts.Need-split-requires t
+  low-requires c κs = let x : At split-lts.Start t = search in (omega arith, low-runs (x .pre .1) (omega arith))
 
-  high-within : split-lts.Need-sub-split (split-calls t) (split-at t) split.Post
+  high-within : At split-lts.Need-sub-split t
   high-within c =
-      let low : Low = search in
-      let x : Entry = search in
+      let low : At split-lts.After-split t = search in
+      let x : At split-lts.Start t = search in
       cut-after (x .pre .1) (low .split .last .0) (low .split .kept .0)
 
-  high-requires : split-lts.Need-split-requires-2 (split-calls t) (split-at t) split.Post
+  high-requires : At split-lts.Need-split-requires-2 t
   high-requires c κs =
-      let low : Low = search in
-      let x : Entry = search in
+      let low : At split-lts.After-split t = search in
+      let x : At split-lts.Start t = search in
       (omega arith, high-runs (x .pre .1) (low .split .last .0) (low .split .kept .0) (omega arith))
 
-  stretch-within : split-lts.Need-part-rotate-end (split-calls t) (split-at t) split.Post
+  stretch-within : At split-lts.Need-part-rotate-end t
   stretch-within c =
-      let high : High = search in
-      let low : Low = search in
-      let x : Entry = search in
+      let high : At split-lts.After-split2 t = search in
+      let low : At split-lts.After-split t = search in
+      let x : At split-lts.Start t = search in
       omega (arith, cuts x, both-runs (x .pre .1) (low .split .ensures) (high .split2 .ensures) .fill)
 
-  rotate-requires : split-lts.Need-rotate-requires (split-calls t) (split-at t) split.Post
+  rotate-requires : At split-lts.Need-rotate-requires t
   rotate-requires c κs =
-      let high : High = search in
-      let low : Low = search in
-      let x : Entry = search in
+      let high : At split-lts.After-split2 t = search in
+      let low : At split-lts.After-split t = search in
+      let x : At split-lts.Start t = search in
       omega (arith, cuts x, stretch-long (both-runs (x .pre .1) (low .split .ensures) (high .split2 .ensures)))
 
-  returns-2 : split-lts.Need-returns-2 (split-calls t) (split-at t) split.Post
+  returns-2 : At split-lts.Need-returns-2 t
   returns-2 c =
-      let r : Rotated = search in
-      let high : High = search in
-      let low : Low = search in
-      let x : Entry = search in
+      let r : At split-lts.After-rotate t = search in
+      let high : At split-lts.After-split2 t = search in
+      let low : At split-lts.After-split t = search in
+      let x : At split-lts.Start t = search in
       split-whole (x .pre .1) (low .split .ensures) (high .split2 .ensures) (r .rotate .ensures)
 
 pub +split-spec : {M : Type 1} → statement M

@@ -1,50 +1,35 @@
 -- `gather` meets its contract: scratch is filled place by place, each with the word of the line's paired place.
-use mathlib.Core.Path.{_≡_}
 use Prim.Native.Nat.{_-_, _<_, _≤_}
 use native.Mathlib.Omega.{arith}
 use borrow.Author.Needs.{needs}
 use lib.ListN.{length, getD}
 use Rattle.passes.specs.Lines.{posOn, paired}
-use Rattle.passes.proofs.Filling.{Filling, filling-more}
+use Rattle.passes.proofs.Filling.{Filling, filling-more, all-lifted}
 use Rattle.passes.proofs.line.gather.Statement.{statement}
 use Rattle.passes.proofs.line.gather.Tie as tie
 
 abbrev Inv-loop : tie.InvT-loop
-Inv-loop buf scratch₀ s l start stride k₀ k-end scratch k = (k ≤ l .count) × Filling (λ j. j) (λ j. getD buf (posOn l (paired (s .m) (s .n) (l .pass) (l .index) j)) 0) (l .count) k scratch₀ scratch
+Inv-loop buf scratch₀ s l start stride k₀ k-end scratch k =
+    (k ≤ l .count) × Filling (λ j. j) (λ j. getD buf (posOn l (paired (s .m) (s .n) (l .pass) (l .index) j)) 0) (l .count) k scratch₀ scratch
 
 abbrev μ-loop : tie.MeasureT-loop
 μ-loop buf scratch₀ s l start stride k₀ k-end scratch k = l .count - k
 
--- the places that the answers look back to
-abbrev Start : Type 0
-Start = tie.Start Inv-loop μ-loop
-
-abbrev Loop : Type 0
-Loop = tie.At-loop Inv-loop μ-loop
-
-abbrev Paired : Type 0
-Paired = tie.After-paired-place Inv-loop μ-loop
-
 -- the place that is read lies in the buffer
-inside : (p : Paired) → let l = p .before .before in let a = l .before .before .before .args in posOn (a .l) (p .paired-place .result) < length (a .buf .now)
-inside p = let x : Start = search in rw (p .paired-place .ensures) (x .pre .1 .inside _ (x .pre .1 .within _ (omega arith)))
+inside : (p : tie.After-paired-place Inv-loop μ-loop)
+    → let l = p .before .before in
+    let a = l .before .before .before .args in
+    posOn (a .l) (p .paired-place .result) < length (a .buf .now)
+inside p = let x : tie.Start Inv-loop μ-loop = search in rw (p .paired-place .ensures) (x .pre .1 .inside _ (x .pre .1 .within _ (omega arith)))
 
 loop-again : tie.Need-loop-again Inv-loop μ-loop
 loop-again c =
-    let p : Paired = search in
-    let l : Loop = search in
+    let p : tie.After-paired-place Inv-loop μ-loop = search in
+    let l : tie.At-loop Inv-loop μ-loop = search in
     (omega arith, rw (p .paired-place .ensures) (filling-more (λ i j _ _ e. e) (omega arith) (omega arith) (l .loop .inv .1)))
 
 returns : tie.Need-returns Inv-loop μ-loop
-returns c =
-    let l : Loop = search in
-    let x : Start = search in
-    let e : l .loop .k ≡ x .args .l .count = omega arith in
-    record {
-      same = l .loop .inv .1 .same;
-      placed = λ k h. l .loop .inv .1 .placed k (omega arith);
-      rest = λ k h. l .loop .inv .1 .others k (λ j d q. omega arith);
-    }
+returns c = let l : tie.At-loop Inv-loop μ-loop = search in all-lifted (λ j d. d) (l .loop .inv .1) (omega arith)
 
 pub gather-spec : {M : Type 1} → statement M
 gather-spec =

@@ -6,7 +6,7 @@ use native.Mathlib.Omega.{arith}
 use borrow.Author.Needs.{needs}
 use lib.ListN.{length, getD}
 use Rattle.passes.specs.Lines.{posOn}
-use Rattle.passes.proofs.Filling.{Filling, filling-more}
+use Rattle.passes.proofs.Filling.{Filling, filling-more, all-returned}
 use Rattle.passes.proofs.line.put_back.Statement.{statement}
 use Rattle.passes.proofs.line.put_back.Tie as tie
 
@@ -16,16 +16,9 @@ Inv-loop buf₀ scratch start stride k₀ k-end buf k = (k ≤ k-end) × Filling
 abbrev μ-loop : tie.MeasureT-loop
 μ-loop buf₀ scratch start stride k₀ k-end buf k = k-end - k
 
--- the places that the answers look back to
-abbrev Start : Type 0
-Start = tie.Start Inv-loop μ-loop
-
-abbrev Loop : Type 0
-Loop = tie.At-loop Inv-loop μ-loop
-
 -- the place that is written lies in the buffer
 inside : (c : tie.In-loop Inv-loop μ-loop) → let a = c .before .before .args in posOn (a .l) (c .before .loop .k) < length (a .buf .now)
-inside c = let x : Start = search in x .pre .0 _ (omega arith)
+inside c = let x : tie.Start Inv-loop μ-loop = search in x .pre .0 _ (omega arith)
 
 -- no two places of a line are one
 apart : (start stride : ℕ) → 0 < stride → (i j : ℕ) → start + stride * i ≡ start + stride * j → i ≡ j
@@ -33,20 +26,12 @@ apart start stride h i j e = eq-of-mul-eq-mul-left stride h i j (omega arith)
 
 loop-again : tie.Need-loop-again Inv-loop μ-loop
 loop-again c =
-    let l : Loop = search in
-    let x : Start = search in
+    let l : tie.At-loop Inv-loop μ-loop = search in
+    let x : tie.Start Inv-loop μ-loop = search in
     (omega arith, filling-more (λ i j _ _ e. apart (x .args .l .start) (x .args .l .stride) (x .pre .1) i j e) (omega arith) (inside (search)) (l .loop .inv .1))
 
 returns : tie.Need-returns Inv-loop μ-loop
-returns c =
-    let l : Loop = search in
-    let x : Start = search in
-    let e : l .loop .k ≡ x .args .l .count = omega arith in
-    record {
-      same = l .loop .inv .1 .same;
-      placed = λ k h. l .loop .inv .1 .placed k (omega arith);
-      others = l .loop .inv .1 .others;
-    }
+returns c = let l : tie.At-loop Inv-loop μ-loop = search in all-returned (l .loop .inv .1) (omega arith)
 
 pub put-back-spec : {M : Type 1} → statement M
 put-back-spec =

@@ -1,0 +1,18 @@
+-- Any two outcomes that the promise allows from the same entry coincide, number and buffer: the number is a function of the entry,
+-- two turns of one block are equal, and a refused buffer is the entry.
+use mathlib.Core.Path.{_≡_, sym, _∙_}
+use mathlib.Core.List.{List}
+use mathlib.Core.Logic.{⊎-elim}
+use Prim.Native.Nat.{ℕ}
+use Rattle.lists.proofs.Decide.{eq-or-ne}
+use Rattle.flat.proofs.Turn.{one-turn}
+use Rattle.halves.specs.Promise.{TurnPromise}
+
+pub turn-once : {m n r r′ : ℕ} {before after after′ : List ℕ} → TurnPromise m n before r after → TurnPromise m n before r′ after′
+    → (r ≡ r′) × (after ≡ after′)
+turn-once {m} {n} {r} {r′} {before} {after} {after′} p q =
+    let one : r ≡ r′ = p .number ∙ sym (q .number) in
+    ⊎-elim
+    (λ (e : r ≡ 0). (one, one-turn {m = m} {n = n} (p .words e) (q .words (sym one ∙ e))))
+    (λ (e : r ≡ 0 → ⊥). (one, p .kept e ∙ sym (q .kept (λ z. e (one ∙ z)))))
+    (eq-or-ne r 0)

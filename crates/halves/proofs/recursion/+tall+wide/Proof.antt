@@ -1,0 +1,208 @@
+-- The proof of the cycle of calls {tall, wide}. The measure is the number of words in the block. The two halves of a block come back turned
+-- by whichever of the two functions was called; the laws of Cuts and Turns do not ask which.
+use mathlib.Core.Path.{refl}
+use mathlib.Core.List.{List}
+use mathlib.Core.Logic.{⊎-elim}
+use native.Mathlib.Omega.{arith}
+use borrow.Author.Needs.{needs}
+use Rattle.flat.specs.Turn.{Turn}
+use Rattle.halves.proofs.Cuts.{Parted, Front, Back, Both, rows-cut, columns-cut, cut-within, low-block, low-long, low-falls, cut-after, high-block, high-falls, both-back}
+use Rattle.halves.proofs.Turns.{square-fill, square-turned, merge-runs, tall-turned, split-runs, split-parts, wide-turned}
+use Prim.Native.Nat.{ℕ, _-_, _*_, _/_, _<_}
+use lib.ListN.{length}
+use borrow.Fn.Kinds.{In, Out}
+use borrow.Fn.PlainCycle.{Measures, is, falls, and}
+use Rattle.halves.proofs.recursion.tall.Reads as tall
+use Rattle.halves.proofs.recursion.tall.Kinds as tall-kinds
+use Rattle.halves.proofs.recursion.+tall+wide.Lts-tall as tall-lts
+use Rattle.halves.proofs.recursion.wide.Reads as wide
+use Rattle.halves.proofs.recursion.wide.Kinds as wide-kinds
+use Rattle.halves.proofs.recursion.+tall+wide.Lts-wide as wide-lts
+use Rattle.halves.proofs.recursion.square.Reads as square-reads
+use Rattle.halves.proofs.runs.merge.Reads as merge-reads
+use Rattle.halves.proofs.runs.split.Reads as split-reads
+use Rattle.halves.proofs.recursion.+tall+wide.{statement}
+use Rattle.halves.proofs.recursion.+tall+wide.Tie.{close}
+
+abbrev μ-tall : Measures 1 tall-kinds.ps ℕ
+μ-tall κs a = length (a .0 .now)
+
+abbrev μ-wide : Measures 1 wide-kinds.ps ℕ
+μ-wide κs a = length (a .0 .now)
+
+abbrev tall-at : ℕ → In 1 tall-kinds.ps
+tall-at t = and 1 tall-kinds.ps (is 1 tall-kinds.ps μ-tall t) tall.Pre
+
+abbrev tall-below : ℕ → In 1 tall-kinds.ps
+tall-below t = and 1 tall-kinds.ps (falls 1 tall-kinds.ps _<_ μ-tall t) tall.Pre
+
+abbrev wide-at : ℕ → In 1 wide-kinds.ps
+wide-at t = and 1 wide-kinds.ps (is 1 wide-kinds.ps μ-wide t) wide.Pre
+
+abbrev wide-below : ℕ → In 1 wide-kinds.ps
+wide-below t = and 1 wide-kinds.ps (falls 1 wide-kinds.ps _<_ μ-wide t) wide.Pre
+
+-- what the callees of wide ask and what they promise
+abbrev wide-calls : ℕ → wide-lts.Claims
+wide-calls t = (square-reads.Asked, square-reads.Learnt, split-reads.Asked, split-reads.Learnt, wide-below t, wide.Post, tall-below t, tall.Post)
+
+-- what the callees of tall ask and what they promise
+abbrev tall-calls : ℕ → tall-lts.Claims
+tall-calls t = (square-reads.Asked, square-reads.Learnt, tall-below t, tall.Post, wide-below t, wide.Post, merge-reads.Asked, merge-reads.Learnt)
+
+-- a place of tall, or a need, at a call of measure t
+abbrev Tall : (tall-lts.Claims → In 1 tall-kinds.ps → Out 1 tall-kinds.ps tall-kinds.r → Type 0) → ℕ → Type 0
+Tall P t = P (tall-calls t) (tall-at t) tall.Post
+
+module _ (t : ℕ) where
+  -- the rows are cut
+  tall-parts : (x : Tall tall-lts.Else1 t) → let a = x .before .before .args in Parted (a .m / 2 * a .n) (a .m / 2) (a .n) (a .m - a .m / 2) (a .n) (a .s .now)
+  tall-parts x = rows-cut (x .before .before .pre .1 .0) (omega arith)
+
+  -- the first part is back
+  tall-front : (x : Tall tall-lts.Joined2 t) → let a = x .before .before .before .args in Front (a .m / 2 * a .n) (a .m / 2) (a .n) (a .s .now) (x .if2 .s)
+  tall-front x = ⊎-elim
+      (λ w. record { part = w .2 .last .0; turn = w .2 .ensures; back = w .5 })
+      (λ w. record { part = w .2 .last .0; turn = w .2 .ensures; back = w .5 })
+      (x .if2 .came)
+
+  -- both are
+  tall-both : (x : Tall tall-lts.Joined3 t)
+      → let a = x .before .before .before .before .args in Both (a .m / 2 * a .n) (a .m / 2) (a .n) (a .m - a .m / 2) (a .n) (a .s .now) (x .if3 .s)
+  tall-both x = both-back (tall-parts (search)) (tall-front (search)) (⊎-elim
+      (λ w. record { part = w .2 .last .0; turn = w .2 .ensures; back = w .5 })
+      (λ w. record { part = w .2 .last .0; turn = w .2 .ensures; back = w .5 })
+      (x .if3 .came))
+
+  tall-square-requires : Tall tall-lts.Need-square-requires t
+  tall-square-requires c κs = let x : Tall tall-lts.Start t = search in square-fill (x .pre .1 .0) (omega arith)
+
+  tall-returns : Tall tall-lts.Need-returns t
+  tall-returns c = let q : Tall tall-lts.After-square t = search in square-turned (omega arith) (q .square .ensures)
+
+  tall-merge-requires : Tall tall-lts.Need-merge-requires t
+  tall-merge-requires c κs = let x : Tall tall-lts.Start t = search in merge-runs (x .pre .1 .0) (omega arith) (tall-both (search))
+
+  tall-returns-2 : Tall tall-lts.Need-returns-2 t
+  tall-returns-2 c =
+      let m : Tall tall-lts.After-merge t = search in
+      let x : Tall tall-lts.Start t = search in
+      tall-turned (x .pre .1 .0) (omega arith) (tall-both (search)) (m .merge .ensures)
+
+-- a place of wide, or a need, at a call of measure t
+abbrev Wide : (wide-lts.Claims → In 1 wide-kinds.ps → Out 1 wide-kinds.ps wide-kinds.r → Type 0) → ℕ → Type 0
+Wide P t = P (wide-calls t) (wide-at t) wide.Post
+
+module _ (t : ℕ) where
+  -- the block is split and its columns are cut
+  wide-parts : (x : Wide wide-lts.After-split t)
+      → let a = x .before .before .before .before .args in Parted (a .m * (a .n / 2)) (a .m) (a .n / 2) (a .m) (a .n - a .n / 2) (x .split .last .0)
+  wide-parts x = let e : Wide wide-lts.Start t = search in split-parts (e .pre .1 .0) (omega arith) (x .split .ensures)
+
+  -- the first part is back
+  wide-front : (x : Wide wide-lts.Joined2 t)
+      → let s = x .before .before .before in
+      let a = s .before .before .before .before .args in
+      Front (a .m * (a .n / 2)) (a .m) (a .n / 2) (s .split .last .0) (x .if2 .s)
+  wide-front x = ⊎-elim
+      (λ w. record { part = w .2 .last .0; turn = w .2 .ensures; back = w .5 })
+      (λ w. record { part = w .2 .last .0; turn = w .2 .ensures; back = w .5 })
+      (x .if2 .came)
+
+  wide-square-requires : Wide wide-lts.Need-square-requires t
+  wide-square-requires c κs = let x : Wide wide-lts.Start t = search in square-fill (x .pre .1 .0) (omega arith)
+
+  wide-returns : Wide wide-lts.Need-returns t
+  wide-returns c = let q : Wide wide-lts.After-square t = search in square-turned (omega arith) (q .square .ensures)
+
+  wide-mul-cut : Wide wide-lts.Need-mul-cut t
+  wide-mul-cut c = let x : Wide wide-lts.Start t = search in omega (arith, cut-within (columns-cut (x .pre .1 .0) (omega arith)))
+
+  wide-split-requires : Wide wide-lts.Need-split-requires t
+  wide-split-requires c κs = let x : Wide wide-lts.Start t = search in split-runs (x .pre .1 .0) (omega arith)
+
+  -- the second is back too
+  wide-whole : {z : List ℕ} (x : Wide wide-lts.Joined2 t)
+      → let s = x .before .before .before in
+      let a = s .before .before .before .before .args in
+      Back (a .m * (a .n / 2)) (a .m) (a .n - a .n / 2) (x .if2 .s) z → Turn (a .m) (a .n) (a .s .now) z
+  wide-whole x b =
+      let s : Wide wide-lts.After-split t = search in
+      let e : Wide wide-lts.Start t = search in
+      wide-turned (e .pre .1 .0) (omega arith) (s .split .ensures) (both-back (wide-parts s) (wide-front x) b)
+
+  wide-returns-2 : Wide wide-lts.Need-returns-2 t
+  wide-returns-2 c = let w : Wide wide-lts.After-wide2 t = search in wide-whole (search) (record { part = w .wide2 .last .0; turn = w .wide2 .ensures; back = refl })
+
+  wide-returns-3 : Wide wide-lts.Need-returns-3 t
+  wide-returns-3 c = let w : Wide wide-lts.After-tall2 t = search in wide-whole (search) (record { part = w .tall2 .last .0; turn = w .tall2 .ensures; back = refl })
+
+pub +tall+wide-spec : {M : Type 1} → statement M
++tall+wide-spec = close μ-tall μ-wide (λ t. tall-lts.spec (tall-calls t)
+    (tall-at t)
+    tall.Post
+    (tall-square-requires t)
+    (search needs)
+    (tall-returns t)
+    (search needs)
+    (λ c. omega (arith, cut-within (tall-parts t (search))))
+    (λ c. cut-within (tall-parts t (search)))
+    (λ c. low-long (tall-parts t (search)))
+    (λ c κs. let p = tall-parts t (search) in (omega (arith, low-falls p), (low-block p, omega arith)))
+    (λ c. cut-within (tall-parts t (search)))
+    (λ c. low-long (tall-parts t (search)))
+    (λ c κs. let p = tall-parts t (search) in (omega (arith, low-falls p), (low-block p, omega arith)))
+    (λ c. omega (arith, cut-within (tall-parts t (search))))
+    (λ c. cut-after (tall-parts t (search)) (tall-front t (search)))
+    (λ c. cut-after (tall-parts t (search)) (tall-front t (search)))
+    (search needs)
+    (λ c κs.
+    let p = tall-parts t (search) in
+    let f = tall-front t (search) in
+    (omega (arith, high-falls p f), (high-block p f, omega arith)))
+    (λ c. omega (arith, cut-within (tall-parts t (search))))
+    (λ c. cut-after (tall-parts t (search)) (tall-front t (search)))
+    (λ c. cut-after (tall-parts t (search)) (tall-front t (search)))
+    (search needs)
+    (λ c κs.
+    let p = tall-parts t (search) in
+    let f = tall-front t (search) in
+    (omega (arith, high-falls p f), (high-block p f, omega arith)))
+    (tall-merge-requires t)
+    (λ c. tall-returns-2 t c .same)
+    (tall-returns-2 t))
+    λ t. wide-lts.spec (wide-calls t)
+    (wide-at t)
+    wide.Post
+    (wide-square-requires t)
+    (search needs)
+    (wide-returns t)
+    (search needs)
+    (wide-mul-cut t)
+    (wide-split-requires t)
+    (λ c. cut-within (wide-parts t (search)))
+    (λ c. low-long (wide-parts t (search)))
+    (λ c κs. let p = wide-parts t (search) in (omega (arith, low-falls p), (low-block p, omega arith)))
+    (λ c. cut-within (wide-parts t (search)))
+    (λ c. low-long (wide-parts t (search)))
+    (λ c κs. let p = wide-parts t (search) in (omega (arith, low-falls p), (low-block p, omega arith)))
+    (λ c. omega (arith, cut-within (wide-parts t (search))))
+    (λ c. cut-after (wide-parts t (search)) (wide-front t (search)))
+    (λ c. cut-after (wide-parts t (search)) (wide-front t (search)))
+    (search needs)
+    (λ c κs.
+    let p = wide-parts t (search) in
+    let f = wide-front t (search) in
+    (omega (arith, high-falls p f), (high-block p f, omega arith)))
+    (λ c. omega (arith, cut-within (wide-parts t (search))))
+    (λ c. cut-after (wide-parts t (search)) (wide-front t (search)))
+    (λ c. cut-after (wide-parts t (search)) (wide-front t (search)))
+    (search needs)
+    (λ c κs.
+    let p = wide-parts t (search) in
+    let f = wide-front t (search) in
+    (omega (arith, high-falls p f), (high-block p f, omega arith)))
+    (λ c. wide-returns-2 t c .same)
+    (wide-returns-2 t)
+    (λ c. wide-returns-3 t c .same)
+    (wide-returns-3 t)

@@ -1,0 +1,63 @@
+-- `block::cross` meets its contract: before place j the words of row i and of column i stand exchanged.
+use mathlib.Core.Path.{_≡_}
+use Prim.Native.Nat.{_+_, _*_, _-_, _≤_, _<_}
+use native.Mathlib.Omega.{arith}
+use lib.ListN.{length, length-set}
+use Rattle.halves.specs.LentSlices.{Crossed}
+use Rattle.halves.proofs.Diagonal.{places-within, crossed-more}
+use borrow.Author.Needs.{needs}
+use Rattle.halves.proofs.recursion.cross.Statement.{statement}
+use Rattle.halves.proofs.recursion.cross.Tie as tie
+
+abbrev Inv-loop : tie.InvT-loop
+Inv-loop s₀ n i j₀ s j = (i < j) × (j ≤ n) × Crossed n i j s₀ s
+
+abbrev μ-loop : tie.MeasureT-loop
+μ-loop s₀ n i j₀ s j = n - j
+
+-- both places of the exchange lie in the slice
+inside : (c : tie.In-loop Inv-loop μ-loop)
+    → let l = c .before .loop in let a = c .before .before .args in (a .i * a .n + l .j < length (l .s)) × (l .j * a .n + a .i < length (l .s))
+inside c =
+    let l : tie.At-loop Inv-loop μ-loop = search in
+    let x : tie.Start Inv-loop μ-loop = search in
+    places-within (x .pre .0) (l .loop .inv .0) (omega arith) (l .loop .inv .2)
+
+loop-again : tie.Need-loop-again Inv-loop μ-loop
+loop-again c =
+    let l : tie.At-loop Inv-loop μ-loop = search in
+    let x : tie.Start Inv-loop μ-loop = search in
+    (omega arith, omega arith, crossed-more (x .pre .0) (l .loop .inv .0) (omega arith) (l .loop .inv .2))
+
+returns : tie.Need-returns Inv-loop μ-loop
+returns c =
+    let l : tie.At-loop Inv-loop μ-loop = search in
+    let x : tie.Start Inv-loop μ-loop = search in
+    let end : l .loop .j ≡ x .args .n = omega arith in
+    rw end at (l .loop .inv .2)
+
+pub cross-spec : {M : Type 1} → statement M
+cross-spec =
+    tie.close
+    (tie.spec
+    Inv-loop
+    μ-loop
+    (search needs)
+    (search needs)
+    (λ c. omega (arith, inside (search)))
+    (λ c. omega (arith, inside (search)))
+    (λ c. omega (arith, inside (search)))
+    (λ c. omega (arith, inside (search)))
+    (λ c. omega (arith, inside (search)))
+    (λ c. omega (arith, inside (search)))
+    (λ c. omega (arith, inside (search)))
+    (λ c. omega (arith, inside (search)))
+    (λ c. omega (arith, inside (search)))
+    (λ c. omega (arith, inside (search)))
+    (λ c. omega (arith, inside (search)))
+    (λ c. rw length-set (omega (arith, inside (search))))
+    (search needs)
+    (search needs)
+    loop-again
+    (search needs)
+    returns)
