@@ -5,7 +5,8 @@ ghost use Rattle.axes.specs.Promises.{ChainPromise, RequestPromise, PlanPromise
 ghost use Rattle.sheet.specs.Reader.{ReadAs};
 ghost use Rattle.sheet.specs.Writer.{WrittenAs};
 ghost use Rattle.job.specs.Job.{Done};
-ghost use Rattle.exports.specs.Records.{answered, planned, sheetRead, sheetWritten};
+ghost use Rattle.home.specs.Promise.{RepeatsPromise};
+ghost use Rattle.exports.specs.Records.{answered, planned, sheetRead, sheetWritten, homeAfter};
 
 // The lengths of four axes, last axis fastest.
 #[repr(C)]
@@ -44,6 +45,13 @@ pub struct Sheet {
 // What the sheet writer answers.
 #[repr(C)]
 pub struct Written {
+    pub number: u32,
+    pub count: usize,
+}
+
+// What the count of repeats answers.
+#[repr(C)]
+pub struct Home {
     pub number: u32,
     pub count: usize,
 }
@@ -176,4 +184,16 @@ pub extern "C" fn zib_job(
     ensures { λ r. ⌜ Done (now (bytes .entry)) (now (words .entry)) (now (scratch .entry)) (now (out .entry)) r (now (words .exit)) (now (scratch .exit)) (now (out .exit)) ⌝ }
 {
     job::job(bytes, words, scratch, out)
+}
+
+// How often the turn of m by n is repeated until every block of that shape is home.
+#[no_mangle]
+pub extern "C" fn zib_repeats(m: usize, n: usize) -> Home
+    ensures { λ r. ⌜ RepeatsPromise m n (homeAfter r) ⌝ }
+{
+    let h = home::repeats(m, n);
+    Home {
+        number: h.number,
+        count: h.count,
+    }
 }
