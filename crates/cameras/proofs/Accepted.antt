@@ -11,7 +11,7 @@ use Rattle.layout.specs.Layout.{volume}
 use Rattle.refusals.specs.FirstOf.{Check, firstOf}
 use Rattle.refusals.proofs.FirstOf.{Refusing, Silent, zero-silent}
 use Rattle.refusals.proofs.FirstOf.Silent.{none, more}
-use Rattle.refusals.proofs.Conditions.{InRange, in-range}
+use Rattle.refusals.proofs.Conditions.{InRange, in-range, range-in, passed}
 use Rattle.flat.specs.Turn.{sides}
 use Rattle.flat.proofs.Turn.{volume-two}
 use Rattle.cameras.specs.Promises.{badCameras, removeChecks, addChecks, Changed}
@@ -43,6 +43,19 @@ removes f c k buffer e =
           few = rw words (ltb-false 1048576 (volume (sides f c)) two);
           fits = rw words (ltb-false (length buffer) (volume (sides f c)) three);
         }
+
+-- the lengths that are left, and one camera more, are in range again
+pub lengths-left : (frames cameras k : ℕ) (buffer : List ℕ) → firstOf (removeChecks frames cameras k buffer) ≡ 0
+    → badCameras frames (cameras - 1) (cameras - 1 + 1) ≡ false
+lengths-left f c k buffer e = go (in-range (f ∷ c ∷ (c - 1) ∷ []) (passed (badCameras f c (c - 1)) 1 _ (lit< tt) e .0))
+  where
+    go : InRange (f ∷ c ∷ (c - 1) ∷ []) → badCameras f (c - 1) (c - 1 + 1) ≡ false
+    go (InRange.more pf ff (InRange.more pc fc (InRange.more pd fd InRange.none))) =
+        rw (
+          range-in f (λ z. omega arith) ff,
+          range-in (c - 1) (λ z. omega arith) (omega arith),
+          range-in (c - 1 + 1) (λ z. omega arith) (omega arith),
+        )
 
 -- adding
 pub record Adds (frames n k : ℕ) (column buffer : List ℕ) : Type 0 where

@@ -8,3 +8,7 @@ pub mod AllRows
 pub mod Accepted
 -- rows closed up and words zeroed are the block without the column
 pub mod Removed
+-- removing and adding undo each other
+pub mod Back
+-- any two outcomes coincide, and freed room is always enough
+pub mod OneOutcome
