@@ -58,6 +58,18 @@ uint32_t zib_turn_back(uint32_t *buffer, size_t buffer_words, uint32_t *scratch,
  */
 uint32_t zib_turn_halves(uint32_t *buffer, size_t buffer_words, size_t m, size_t n);
 
+/* What zib_repeats answers: a count, 0 in a refusal. */
+struct zib_home {
+    uint32_t number;
+    size_t count;
+};
+
+/*
+ * How often a turn with the same m and n is repeated, at least once, until every block of that shape is home.
+ * It takes a multiplication and a remainder a repeat, at most mn - 2 of them. Answers 0, or the first of 1, 2 that holds.
+ */
+struct zib_home zib_repeats(size_t m, size_t n);
+
 /*
  * Four axes. A block has axes 0 to 3 with these lengths, the last fastest. Swap k (0, 1 or 2) exchanges the axes at
  * places k and k+1 of the shape as it then stands. An order lists which original axis stands at each place; orders are

@@ -11,6 +11,7 @@ pub const PLAN: u64 = 6;
 pub const READ_SHEET: u64 = 7;
 pub const WRITE_SHEET: u64 = 8;
 pub const JOB: u64 = 9;
+pub const REPEATS: u64 = 10;
 pub const WRITE_PAST_END: u64 = 100;
 pub const READ_PAST_END: u64 = 101;
 pub const WRITE_BEFORE_START: u64 = 102;

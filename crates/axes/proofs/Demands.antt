@@ -1,184 +1,210 @@
--- What the calls on four axes do together, as theorems over what they promise: chains join, chains that name one order leave the same, a chain
+-- What the calls on r axes do together, as theorems over what they promise: chains join, chains that name one order leave the same, a chain
 -- run backwards restores the block, an order number means the same in every call, and a request leaves what the chain of its plan leaves.
--- The words by the laws of layouts, the lengths by following the chain, scratch because clearing it twice is clearing it once.
-use mathlib.Core.Path.{_≡_, sym, ap, ap₂, _∙_, subst}
+-- Each call has its own scratch, any that is enough; what it holds afterwards each call's promise says by itself.
+-- The words by the laws of layouts, the lengths by following the chain.
+use mathlib.Core.Path.{_≡_, refl, sym, ap, ap₂, _∙_, subst}
 use mathlib.Core.List.{List, _++_, reverse}
-use Prim.Native.Nat.{ℕ, _+_, _<_, _≤_}
+use mathlib.Core.Bool.{false}
+use mathlib.Core.Logic.{⊎-elim}
+use Prim.Native.Nat.{ℕ, _+_, _-_, _<_, _≤_}
 use native.Mathlib.Nat.{le-refl}
 use native.Mathlib.Omega.{arith}
 use lib.ListN.{length, take, drop, replicate, length-append}
-use borrow.Author.Tests.{ltb-false, le-ltb}
+use borrow.Author.Tests.{le-ltb}
+use Rattle.lists.proofs.Decide.{eq-or-ne}
 use Rattle.layout.specs.Layout.{pick, Laid}
 use Rattle.orders.specs.Chains.{follow, named}
-use Rattle.orders.specs.Numbers.{orderOf, numberOf}
-use Rattle.orders.specs.Plans.{planOf}
+use Rattle.orders.specs.Numbers.{orderCount, orderOf, numberOf}
+use Rattle.orders.specs.Plans.{planOf, planPlaces}
 use Rattle.orders.proofs.Chains.{pick-named, follow-append, follow-home, joined, length-follow}
 use Rattle.orders.proofs.Layouts.{chain-joined, chain-home, chain-once}
-use Rattle.orders.proofs.Numbers.{order-number}
-use Rattle.orders.proofs.FourAxes.{number-below-4, length-plan-4}
-use Rattle.refusals.specs.FirstOf.{firstOf}
-use Rattle.refusals.specs.Conditions.{longest}
-use Rattle.refusals.specs.Calls.{chainChecks, planChecks}
+use Rattle.orders.proofs.Numbers.{number-below, order-number}
+use Rattle.orders.proofs.Plans.{plan-places}
+use Rattle.refusals.specs.FirstOf.{Check, firstOf}
+use Rattle.refusals.specs.Conditions.{badSwap}
+use Rattle.refusals.specs.Calls.{chainChecks, requestChecks, planChecks}
 use Rattle.refusals.specs.Scratch.{need, cleared}
+use Rattle.refusals.specs.Promise.{Rearranged}
 use Rattle.refusals.proofs.FirstOf.{Silent, silent-zero}
+use Rattle.refusals.proofs.Scratch.{need-follow, cleared-past}
 use Rattle.axes.specs.declared.Answer.{Answer}
 use Rattle.axes.specs.declared.Planned.{Planned}
-use Rattle.axes.specs.Answers.{refused}
 use Rattle.axes.specs.Promises.{ChainPromise, RequestPromise, PlanPromise}
-use Rattle.axes.proofs.Checks.{longest-follow, Runs, runs, runs-zero, runs-joined, runs-back, silent-block, accepted-so-far}
+use Rattle.axes.proofs.Accepted.{BlockAccepted, ChainAccepted, accepts-chain, block-room, block-through, block-zero, chain-zero, next-accepted, joined-accepted, back-accepted, by-last}
 use Rattle.axes.proofs.Calls.{request-of-chain}
-use Rattle.axes.proofs.Steps.{cleared-length, cleared-past}
-use Rattle.axes.proofs.Outcomes.{one-request}
+use Rattle.axes.proofs.OneOutcome.{request-once}
 
 -- what an accepted chain leaves, as facts of the entry
-module _ {ds c xs ss : List ℕ} {r : Answer} {ys ts : List ℕ} (axes : length ds ≡ 4) (p : ChainPromise ds c xs ss r ys ts) (z : r .number ≡ 0) where
-  ran : Runs ds xs ss c
-  ran = runs ds xs ss c (sym (p .block .number-is) ∙ z)
+module _ {r : ℕ} {ds c xs ss : List ℕ} {a : Answer} {ys ts : List ℕ} (axes : length ds ≡ r) (p : ChainPromise r ds c xs ss a ys ts) (z : a .number ≡ 0) where
+  ran : ChainAccepted r ds xs ss c
+  ran = accepts-chain r ds xs ss c (sym (p .block .number-is) ∙ z)
 
-  laid-out : Laid ds (named 4 c) xs ys
+  laid-out : Laid ds (named r c) xs ys
   laid-out = p .block .words z
 
-  new-lengths : r .lens ≡ follow ds c
-  new-lengths = ap (λ (a : Answer). a .lens) (p .given z) ∙ pick-named ds c axes
+  new-lengths : a .lens ≡ follow ds c
+  new-lengths = ap (λ (b : Answer). b .lens) (p .given z) ∙ pick-named ds c axes
 
-  new-order : orderOf 4 (r .order) ≡ named 4 c
-  new-order = ap (λ (a : Answer). orderOf 4 (a .order)) (p .given z) ∙ order-number 4 c
+  as-many : length (a .lens) ≡ r
+  as-many = ap length new-lengths ∙ length-follow ds c ∙ axes
 
-  counted : r .swaps ≡ length c
-  counted = ap (λ (a : Answer). a .swaps) (p .given z)
+  new-order : orderOf r (a .order) ≡ named r c
+  new-order = ap (λ (b : Answer). orderOf r (b .order)) (p .given z) ∙ order-number r c
 
-  wiped : ts ≡ cleared (need ds) ss
-  wiped = p .block .zeroed z
+  counted : a .swaps ≡ length c
+  counted = ap (λ (b : Answer). b .swaps) (p .given z)
 
-  room : longest ds ≤ length ss
-  room = ltb-false (length ss) (longest ds) (ran .block .scratch)
-
-  same-room : length ts ≡ length ss
-  same-room = ap length wiped ∙ cleared-length ss (le-refl (longest ds)) room
-
-  -- scratch cleared again for the new lengths
-  wiped-again : {us : List ℕ} → us ≡ cleared (need (r .lens)) ts → us ≡ ts
-  wiped-again e =
-      let same-need : need (r .lens) ≡ need ds = ap longest new-lengths ∙ longest-follow ds c in
+  -- scratch that one call left, lent to a call on the shape that came back, is as it was after both
+  pub scratch-again : {us : List ℕ} → us ≡ cleared (need (a .lens)) ts → us ≡ ts
+  scratch-again e =
+      let wiped = p .block .zeroed z in
+      let same-need : need (a .lens) ≡ need ds = ap need new-lengths ∙ need-follow ds c in
       e
       ∙ ap (λ (w : ℕ). cleared w ts) same-need
-      ∙ ap (λ (t : List ℕ). replicate (longest ds) 0 ++ t) (ap (drop (longest ds)) wiped ∙ cleared-past ss (le-refl (longest ds)) room)
+      ∙ ap (λ (t : List ℕ). replicate (need ds) 0 ++ t) (ap (drop (need ds)) wiped ∙ cleared-past ss (le-refl (need ds)) (block-room (ran .block)))
       ∙ sym wiped
 
 -- one chain, then the other on the shape that came back, leaves what the joined chain leaves in one call
-pub record Joined (r₁ r₂ r : Answer) (zs us ws vs : List ℕ) : Type 0 where
-  pub accepts : r .number ≡ 0
-  pub lengths : r .lens ≡ r₂ .lens
-  pub order : orderOf 4 (r .order) ≡ pick (orderOf 4 (r₂ .order)) (orderOf 4 (r₁ .order))
-  pub swaps : r .swaps ≡ r₁ .swaps + r₂ .swaps
+pub record Joined (r : ℕ) (a₁ a₂ a : Answer) (zs ws : List ℕ) : Type 0 where
+  pub second : a₂ .number ≡ 0
+  pub both : a .number ≡ 0
+  pub lengths : a .lens ≡ a₂ .lens
+  pub order : orderOf r (a .order) ≡ pick (orderOf r (a₂ .order)) (orderOf r (a₁ .order))
+  pub swaps : a .swaps ≡ a₁ .swaps + a₂ .swaps
   pub words : ws ≡ zs
-  pub scratch : vs ≡ us
 
-module _ {ds s t xs ss : List ℕ} {r₁ r₂ r : Answer} {ys ts zs us ws vs : List ℕ} (axes : length ds ≡ 4)
-    (p : ChainPromise ds s xs ss r₁ ys ts) (q : ChainPromise (r₁ .lens) t ys ts r₂ zs us) (j : ChainPromise ds (s ++ t) xs ss r ws vs)
-    (e : r₁ .number ≡ 0) (d : r₂ .number ≡ 0) (h : length (s ++ t) ≤ 32) where
-  between : length (r₁ .lens) ≡ 4
-  between = ap length (new-lengths axes p e) ∙ length-follow ds s ∙ axes
+-- where the first is accepted, the second has no bad swap, and both have at most 32 swaps together
+module _ {r : ℕ} {ds s t xs ss ss₂ ss₃ : List ℕ} {a₁ a₂ a : Answer} {ys ts zs us ws vs : List ℕ} (axes : length ds ≡ r)
+    (p : ChainPromise r ds s xs ss a₁ ys ts) (q : ChainPromise r (a₁ .lens) t ys ss₂ a₂ zs us) (j : ChainPromise r ds (s ++ t) xs ss₃ a ws vs)
+    (e : a₁ .number ≡ 0) (good : badSwap r t ≡ false) (few : length (s ++ t) ≤ 32) (room₂ : need ds ≤ length ss₂) (room₃ : need ds ≤ length ss₃) where
+  second-accepted : a₂ .number ≡ 0
+  second-accepted =
+      q .block .number-is
+      ∙ ap (λ (l : List ℕ). firstOf (chainChecks r l ys ss₂ t)) (new-lengths axes p e)
+      ∙ chain-zero {xs = ys} {ss = ss₂} (next-accepted (ran axes p e) t good (omega (arith, length-append s t)) (laid-out axes p e .same) room₂)
 
-  joined-accepted : r .number ≡ 0
-  joined-accepted = j .block .number-is ∙ runs-zero (runs-joined (ran axes p e) (ran between q d) h)
+  both-accepted : a .number ≡ 0
+  both-accepted = j .block .number-is ∙ chain-zero {ss = ss₃} (joined-accepted (ran axes p e) t good few room₃)
 
-  joined-laid : Laid ds (named 4 (s ++ t)) xs zs
+  joined-laid : Laid ds (named r (s ++ t)) xs zs
   joined-laid =
       chain-joined ds axes s t (laid-out axes p e)
-      (subst (λ (l : List ℕ). Laid l (named 4 t) ys zs) (new-lengths axes p e ∙ sym (pick-named ds s axes)) (laid-out between q d))
+      (subst (λ (l : List ℕ). Laid l (named r t) ys zs) (new-lengths axes p e ∙ sym (pick-named ds s axes)) (q .block .words second-accepted))
 
-  pub chains-join : Joined r₁ r₂ r zs us ws vs
-  chains-join = record {
-    accepts = joined-accepted;
-    lengths = new-lengths axes j joined-accepted
-        ∙ follow-append ds s t
-        ∙ ap (λ (l : List ℕ). follow l t) (sym (new-lengths axes p e))
-        ∙ sym (new-lengths between q d);
-    order = new-order axes j joined-accepted ∙ joined 4 s t ∙ ap₂ pick (sym (new-order between q d)) (sym (new-order axes p e));
-    swaps = counted axes j joined-accepted ∙ length-append s t ∙ ap₂ _+_ (sym (counted axes p e)) (sym (counted between q d));
-    words = chain-once ds axes (s ++ t) (laid-out axes j joined-accepted) joined-laid;
-    scratch = wiped axes j joined-accepted ∙ sym (wiped axes p e) ∙ sym (wiped-again axes p e (wiped between q d));
-  }
+  pub chains-join : Joined r a₁ a₂ a zs ws
+  chains-join =
+      let between = as-many axes p e in
+      record {
+        second = second-accepted;
+        both = both-accepted;
+        lengths = new-lengths axes j both-accepted
+            ∙ follow-append ds s t
+            ∙ ap (λ (l : List ℕ). follow l t) (sym (new-lengths axes p e))
+            ∙ sym (new-lengths between q second-accepted);
+        order = new-order axes j both-accepted ∙ joined r s t ∙ ap₂ pick (sym (new-order between q second-accepted)) (sym (new-order axes p e));
+        swaps = counted axes j both-accepted ∙ length-append s t ∙ ap₂ _+_ (sym (counted axes p e)) (sym (counted between q second-accepted));
+        words = chain-once ds axes (s ++ t) (laid-out axes j both-accepted) joined-laid;
+      }
 
--- two calls leave the same: lengths, order, words and scratch
-pub record Alike (r r′ : Answer) (ys ts zs us : List ℕ) : Type 0 where
-  pub lengths : r′ .lens ≡ r .lens
-  pub order : r′ .order ≡ r .order
+-- two calls leave the same: lengths, order and words
+pub record Alike (a a′ : Answer) (ys zs : List ℕ) : Type 0 where
+  pub lengths : a′ .lens ≡ a .lens
+  pub order : a′ .order ≡ a .order
   pub words : zs ≡ ys
-  pub scratch : us ≡ ts
 
--- chains that name one order leave the same
-module _ {ds s t xs ss : List ℕ} {r r′ : Answer} {ys ts zs us : List ℕ} (axes : length ds ≡ 4) (p : ChainPromise ds s xs ss r ys ts)
-    (q : ChainPromise ds t xs ss r′ zs us) (e : r .number ≡ 0) (d : r′ .number ≡ 0) (one : named 4 s ≡ named 4 t) where
-  pub one-order : Alike r r′ ys ts zs us
+-- accepted chains that name one order leave the same
+module _ {r : ℕ} {ds s t xs ss ss′ : List ℕ} {a a′ : Answer} {ys ts zs us : List ℕ} (axes : length ds ≡ r) (p : ChainPromise r ds s xs ss a ys ts)
+    (q : ChainPromise r ds t xs ss′ a′ zs us) (e : a .number ≡ 0) (d : a′ .number ≡ 0) (one : named r s ≡ named r t) where
+  pub one-order : Alike a a′ ys zs
   one-order = record {
-    lengths = ap (λ (a : Answer). a .lens) (q .given d) ∙ ap (λ (o : List ℕ). pick o ds) (sym one) ∙ sym (ap (λ (a : Answer). a .lens) (p .given e));
-    order = ap (λ (a : Answer). a .order) (q .given d) ∙ ap (numberOf 4) (sym one) ∙ sym (ap (λ (a : Answer). a .order) (p .given e));
+    lengths = ap (λ (b : Answer). b .lens) (q .given d) ∙ ap (λ (o : List ℕ). pick o ds) (sym one) ∙ sym (ap (λ (b : Answer). b .lens) (p .given e));
+    order = ap (λ (b : Answer). b .order) (q .given d) ∙ ap (numberOf r) (sym one) ∙ sym (ap (λ (b : Answer). b .order) (p .given e));
     words = chain-once ds axes t (laid-out axes q d) (subst (λ (o : List ℕ). Laid ds o xs ys) one (laid-out axes p e));
-    scratch = wiped axes q d ∙ sym (wiped axes p e);
   }
 
 -- a chain run backwards on the shape that came back restores every word and the shape
-pub record Restored (ds xs ts : List ℕ) (r : Answer) (zs us : List ℕ) : Type 0 where
-  pub accepts : r .number ≡ 0
-  pub lengths : r .lens ≡ ds
+pub record Restored (ds xs : List ℕ) (a : Answer) (zs : List ℕ) : Type 0 where
+  pub accepts : a .number ≡ 0
+  pub lengths : a .lens ≡ ds
   pub words : zs ≡ xs
-  pub scratch : us ≡ ts
 
-module _ {ds c xs ss : List ℕ} {r r′ : Answer} {ys ts zs us : List ℕ} (axes : length ds ≡ 4) (p : ChainPromise ds c xs ss r ys ts)
-    (q : ChainPromise (r .lens) (reverse c) ys ts r′ zs us) (e : r .number ≡ 0) where
-  turned : length (r .lens) ≡ 4
-  turned = ap length (new-lengths axes p e) ∙ length-follow ds c ∙ axes
-
-  back-accepted : r′ .number ≡ 0
-  back-accepted =
+module _ {r : ℕ} {ds c xs ss ss′ : List ℕ} {a a′ : Answer} {ys ts zs us : List ℕ} (axes : length ds ≡ r) (p : ChainPromise r ds c xs ss a ys ts)
+    (q : ChainPromise r (a .lens) (reverse c) ys ss′ a′ zs us) (e : a .number ≡ 0) (room : need ds ≤ length ss′) where
+  back-again : a′ .number ≡ 0
+  back-again =
       q .block .number-is
-      ∙ ap (λ (l : List ℕ). firstOf (chainChecks 4 l ys ts (reverse c))) (new-lengths axes p e)
-      ∙ runs-zero (runs-back (ran axes p e) ys ts (laid-out axes p e .same) (same-room axes p e))
+      ∙ ap (λ (l : List ℕ). firstOf (chainChecks r l ys ss′ (reverse c))) (new-lengths axes p e)
+      ∙ chain-zero {xs = ys} {ss = ss′} (back-accepted (ran axes p e) (laid-out axes p e .same) room)
 
-  pub backwards : Restored ds xs ts r′ zs us
-  backwards = record {
-    accepts = back-accepted;
-    lengths = new-lengths turned q back-accepted ∙ ap (λ (l : List ℕ). follow l (reverse c)) (new-lengths axes p e) ∙ follow-home ds c;
-    words = chain-once (r .lens) turned (reverse c) (laid-out turned q back-accepted)
-        (subst
-        (λ (l : List ℕ). Laid l (named 4 (reverse c)) ys xs)
-        (pick-named ds c axes ∙ sym (new-lengths axes p e))
-        (chain-home ds axes c (laid-out axes p e)));
-    scratch = wiped-again axes p e (wiped turned q back-accepted);
-  }
+  pub backwards : Restored ds xs a′ zs
+  backwards =
+      let turned = as-many axes p e in
+      record {
+        accepts = back-again;
+        lengths = new-lengths turned q back-again ∙ ap (λ (l : List ℕ). follow l (reverse c)) (new-lengths axes p e) ∙ follow-home ds c;
+        words = chain-once (a .lens) turned (reverse c) (laid-out turned q back-again)
+            (subst
+            (λ (l : List ℕ). Laid l (named r (reverse c)) ys xs)
+            (pick-named ds c axes ∙ sym (new-lengths axes p e))
+            (chain-home ds axes c (laid-out axes p e)));
+      }
 
--- an order that one call answers, asked for in another, means the same layout
-module _ {ds c xs ss : List ℕ} {r r′ : Answer} {ys ts zs us : List ℕ} (axes : length ds ≡ 4) (p : ChainPromise ds c xs ss r ys ts)
-    (q : RequestPromise ds (r .order) xs ss r′ zs us) (e : r .number ≡ 0) where
-  low : r .order < 24
-  low = rw (ap (λ (a : Answer). a .order) (p .given e)) (number-below-4 c)
+-- an order that one call answers, asked for in another, means the same layout, where its plan is one of at most six swaps
+module _ {r : ℕ} {ds c xs ss ss′ : List ℕ} {a a′ : Answer} {ys ts zs us : List ℕ} (axes : length ds ≡ r) (six : planPlaces r ≤ 6)
+    (p : ChainPromise r ds c xs ss a ys ts) (q : RequestPromise r ds (a .order) xs ss′ a′ zs us) (e : a .number ≡ 0) (room : need ds ≤ length ss′) where
+  low : a .order < orderCount r
+  low = rw (ap (λ (b : Answer). b .order) (p .given e)) (number-below r c)
 
-  asked-accepted : r′ .number ≡ 0
+  asked-accepted : a′ .number ≡ 0
   asked-accepted =
-      let few : Silent (planChecks 4 (r .order)) =
-      Silent.more (le-ltb 23 (r .order) (omega (arith, low)))
-      (Silent.more (le-ltb 6 (length (planOf (orderOf 4 (r .order)))) (length-plan-4 (r .order) low)) Silent.none) in
-      q .block .number-is ∙ accepted-so-far (planChecks 4 (r .order)) (silent-block (ran axes p e .block)) ∙ silent-zero few
+      let block : BlockAccepted ds xs ss′ = block-through (ran axes p e .block) room in
+      let few : Silent (planChecks r (a .order)) =
+      Silent.more (le-ltb (orderCount r - 1) (a .order) (omega (arith, low)))
+      (Silent.more (le-ltb 6 (length (planOf (orderOf r (a .order)))) (omega (arith, plan-places r (a .order) low))) Silent.none) in
+      q .block .number-is ∙ by-last ds xs ss′ (planChecks r (a .order)) (sym (block-zero block)) refl ∙ silent-zero few
 
-  pub one-meaning : (r′ .number ≡ 0) × Alike r r′ ys ts zs us
+  pub one-meaning : (a′ .number ≡ 0) × Alike a a′ ys zs
   one-meaning = (
     asked-accepted,
     record {
-      lengths = ap (λ (a : Answer). a .lens) (q .given asked-accepted)
+      lengths = ap (λ (b : Answer). b .lens) (q .given asked-accepted)
           ∙ ap (λ (o : List ℕ). pick o ds) (new-order axes p e)
-          ∙ sym (ap (λ (a : Answer). a .lens) (p .given e));
-      order = ap (λ (a : Answer). a .order) (q .given asked-accepted);
+          ∙ sym (ap (λ (b : Answer). b .lens) (p .given e));
+      order = ap (λ (b : Answer). b .order) (q .given asked-accepted);
       words = chain-once ds axes c
           (subst (λ (o : List ℕ). Laid ds o xs zs) (new-order axes p e) (q .block .words asked-accepted))
           (laid-out axes p e);
-      scratch = q .block .zeroed asked-accepted ∙ sym (wiped axes p e);
     },
   )
 
+-- what was promised through one scratch is promised through another, where the checks say the same of both
+other-scratch : {checks checks′ : List Check} {needed : ℕ} {Right : List ℕ → Type 0} {xs ss : List ℕ} (ss′ : List ℕ) {n : ℕ} {ys ts : List ℕ}
+    → firstOf checks ≡ firstOf checks′ → Rearranged checks needed Right xs ss n ys ts → (us : List ℕ) × Rearranged checks′ needed Right xs ss′ n ys us
+other-scratch {needed = needed} ss′ {n = n} same p =
+    ⊎-elim
+    (λ (e : n ≡ 0). (
+      cleared needed ss′,
+      record { number-is = p .number-is ∙ same; words = p .words; zeroed = λ _. refl; kept = λ k. absurd (k e) },
+    ))
+    (λ (k : n ≡ 0 → ⊥). (
+      ss′,
+      record { number-is = p .number-is ∙ same; words = p .words; zeroed = λ e. absurd (k e); kept = λ _. (p .kept k .0, refl) },
+    ))
+    (eq-or-ne n 0)
+
 -- a request of a number leaves exactly what the chain of its plan leaves, answer and both slices, refused or not
-module _ {ds xs ss : List ℕ} {k : ℕ} {plan : Planned} {r r′ : Answer} {ys ts zs us : List ℕ} (axes : length ds ≡ 4) (p : PlanPromise k plan)
-    (z : plan .number ≡ 0) (q : RequestPromise ds k xs ss r ys ts) (c : ChainPromise ds (take (plan .len) (plan .swaps)) xs ss r′ zs us) where
-  pub plan-leaves : (r ≡ r′) × (ys ≡ zs) × (ts ≡ us)
-  plan-leaves = one-request axes q (request-of-chain p z c)
+module _ {r : ℕ} {ds xs ss : List ℕ} {k : ℕ} {plan : Planned} {a a′ : Answer} {ys ts zs us : List ℕ} (axes : length ds ≡ r) (p : PlanPromise r k plan)
+    (z : plan .number ≡ 0) (q : RequestPromise r ds k xs ss a ys ts) where
+  pub plan-leaves : ChainPromise r ds (take (plan .len) (plan .swaps)) xs ss a′ zs us → (a ≡ a′) × (ys ≡ zs) × (ts ≡ us)
+  plan-leaves c = request-once axes q (request-of-chain p z c)
+
+  -- and answer and words also where each has its own scratch, both enough
+  pub plan-leaves-words : {ss′ : List ℕ} → ChainPromise r ds (take (plan .len) (plan .swaps)) xs ss′ a′ zs us → need ds ≤ length ss
+      → need ds ≤ length ss′ → (a ≡ a′) × (ys ≡ zs)
+  plan-leaves-words {ss′} c h h′ =
+      let d = request-of-chain p z c in
+      let same : firstOf (requestChecks r ds xs ss′ k) ≡ firstOf (requestChecks r ds xs ss k) =
+      rw (le-ltb (length ss) (need ds) h, le-ltb (length ss′) (need ds) h′) in
+      let (vs, block) = other-scratch ss same (d .block) in
+      let one = request-once axes q (record { block = block; given = d .given; refusal = d .refusal }) in
+      (one .0, one .1)

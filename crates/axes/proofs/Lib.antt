@@ -1,11 +1,16 @@
-pub mod Rows
-pub mod Front
-pub mod Ranges
-pub mod Swaps
+-- the checks of a block and of a chain as facts, and that an accepted block stays accepted after a chain
+pub mod Accepted
+-- a swap of two neighbouring axes, over any number of axes, is a swap in the middle of four
 pub mod Grouped
-pub mod Checks
+-- one swap of a chain, by the adjacent swap
 pub mod Steps
+-- a chain swap by swap, and what is promised once all swaps are made
 pub mod Progress
+-- what the loops of the plan carry
+pub mod PlanSteps
+-- what makes the promise of a refused call, and of a request from that of the chain of its plan
 pub mod Calls
-pub mod Outcomes
+-- any two outcomes that a promise allows coincide: chain-once, request-once, plan-once
+pub mod OneOutcome
+-- demand 3: chains-join, one-order, backwards, one-meaning, plan-leaves
 pub mod Demands

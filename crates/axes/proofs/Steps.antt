@@ -1,16 +1,16 @@
--- One swap of a chain. Of a sound block the two axes, the axes before them and the axes after them are a block that the adjacent swap
--- accepts, and what it makes of it is the swap of the whole shape; scratch past the longest axis stays as it is. Then one swap more.
-use mathlib.Core.Path.{_≡_, refl, sym, ap, ap₂, _∙_, subst, subst₂}
+-- One swap of a chain. Of a block that is accepted the two axes, the axes before them and the axes after them are a block that the adjacent swap
+-- accepts, and what it makes of it is the swap of the whole shape; scratch past what the block needs stays as it is. Then one swap more.
+use mathlib.Core.Path.{_≡_, refl, sym, ap, _∙_, subst₂}
 use mathlib.Core.Bool.{false, _||_}
 use mathlib.Core.List.{List, [], _∷_, _++_}
 use mathlib.Core.Logic.{⊎-elim}
-use Prim.Native.Nat.{ℕ, zero, suc, _+_, _*_, _-_, _<_, _≤_, zero-le, suc-le-suc}
-use native.Mathlib.Nat.{not-suc-le-zero, le-of-suc-le-suc, eq-zero-or-pos, zero-mul, mul-zero, mul-pos}
+use Prim.Native.Nat.{ℕ, zero, suc, _+_, _*_, _<_, _≤_, zero-le, suc-le-suc}
+use native.Mathlib.Nat.{not-suc-le-zero, le-of-suc-le-suc, eq-zero-or-pos, zero-mul, mul-zero, mul-one, mul-pos, mul-assoc, mul-comm}
 use native.Mathlib.Numerals.{add-one}
 use native.Mathlib.Omega.{arith}
 use lib.Dec.{eqb, ltb}
-use lib.ListN.{length, getD, take, drop, replicate, length-append, length-replicate, length-drop}
-use lib.Seq.{slice, take-all, take-suc, drop-drop, drop-append-add, length-take-le}
+use lib.ListN.{length, getD, take, drop}
+use lib.Seq.{take-suc, length-take-le}
 use borrow.Author.Tests.{ltb-false, le-ltb, ne-eqb}
 use Rattle.lists.specs.Tab.{upto}
 use Rattle.layout.specs.Layout.{volume, pick, Laid}
@@ -20,14 +20,18 @@ use Rattle.orders.specs.Chains.{exchange, follow, named}
 use Rattle.orders.proofs.Chains.{pick-named}
 use Rattle.flat.specs.Turn.{sides}
 use Rattle.refusals.specs.FirstOf.{firstOf}
-use Rattle.refusals.specs.Conditions.{outOfRange, badLength, tooManyWords, shortBuffer, shortScratch, longest}
-use Rattle.refusals.specs.Scratch.{need, cleared}
+use Rattle.refusals.specs.Conditions.{outOfRange, badLength, tooManyWords, shortBuffer, shortScratch}
+use Rattle.refusals.specs.Scratch.{need}
 use Rattle.refusals.proofs.FirstOf.{Silent, silent-zero}
+use Rattle.refusals.proofs.Some.{none-at}
+use Rattle.refusals.proofs.Conditions.{length-at}
+use Rattle.refusals.proofs.Scratch.{need-two, cleared-length, cleared-past}
 use Rattle.refusals.proofs.FirstOf.Silent.{none, more}
+use Rattle.checks.specs.Words.{capped}
+use Rattle.checks.proofs.Capped.{capped-few}
 use Rattle.passes.specs.Promises.{swapBlock, middle, swapChecks, SwapPromise}
-use Rattle.axes.proofs.Ranges.{none-at, in-range}
 use Rattle.axes.proofs.Grouped.{grouped-volume, regrouped, one-swap-more}
-use Rattle.axes.proofs.Checks.{Sound}
+use Rattle.axes.proofs.Accepted.{BlockAccepted, block-room}
 
 -- a list with places k and k + 1, in parts
 cut : (k : ℕ) (l : List ℕ) → suc k < length l → take k l ++ (getD l k 0 ∷ getD l (suc k) 0 ∷ drop (suc (suc k)) l) ≡ l
@@ -36,19 +40,11 @@ cut zero (a ∷ []) h = absurd (not-suc-le-zero (le-of-suc-le-suc h))
 cut zero (a ∷ b ∷ l) h = refl
 cut (suc k) (a ∷ l) h = ap (λ (t : List ℕ). a ∷ t) (cut k l (le-of-suc-le-suc h))
 
-in-parts : {r : ℕ} (k : ℕ) (l : List ℕ) → length l ≡ r → k + 1 < r
-    → slice 0 k l ++ (getD l k 0 ∷ getD l (k + 1) 0 ∷ slice (k + 2) r l) ≡ l
-in-parts {r} k l e h =
+in-parts : (k : ℕ) (l : List ℕ) → k + 1 < length l → take k l ++ (getD l k 0 ∷ getD l (k + 1) 0 ∷ drop (k + 2) l) ≡ l
+in-parts k l h =
     let next : k + 1 ≡ suc k = add-one k in
     let past : k + 2 ≡ suc (suc k) = omega arith in
-    let end : slice (k + 2) r l ≡ drop (suc (suc k)) l = ap (drop (k + 2)) (take-all r l (omega arith)) ∙ ap (λ (j : ℕ). drop j l) past in
-    ap₂ (λ (j : ℕ) (b : List ℕ). slice 0 k l ++ (getD l k 0 ∷ getD l j 0 ∷ b)) next end ∙ cut k l (omega arith)
-
-entry-longest : (l : List ℕ) (k : ℕ) → k < length l → getD l k 0 ≤ longest l
-unfolding longest
-entry-longest [] k h = absurd (not-suc-le-zero h)
-entry-longest (d ∷ l) zero h = omega arith
-entry-longest (d ∷ l) (suc k) h = omega (arith, entry-longest l k (le-of-suc-le-suc h))
+    rw (next, past) (cut k l (omega arith))
 
 volume-pos : (l : List ℕ) → ((k : ℕ) → k < length l → 0 < getD l k 0) → 0 < volume l
 unfolding volume
@@ -61,27 +57,17 @@ left-pos a b h = ⊎-elim (λ (e : a ≡ 0). let z : 0 < 0 * b = rw e at h in ab
 right-pos : (a b : ℕ) → 0 < a * b → 0 < b
 right-pos a b h = ⊎-elim (λ (e : b ≡ 0). let z : 0 < a * 0 = rw e at h in absurd (omega (arith, mul-zero a))) (λ (p : 0 < b). p) (eq-zero-or-pos b)
 
--- scratch that was cleared within the longest axis, past it
-module _ {w v : ℕ} (ss : List ℕ) (h : w ≤ v) (fits : v ≤ length ss) where
-  pub cleared-length : length (cleared w ss) ≡ length ss
-  cleared-length = length-append (replicate w 0) (drop w ss) ∙ omega (arith, length-replicate {A = ℕ} w 0, length-drop w ss)
+le-mul : (a b : ℕ) → 0 < b → a ≤ a * b
+le-mul a (suc b) h = omega arith
+le-mul a zero h = absurd (not-suc-le-zero h)
 
-  pub cleared-past : drop v (cleared w ss) ≡ drop v ss
-  cleared-past =
-      let back : w + (v - w) ≡ v = omega arith in
-      let e : v ≡ length (replicate {A = ℕ} w 0) + (v - w) = omega (arith, length-replicate {A = ℕ} w 0) in
-      ap (λ (j : ℕ). drop j (cleared w ss)) e
-      ∙ drop-append-add (replicate w 0) (drop w ss) (v - w)
-      ∙ drop-drop (v - w) w ss
-      ∙ ap (λ (j : ℕ). drop j ss) back
-
--- a sound block with neighbouring axes at places k and k + 1
-module _ {r : ℕ} (ds : List ℕ) (axes : length ds ≡ r) (k : ℕ) (h : k + 1 < r) {xs ss : List ℕ} (s : Sound ds xs ss) where
+-- a block that is accepted, with neighbouring axes at places k and k + 1
+module _ {r : ℕ} (ds : List ℕ) (axes : length ds ≡ r) (k : ℕ) (h : k + 1 < r) {xs ss : List ℕ} (s : BlockAccepted ds xs ss) where
   outer : ℕ
-  outer = volume (slice 0 k ds)
+  outer = volume (take k ds)
 
   chunk : ℕ
-  chunk = volume (slice (k + 2) r ds)
+  chunk = volume (drop (k + 2) ds)
 
   m : ℕ
   m = getD ds k 0
@@ -91,27 +77,44 @@ module _ {r : ℕ} (ds : List ℕ) (axes : length ds ≡ r) (k : ℕ) (h : k + 1
 
   swap-volume : volume (swapBlock outer m n chunk) ≡ volume ds
   unfolding outer chunk m n
-  swap-volume = grouped-volume (slice 0 k ds) m n (slice (k + 2) r ds) ∙ ap volume (in-parts k ds axes h)
+  swap-volume = grouped-volume (take k ds) m n (drop (k + 2) ds) ∙ ap volume (in-parts k ds (omega arith))
+
+  in-all : outer * (m * (n * (chunk * 1))) ≡ volume ds
+  unfolding volume
+  in-all = swap-volume
 
   some-word : 0 < outer * (m * (n * (chunk * 1)))
-  unfolding volume
-  some-word = rw (← swap-volume) at (volume-pos ds (λ j i. in-range ds (s .lengths) j i .0))
+  some-word = rw in-all (volume-pos ds (λ j i. length-at ds (s .lengths) j i .0))
+
+  past-outer : 0 < m * (n * (chunk * 1))
+  past-outer = right-pos outer (m * (n * (chunk * 1))) some-word
+
+  past-sides : 0 < chunk * 1
+  past-sides = right-pos n (chunk * 1) (right-pos m (n * (chunk * 1)) past-outer)
 
   outer-pos : 0 < outer
   outer-pos = left-pos outer (m * (n * (chunk * 1))) some-word
 
   chunk-pos : 0 < chunk
-  chunk-pos = left-pos chunk 1 (right-pos n (chunk * 1) (right-pos m (n * (chunk * 1)) (right-pos outer (m * (n * (chunk * 1))) some-word)))
+  chunk-pos = left-pos chunk 1 past-sides
 
-  swap-need : longest (sides m n) ≤ longest ds
+  -- neither part has more words than a block may have
+  few : volume ds ≤ 1048576
+  few = ltb-false 1048576 (volume ds) (s .words)
+
+  outer-few : capped outer ≡ outer
+  outer-few = capped-few outer (omega (arith, le-mul outer (m * (n * (chunk * 1))) past-outer, in-all, few))
+
+  chunk-few : capped chunk ≡ chunk
+  chunk-few =
+      let before : 0 < outer * (m * n) = mul-pos outer-pos (mul-pos (left-pos m (n * (chunk * 1)) past-outer) (left-pos n (chunk * 1) (right-pos m (n * (chunk * 1)) past-outer))) in
+      let regroup : outer * (m * (n * (chunk * 1))) ≡ chunk * (outer * (m * n)) =
+      rw (mul-one chunk, ← mul-assoc m n chunk, ← mul-assoc outer (m * n) chunk, mul-comm (outer * (m * n)) chunk) in
+      capped-few chunk (omega (arith, le-mul chunk (outer * (m * n)) before, in-all, few))
+
+  swap-need : need (sides m n) ≤ need ds
   unfolding m n
-  swap-need =
-      let p = entry-longest ds k (omega arith) in
-      let q = entry-longest ds (k + 1) (omega arith) in
-      unfold longest in omega arith
-
-  room : longest ds ≤ length ss
-  room = ltb-false (length ss) (longest ds) (s .scratch)
+  swap-need = need-two ds k (k + 1) (omega arith) (omega arith)
 
   -- the adjacent swap accepts it
   swap-accepted : firstOf (swapChecks outer m n chunk xs ss) ≡ 0
@@ -126,7 +129,7 @@ module _ {r : ℕ} (ds : List ℕ) (axes : length ds ≡ r) (k : ℕ) (h : k + 1
       ) in
       let words : tooManyWords (swapBlock outer m n chunk) ≡ false = ap (ltb 1048576) swap-volume ∙ s .words in
       let buffer : shortBuffer (swapBlock outer m n chunk) xs ≡ false = ap (ltb (length xs)) swap-volume ∙ s .buffer in
-      let scratch : shortScratch (need (sides m n)) ss ≡ false = le-ltb (length ss) (longest (sides m n)) (omega (arith, swap-need, room)) in
+      let scratch : shortScratch (need (sides m n)) ss ≡ false = le-ltb (length ss) (need (sides m n)) (omega (arith, swap-need, block-room s)) in
       let silent : Silent (swapChecks outer m n chunk xs ss) = more lengths (more words (more buffer (more scratch none))) in
       silent-zero silent
 
@@ -134,26 +137,28 @@ module _ {r : ℕ} (ds : List ℕ) (axes : length ds ≡ r) (k : ℕ) (h : k + 1
   swap-laid : {ys : List ℕ} → Laid (swapBlock outer m n chunk) middle xs ys → Laid ds (exchange k (upto r)) xs ys
   unfolding outer chunk m n
   swap-laid {ys} f =
-      let at-k : length (slice 0 k ds) ≡ k = length-take-le k ds (omega arith) in
-      let parts = in-parts k ds axes h in
-      subst₂ (λ (j i : ℕ). Laid ds (exchange j (upto i)) xs ys) at-k axes
-      (subst
-      (λ (l : List ℕ). Laid l (exchange (length (slice 0 k ds)) (upto (length l))) xs ys)
-      parts
-      (regrouped (slice 0 k ds) m n (slice (k + 2) r ds) f))
+      let whole : Laid ds (exchange k (upto (length ds))) xs ys =
+      subst₂
+      (λ (l : List ℕ) (j : ℕ). Laid l (exchange j (upto (length l))) xs ys)
+      (in-parts k ds (omega arith))
+      (length-take-le k ds (omega arith))
+      (regrouped (take k ds) m n (drop (k + 2) ds) f) in
+      rw axes at whole
 
-  -- what the adjacent swap leaves: the words of the swapped shape, and scratch past the longest axis as it was
-  pub swap-leaves : {before after number : ℕ} {ys ts : List ℕ} → before ≡ volume (slice 0 k ds) → after ≡ volume (slice (k + 2) r ds)
+  -- what the adjacent swap leaves, told the words before and after the two axes: the words of the swapped shape, and scratch past what
+  -- the block needs as it was
+  pub swap-leaves : {before after number : ℕ} {ys ts : List ℕ} → before ≡ capped (volume (take k ds)) → after ≡ capped (volume (drop (k + 2) ds))
       → SwapPromise before (getD ds k 0) (getD ds (k + 1) 0) after xs ss number ys ts
       → Laid ds (exchange k (upto r)) xs ys × ((length ts ≡ length ss) × (drop (need ds) ts ≡ drop (need ds) ss))
   unfolding outer chunk m n
   swap-leaves {number = number} {ys = ys} {ts = ts} e d p =
-      let q : SwapPromise outer m n chunk xs ss number ys ts = subst₂ (λ (a b : ℕ). SwapPromise a m n b xs ss number ys ts) e d p in
+      let q : SwapPromise outer m n chunk xs ss number ys ts =
+      subst₂ (λ (a b : ℕ). SwapPromise a m n b xs ss number ys ts) (e ∙ outer-few) (d ∙ chunk-few) p in
       let zero-is : number ≡ 0 = q .number-is ∙ swap-accepted in (
         swap-laid (q .words zero-is),
         (
-          ap length (q .zeroed zero-is) ∙ cleared-length ss swap-need room,
-          ap (drop (longest ds)) (q .zeroed zero-is) ∙ cleared-past ss swap-need room,
+          ap length (q .zeroed zero-is) ∙ cleared-length ss swap-need (block-room s),
+          ap (drop (need ds)) (q .zeroed zero-is) ∙ cleared-past ss swap-need (block-room s),
         ),
       )
 

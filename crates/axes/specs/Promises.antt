@@ -1,4 +1,4 @@
--- What the calls on four axes promise. Assumes nothing: these are definitions.
+-- What the calls on r axes promise. Assumes nothing: these are definitions.
 use mathlib.Core.Path.{_≡_}
 use mathlib.Core.List.{List}
 use Prim.Native.Nat.{ℕ}
@@ -16,19 +16,19 @@ use Rattle.axes.specs.declared.Planned.{Planned}
 use Rattle.axes.specs.Answers.{accepted, refused, refusedPlace, plannedAs, noPlan}
 
 -- a chain of swaps on a block with lengths ds: the words are laid out afresh under the order that the chain names
-pub record ChainPromise (ds chain buffer₀ scratch₀ : List ℕ) (r : Answer) (buffer scratch : List ℕ) : Type 0 where
-  pub block : Rearranged (chainChecks 4 ds buffer₀ scratch₀ chain) (need ds) (Laid ds (named 4 chain) buffer₀) buffer₀ scratch₀ (r .number) buffer scratch
-  pub given : r .number ≡ 0 → r ≡ accepted (pick (named 4 chain) ds) (numberOf 4 (named 4 chain)) (length chain)
-  pub refusal : (r .number ≡ 0 → ⊥) → r ≡ refused (r .number) (refusedPlace (r .number) chain)
+pub record ChainPromise (r : ℕ) (ds chain buffer₀ scratch₀ : List ℕ) (a : Answer) (buffer scratch : List ℕ) : Type 0 where
+  pub block : Rearranged (chainChecks r ds buffer₀ scratch₀ chain) (need ds) (Laid ds (named r chain) buffer₀) buffer₀ scratch₀ (a .number) buffer scratch
+  pub given : a .number ≡ 0 → a ≡ accepted (pick (named r chain) ds) (numberOf r (named r chain)) (length chain)
+  pub refusal : (a .number ≡ 0 → ⊥) → a ≡ refused r (a .number) (refusedPlace r (a .number) chain)
 
 -- the direct request for an order: the answer is a chain's, with the number asked for and the length of its plan
-pub record RequestPromise (ds : List ℕ) (order : ℕ) (buffer₀ scratch₀ : List ℕ) (r : Answer) (buffer scratch : List ℕ) : Type 0 where
-  pub block : Rearranged (requestChecks 4 ds buffer₀ scratch₀ order) (need ds) (Laid ds (orderOf 4 order) buffer₀) buffer₀ scratch₀ (r .number) buffer scratch
-  pub given : r .number ≡ 0 → r ≡ accepted (pick (orderOf 4 order) ds) order (length (planOf (orderOf 4 order)))
-  pub refusal : (r .number ≡ 0 → ⊥) → r ≡ refused (r .number) 0
+pub record RequestPromise (r : ℕ) (ds : List ℕ) (order : ℕ) (buffer₀ scratch₀ : List ℕ) (a : Answer) (buffer scratch : List ℕ) : Type 0 where
+  pub block : Rearranged (requestChecks r ds buffer₀ scratch₀ order) (need ds) (Laid ds (orderOf r order) buffer₀) buffer₀ scratch₀ (a .number) buffer scratch
+  pub given : a .number ≡ 0 → a ≡ accepted (pick (orderOf r order) ds) order (length (planOf (orderOf r order)))
+  pub refusal : (a .number ≡ 0 → ⊥) → a ≡ refused r (a .number) 0
 
 -- the plan for an order
-pub record PlanPromise (order : ℕ) (r : Planned) : Type 0 where
-  pub number-is : r .number ≡ firstOf (planChecks 4 order)
-  pub given : r .number ≡ 0 → r ≡ plannedAs (planOf (orderOf 4 order))
-  pub refusal : (r .number ≡ 0 → ⊥) → r ≡ noPlan (r .number)
+pub record PlanPromise (r order : ℕ) (p : Planned) : Type 0 where
+  pub number-is : p .number ≡ firstOf (planChecks r order)
+  pub given : p .number ≡ 0 → p ≡ plannedAs r (planOf (orderOf r order))
+  pub refusal : (p .number ≡ 0 → ⊥) → p ≡ noPlan r (p .number)

@@ -1,7 +1,6 @@
 // Swaps and chains of swaps on a block.
 use crate::Answer;
 use crate::Shape;
-use crate::block;
 use crate::tables;
 ghost use mathlib.Core.Path.{_≡_};
 ghost use Prim.Native.Nat.{_<_};
@@ -10,33 +9,20 @@ ghost use Rattle.lists.specs.Tab.{upto};
 ghost use Rattle.layout.specs.Layout.{Laid};
 ghost use Rattle.orders.specs.Chains.{exchange};
 ghost use Rattle.refusals.specs.FirstOf.{firstOf};
-ghost use Rattle.refusals.specs.Conditions.{noSwap, firstPlace};
 ghost use Rattle.refusals.specs.Calls.{passesChecks, chainChecks};
 ghost use Rattle.refusals.specs.Scratch.{need};
 ghost use Rattle.axes.specs.Promises.{ChainPromise};
 
-// The place of the first swap above 2; the chain's length where there is none.
-pub(crate) fn first_bad(swaps: &[usize]) -> usize
-    ensures { λ r. ⌜ r ≡ firstPlace (noSwap 4) (now (swaps .entry)) ⌝ }
-{
-    for i in 0..swaps.len() {
-        if swaps[i] > 2 {
-            return i;
-        }
-    }
-    swaps.len()
-}
-
 // The first of the checks 1 to 6.
-pub(crate) fn chain_number(buf: &[u32], scratch: &[u32], lens: [usize; 4], swaps: &[usize]) -> u32
-    ensures { λ r. ⌜ r ≡ firstOf (chainChecks 4 lens (now (buf .entry)) (now (scratch .entry)) (now (swaps .entry))) ⌝ }
+pub(crate) fn chain_number(lens: &[usize], buf: &[u32], scratch: &[u32], swaps: &[usize]) -> u32
+    ensures { λ r. ⌜ r ≡ firstOf (chainChecks 4 (now (lens .entry)) (now (buf .entry)) (now (scratch .entry)) (now (swaps .entry))) ⌝ }
 {
-    let number = block::block_number(buf, scratch, lens);
+    let number = checks::passes_number(lens, buf, scratch);
     if number != 0 {
         return number;
     }
     let count = swaps.len();
-    let bad = first_bad(swaps);
+    let bad = checks::first_above(swaps, 2);
     if count > 32 {
         return 5;
     }
@@ -54,8 +40,8 @@ fn swap_at(buf: &mut [u32], scratch: &mut [u32], shape: Shape, k: usize)
     ensures { λ _. ⌜ drop (need (shape .lens)) (now (scratch .exit)) ≡ drop (need (shape .lens)) (now (scratch .entry)) ⌝ }
 {
     let lens = shape.lens;
-    let outer = block::product(lens, 0, k);
-    let chunk = block::product(lens, k + 2, 4);
+    let outer = checks::words_of(&lens[..k]);
+    let chunk = checks::words_of(&lens[k + 2..]);
     let m = lens[k];
     let n = lens[k + 1];
     passes::swap(buf, scratch, outer, m, n, chunk);
@@ -64,7 +50,7 @@ fn swap_at(buf: &mut [u32], scratch: &mut [u32], shape: Shape, k: usize)
 // An accepted chain, swap by swap; then scratch is cleared.
 pub(crate) fn run(buf: &mut [u32], scratch: &mut [u32], shape: Shape, swaps: &[usize]) -> Answer
     requires { ⌜ firstOf (chainChecks 4 (shape .lens) (now buf) (now scratch) (now swaps)) ≡ 0 ⌝ }
-    ensures { λ r. ⌜ ChainPromise (shape .lens) (now (swaps .entry)) (now (buf .entry)) (now (scratch .entry)) r (now (buf .exit)) (now (scratch .exit)) ⌝ }
+    ensures { λ r. ⌜ ChainPromise 4 (shape .lens) (now (swaps .entry)) (now (buf .entry)) (now (scratch .entry)) r (now (buf .exit)) (now (scratch .exit)) ⌝ }
 {
     let lens = shape.lens;
     let mut stands = shape;
@@ -75,7 +61,7 @@ pub(crate) fn run(buf: &mut [u32], scratch: &mut [u32], shape: Shape, swaps: &[u
         stands = stands.swapped(k);
         order = tables::next_order(order, k);
     }
-    let need = block::longest_axis(lens);
+    let need = checks::longest_of(&lens);
     passes::clear(scratch, need);
     let last = stands.lens;
     Answer {

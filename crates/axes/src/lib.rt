@@ -4,7 +4,6 @@ ghost use Rattle.orders.specs.Chains.{exchange};
 ghost use Rattle.axes.specs.Answers.{refused};
 ghost use Rattle.axes.specs.Promises.{ChainPromise, RequestPromise, PlanPromise};
 
-mod block;
 mod chains;
 mod plans;
 mod tables;
@@ -49,7 +48,7 @@ pub struct Planned {
 
 // The shortest chain that names an order and, among the shortest, the first in dictionary order.
 pub fn plan(order: usize) -> Planned
-    ensures { λ r. ⌜ PlanPromise order r ⌝ }
+    ensures { λ r. ⌜ PlanPromise 4 order r ⌝ }
 {
     if order > 23 {
         return Planned {
@@ -77,7 +76,7 @@ pub fn plan(order: usize) -> Planned
 
 // The answer of a refused call.
 fn refusal(number: u32, place: usize) -> Answer
-    ensures { λ r. ⌜ r ≡ refused number place ⌝ }
+    ensures { λ r. ⌜ r ≡ refused 4 number place ⌝ }
 {
     Answer {
         number: number,
@@ -90,12 +89,12 @@ fn refusal(number: u32, place: usize) -> Answer
 
 // A chain of swaps on a block, through scratch as long as its longest axis: 0, or 1 to 6.
 pub fn chain(buf: &mut [u32], scratch: &mut [u32], shape: Shape, swaps: &[usize]) -> Answer
-    ensures { λ r. ⌜ ChainPromise (shape .lens) (now (swaps .entry)) (now (buf .entry)) (now (scratch .entry)) r (now (buf .exit)) (now (scratch .exit)) ⌝ }
+    ensures { λ r. ⌜ ChainPromise 4 (shape .lens) (now (swaps .entry)) (now (buf .entry)) (now (scratch .entry)) r (now (buf .exit)) (now (scratch .exit)) ⌝ }
 {
     let lens = shape.lens;
-    let number = chains::chain_number(buf, scratch, lens, swaps);
+    let number = chains::chain_number(&lens, buf, scratch, swaps);
     if number == 6 {
-        let place = chains::first_bad(swaps);
+        let place = checks::first_above(swaps, 2);
         return refusal(6, place);
     }
     if number != 0 {
@@ -106,10 +105,10 @@ pub fn chain(buf: &mut [u32], scratch: &mut [u32], shape: Shape, swaps: &[usize]
 
 // The direct request for an order by its number, which runs its plan: 0, or 1, 2, 3, 4, 7, 8.
 pub fn request(buf: &mut [u32], scratch: &mut [u32], shape: Shape, order: usize) -> Answer
-    ensures { λ r. ⌜ RequestPromise (shape .lens) order (now (buf .entry)) (now (scratch .entry)) r (now (buf .exit)) (now (scratch .exit)) ⌝ }
+    ensures { λ r. ⌜ RequestPromise 4 (shape .lens) order (now (buf .entry)) (now (scratch .entry)) r (now (buf .exit)) (now (scratch .exit)) ⌝ }
 {
     let lens = shape.lens;
-    let number = block::block_number(buf, scratch, lens);
+    let number = checks::passes_number(&lens, buf, scratch);
     if number != 0 {
         return refusal(number, 0);
     }

@@ -1,6 +1,6 @@
 -- A count of words cut to one more than a block may have: up to the limit nothing is lost, past it the cut count says so, and a product
 -- may be cut on the way. By comparing the count with the limit.
-use mathlib.Core.Path.{_≡_, refl, sym, ap, _∙_}
+use mathlib.Core.Path.{_≡_, sym, ap, _∙_}
 use mathlib.Core.Logic.{⊎-elim}
 use Prim.Native.Nat.{ℕ, zero, suc, _*_, _<_, _≤_}
 use native.Mathlib.Nat.{mul-zero}

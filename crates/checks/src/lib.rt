@@ -5,7 +5,7 @@ ghost use lib.Dec.{ltb};
 ghost use Rattle.layout.specs.Layout.{volume};
 ghost use Rattle.refusals.specs.FirstOf.{firstOf};
 ghost use Rattle.refusals.specs.Conditions.{outOfRange, badLength, longest, firstPlace};
-ghost use Rattle.refusals.specs.Calls.{sizeChecks, blockChecks};
+ghost use Rattle.refusals.specs.Calls.{sizeChecks, blockChecks, passesChecks};
 ghost use Rattle.checks.specs.Words.{capped};
 
 // Whether no axis may have this length: 0 or above 4,096.
@@ -117,6 +117,21 @@ pub fn block_number(lens: &[usize], buf: &[u32]) -> u32
     let words = words_of(lens);
     if buf.len() < words {
         return 3;
+    }
+    0
+}
+
+// The first of the checks 1 to 4 of a block in a buffer, turned through scratch, that holds, else 0.
+pub fn passes_number(lens: &[usize], buf: &[u32], scratch: &[u32]) -> u32
+    ensures { λ r. ⌜ r ≡ firstOf (passesChecks (now (lens .entry)) (now (buf .entry)) (now (scratch .entry))) ⌝ }
+{
+    let number = block_number(lens, buf);
+    if number != 0 {
+        return number;
+    }
+    let need = longest_of(lens);
+    if scratch.len() < need {
+        return 4;
     }
     0
 }

@@ -5,7 +5,9 @@ ghost use Rattle.axes.specs.Promises.{ChainPromise, RequestPromise, PlanPromise
 ghost use Rattle.sheet.specs.Reader.{ReadAs};
 ghost use Rattle.sheet.specs.Writer.{WrittenAs};
 ghost use Rattle.job.specs.Job.{Done};
-ghost use Rattle.exports.specs.Records.{answered, planned, sheetRead, sheetWritten};
+ghost use Rattle.home.specs.Promise.{RepeatsPromise};
+ghost use Rattle.cameras.specs.Promises.{RemovePromise, AddPromise};
+ghost use Rattle.exports.specs.Records.{answered, planned, sheetRead, sheetWritten, homeAfter};
 
 // The lengths of four axes, last axis fastest.
 #[repr(C)]
@@ -48,6 +50,13 @@ pub struct Written {
     pub count: usize,
 }
 
+// What the count of repeats answers.
+#[repr(C)]
+pub struct Home {
+    pub number: u32,
+    pub count: usize,
+}
+
 // The flat turn of m by n by passes.
 #[no_mangle]
 pub extern "C" fn zib_turn(buf: &mut [u32], scratch: &mut [u32], m: usize, n: usize) -> u32
@@ -80,7 +89,7 @@ pub extern "C" fn zib_chain(
     shape: Shape,
     swaps: &[usize],
 ) -> Answer
-    ensures { λ r. ⌜ ChainPromise (shape .lens) (now (swaps .entry)) (now (buf .entry)) (now (scratch .entry)) (answered r) (now (buf .exit)) (now (scratch .exit)) ⌝ }
+    ensures { λ r. ⌜ ChainPromise 4 (shape .lens) (now (swaps .entry)) (now (buf .entry)) (now (scratch .entry)) (answered r) (now (buf .exit)) (now (scratch .exit)) ⌝ }
 {
     let entry = shape.lens;
     let a = axes::chain(buf, scratch, axes::Shape { lens: entry }, swaps);
@@ -102,7 +111,7 @@ pub extern "C" fn zib_request(
     shape: Shape,
     order: usize,
 ) -> Answer
-    ensures { λ r. ⌜ RequestPromise (shape .lens) order (now (buf .entry)) (now (scratch .entry)) (answered r) (now (buf .exit)) (now (scratch .exit)) ⌝ }
+    ensures { λ r. ⌜ RequestPromise 4 (shape .lens) order (now (buf .entry)) (now (scratch .entry)) (answered r) (now (buf .exit)) (now (scratch .exit)) ⌝ }
 {
     let entry = shape.lens;
     let a = axes::request(buf, scratch, axes::Shape { lens: entry }, order);
@@ -119,7 +128,7 @@ pub extern "C" fn zib_request(
 // The plan for an order.
 #[no_mangle]
 pub extern "C" fn zib_plan(order: usize) -> Planned
-    ensures { λ r. ⌜ PlanPromise order (planned r) ⌝ }
+    ensures { λ r. ⌜ PlanPromise 4 order (planned r) ⌝ }
 {
     let p = axes::plan(order);
     let swaps = p.swaps;
@@ -176,4 +185,43 @@ pub extern "C" fn zib_job(
     ensures { λ r. ⌜ Done (now (bytes .entry)) (now (words .entry)) (now (scratch .entry)) (now (out .entry)) r (now (words .exit)) (now (scratch .exit)) (now (out .exit)) ⌝ }
 {
     job::job(bytes, words, scratch, out)
+}
+
+// How often the turn of m by n is repeated until every block of that shape is home.
+#[no_mangle]
+pub extern "C" fn zib_repeats(m: usize, n: usize) -> Home
+    ensures { λ r. ⌜ RepeatsPromise m n (homeAfter r) ⌝ }
+{
+    let h = home::repeats(m, n);
+    Home {
+        number: h.number,
+        count: h.count,
+    }
+}
+
+// Removes a camera's column from a block of frames by cameras words.
+#[no_mangle]
+pub extern "C" fn zib_remove_camera(
+    buf: &mut [u32],
+    frames: usize,
+    cameras: usize,
+    column: usize,
+) -> u32
+    ensures { λ r. ⌜ RemovePromise frames cameras column (now (buf .entry)) r (now (buf .exit)) ⌝ }
+{
+    cameras::remove(buf, frames, cameras, column)
+}
+
+// Adds a camera's column to a block of frames by cameras words.
+#[no_mangle]
+pub extern "C" fn zib_add_camera(
+    buf: &mut [u32],
+    frames: usize,
+    cameras: usize,
+    column: usize,
+    words: &[u32],
+) -> u32
+    ensures { λ r. ⌜ AddPromise frames cameras column (now (words .entry)) (now (buf .entry)) r (now (buf .exit)) ⌝ }
+{
+    cameras::add(buf, frames, cameras, column, words)
 }

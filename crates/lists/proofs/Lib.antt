@@ -2,7 +2,7 @@
 pub mod Tab
 -- one computed test over a table, turned into the rule at each entry
 pub mod Test
--- two numbers compare one way or the other
+-- a test is decided, and two numbers compare, one way or the other
 pub mod Decide
 -- two facts of one result joined
 pub mod Via

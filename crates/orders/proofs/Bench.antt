@@ -1,16 +1,10 @@
--- What document 01 says of single orders of four axes: the swaps, orders that chains name, numbers, plans. Computed, each table as one statement.
+-- What document 01 says of single orders of four axes: numbers, plans, orders that chains name. Computed, each table as one statement.
 use mathlib.Core.Path.{_≡_, refl}
 use mathlib.Core.List.{[], _∷_, map}
 use Rattle.layout.specs.Layout.{placeOf}
 use Rattle.orders.specs.Chains.{exchange, follow, named}
 use Rattle.orders.specs.Numbers.{arrangements, orders, orderOf, rank, numberOf}
 use Rattle.orders.specs.Plans.{under, falling, relabelled, firstBack, planned, planOf}
-
--- the swaps 0, 1 and 2 of 0123
-pub swaps-4 : map (λ k. exchange k (0 ∷ 1 ∷ 2 ∷ 3 ∷ [])) (0 ∷ 1 ∷ 2 ∷ [])
-    ≡ (1 ∷ 0 ∷ 2 ∷ 3 ∷ []) ∷ (0 ∷ 2 ∷ 1 ∷ 3 ∷ []) ∷ (0 ∷ 1 ∷ 3 ∷ 2 ∷ []) ∷ []
-unfolding exchange
-swaps-4 = refl
 
 -- orders 0, 1, 2, 6, 9, 16, 18 and 23
 pub numbers-4 : map (orderOf 4) (0 ∷ 1 ∷ 2 ∷ 6 ∷ 9 ∷ 16 ∷ 18 ∷ 23 ∷ [])

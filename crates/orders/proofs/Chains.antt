@@ -59,10 +59,6 @@ follow-end l c k = follow-append l c (k ∷ [])
 pub follow-more : (l c : List ℕ) (i : ℕ) → i < length c → follow l (take (i + 1) c) ≡ exchange (getD c i 0) (follow l (take i c))
 follow-more l c i h = rw (add-one, take-suc c i 0 h) (follow-end l (take i c) (getD c i 0))
 
-pub named-end : (r : ℕ) (c : List ℕ) (k : ℕ) → named r (c ++ (k ∷ [])) ≡ exchange k (named r c)
-unfolding named
-named-end r c k = follow-end (upto r) c k
-
 pub named-more : (r : ℕ) (c : List ℕ) (i : ℕ) → i < length c → named r (take (i + 1) c) ≡ exchange (getD c i 0) (named r (take i c))
 unfolding named
 named-more r c i h = follow-more (upto r) c i h

@@ -2,7 +2,7 @@
 -- chain names each label below r stands once, and of two labels exactly one stands before the other.
 use mathlib.Core.Bool.{cond}
 use mathlib.Core.Path.{_≡_, refl, sym, ap, _∙_}
-use mathlib.Core.List.{List, [], _∷_, map}
+use mathlib.Core.List.{List, [], _∷_, _++_, map}
 use Prim.Native.Nat.{ℕ, zero, suc, _+_, _*_, _<_, _≤_}
 use native.Mathlib.Nat.{not-suc-le-zero, le-of-suc-le-suc, mul-comm, mul-add, add-mul, mul-zero, zero-mul}
 use mathlib.Core.Logic.{⊎-elim}
@@ -76,6 +76,25 @@ count-upto (suc a) (suc n) h =
     ap (count (suc a)) (upto-more n)
     ∙ omega (arith, equal-none 0 (suc a) (λ e. omega arith), count-map-suc a (upto n), count-upto a n (le-of-suc-le-suc h))
 
+-- no number stands twice among those below n
+pub count-upto-few : (a n : ℕ) → count a (upto n) ≤ 1
+unfolding count
+count-upto-few a zero = omega arith
+count-upto-few zero (suc n) = omega (arith, ap (count 0) (upto-more n), equal-one 0 0 refl, count-zero-suc (upto n))
+count-upto-few (suc a) (suc n) =
+    omega (
+      arith,
+      ap (count (suc a)) (upto-more n),
+      equal-none 0 (suc a) (λ e. omega arith),
+      count-map-suc a (upto n),
+      count-upto-few a n,
+    )
+
+pub count-append : (a : ℕ) (l m : List ℕ) → count a (l ++ m) ≡ count a l + count a m
+unfolding count
+count-append a [] m = omega arith
+count-append a (x ∷ l) m = omega (arith, count-append a l m)
+
 -- each label below r stands once in an order that a chain names
 pub count-named : (r a : ℕ) (c : List ℕ) → a < r → count a (named r c) ≡ 1
 unfolding named
@@ -98,11 +117,11 @@ pairs-both a b [] p = refl
 pairs-both a b (x ∷ l) p =
     products (equal x a) (equal x b) (count a l) (count b l) (pairs a b l) (pairs b a l) (equal-apart x a b p) (pairs-both a b l p)
 
-place-here : (a x : ℕ) (l : List ℕ) → x ≡ a → placeOf a (x ∷ l) ≡ 0
+pub place-here : (a x : ℕ) (l : List ℕ) → x ≡ a → placeOf a (x ∷ l) ≡ 0
 unfolding placeOf
 place-here a x l e = rw (eq-eqb a x (sym e))
 
-place-past : (a x : ℕ) (l : List ℕ) → (x ≡ a → ⊥) → placeOf a (x ∷ l) ≡ suc (placeOf a l)
+pub place-past : (a x : ℕ) (l : List ℕ) → (x ≡ a → ⊥) → placeOf a (x ∷ l) ≡ suc (placeOf a l)
 unfolding placeOf
 place-past a x l p = rw (ne-eqb a x (λ e. p (sym e)))
 

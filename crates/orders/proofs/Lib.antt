@@ -1,12 +1,24 @@
+-- what document 01 says of single orders and plans of four axes, computed
 pub mod Bench
+-- what one swap keeps, and what its code stores
 pub mod Swaps
+-- what following a chain keeps; chains joined, and a chain run backwards
 pub mod Chains
+-- the laws of layouts at the orders that chains name
 pub mod Layouts
-pub mod Listed
-pub mod Numbers
-pub mod Relabels
+-- how often a label stands in a list, and how often before another
 pub mod Counts
+-- the list of orders holds what chains name, and nothing else
+pub mod Listed
+-- how many orders there are, which is the first, and that no two are the same
+pub mod Distinct
+-- orders by number, either way
+pub mod Numbers
+-- two neighbouring labels exchanged, and a swap at the front of a chain
+pub mod Relabels
+-- what exchanging two labels does to the count of falling pairs
 pub mod Falling
+-- an order in which every label stands before its follower is 0, 1, ..
 pub mod Rising
+-- the computed plan is the plan, and how long it is
 pub mod Plans
-pub mod FourAxes

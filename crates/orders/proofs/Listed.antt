@@ -16,7 +16,7 @@ use Rattle.orders.specs.Numbers.{arrangements, orders}
 use Rattle.orders.proofs.Chains.{follow-append, follow-end, length-named}
 
 -- an axis taken from a list of axes, and the rest
-data Taken (a : ℕ) : List ℕ → List ℕ → Type 0 where
+pub data Taken (a : ℕ) : List ℕ → List ℕ → Type 0 where
   here : {b : ℕ} {l : List ℕ} → a ≡ b → Taken a (b ∷ l) l
   past : {b : ℕ} {l m : List ℕ} → Taken a l m → Taken a (b ∷ l) (b ∷ m)
 
@@ -75,11 +75,11 @@ named-listed r c =
     (listed (arranged-follow c (itself (upto r))))
 
 -- what is listed begins with an axis that is taken, and goes on with what is listed of the rest
-Begun : ℕ → List ℕ → List ℕ → List ℕ → Type 0
+unfoldable pub Begun : ℕ → List ℕ → List ℕ → List ℕ → Type 0
 Begun n passed axes o =
     (a : ℕ) × (p : List ℕ) × (rest : List ℕ) × Taken a axes rest × List·Memᴰ p (arrangements n [] (passed ++ rest)) × (a ∷ p ≡ o)
 
-begun : (n : ℕ) (passed axes : List ℕ) {o : List ℕ} → List·Memᴰ o (arrangements (suc n) passed axes) → Begun n passed axes o
+pub begun : (n : ℕ) (passed axes : List ℕ) {o : List ℕ} → List·Memᴰ o (arrangements (suc n) passed axes) → Begun n passed axes o
 unfolding arrangements Begun
 begun n passed [] m = absurd (List·Memᴰ·not-nil m)
 begun n passed (b ∷ axes) {o} m =

@@ -1,8 +1,8 @@
 -- Orders by number, over any number of axes. Every order that a chain names is in the list of orders, where a search finds it,
--- and a chain names every order in the list.
+-- a chain names every order in the list, and no two numbers are one order.
 use mathlib.Core.Path.{_≡_, refl, sym, ap, subst, _∙_}
 use mathlib.Core.Bool.{Bool, true, false}
-use mathlib.Core.List.{List, [], _∷_, _++_, List·Memᴰ, List·Memᴰ·not-nil, List·Memᴰ·cases-cons}
+use mathlib.Core.List.{List, [], _∷_, List·Memᴰ, List·Memᴰ·not-nil, List·Memᴰ·cases-cons}
 use mathlib.Core.List.List·Memᴰ.{List·Memᴰ·head, List·Memᴰ·tail}
 use mathlib.Core.Logic.{⊎-elim}
 use Prim.Native.Nat.{ℕ, zero, suc, _<_, zero-le, suc-le-suc}
@@ -11,10 +11,10 @@ use lib.Dec.{T}
 use lib.ListN.{length, getD}
 use Rattle.lists.specs.Same.{same}
 use Rattle.lists.proofs.Test.{same→eq, eq→same}
-use Rattle.orders.specs.Chains.{exchange, named}
-use Rattle.orders.specs.Numbers.{orders, orderOf, rank, numberOf}
+use Rattle.orders.specs.Chains.{named}
+use Rattle.orders.specs.Numbers.{orders, orderCount, orderOf, rank, numberOf}
 use Rattle.orders.proofs.Listed.{named-listed, listed-named}
-use Rattle.orders.proofs.Chains.{named-end}
+use Rattle.orders.proofs.Distinct.{Distinct, orders-distinct, count-orders}
 
 -- a search finds an order that is there
 Ranked : List ℕ → List (List ℕ) → Type 0
@@ -38,9 +38,9 @@ named-ranked : (r : ℕ) (c : List ℕ) → Ranked (named r c) (orders r)
 named-ranked r c = ranked (named r c) (orders r) (named-listed r c)
 
 -- the order that a chain names has a number
-pub number-below : (r : ℕ) (c : List ℕ) → numberOf r (named r c) < length (orders r)
+pub number-below : (r : ℕ) (c : List ℕ) → numberOf r (named r c) < orderCount r
 unfolding numberOf Ranked
-number-below r c = named-ranked r c .0
+number-below r c = rw (count-orders r) at (named-ranked r c .0)
 
 -- and it is the order with that number
 pub order-number : (r : ℕ) (c : List ℕ) → orderOf r (numberOf r (named r c)) ≡ named r c
@@ -52,15 +52,41 @@ at-place [] k h = absurd (not-suc-le-zero h)
 at-place (p ∷ ps) zero h = List·Memᴰ·head refl
 at-place (p ∷ ps) (suc k) h = List·Memᴰ·tail (at-place ps k (le-of-suc-le-suc h))
 
--- a chain names the order with number k
-pub order-named : (r k : ℕ) → k < length (orders r) → (c : List ℕ) × (named r c ≡ orderOf r k)
-unfolding orderOf
-order-named r k h = listed-named r (at-place (orders r) k h)
+-- in a list without the same order twice a search finds each at its own place
+rank-place : {ps : List (List ℕ)} → Distinct ps → (k : ℕ) → k < length ps → rank (getD ps k []) ps ≡ k
+unfolding rank
+rank-place Distinct.none k h = absurd (not-suc-le-zero h)
+rank-place (Distinct.more {p = p} n s) zero h = rw (found (same p p) refl)
+  where
+    found : (t : Bool) → same p p ≡ t → same p p ≡ true
+    found true q = q
+    found false q = absurd (subst T q (eq→same p p refl))
+rank-place (Distinct.more {p = p} {ps = ps} n s) (suc k) h = rw (missed (same o p) refl, rank-place s k there)
+  where
+    o : List ℕ
+    o = getD ps k []
 
--- one swap of the order with number k has a number too
-pub next-order : (r k s : ℕ) → k < length (orders r)
-    → (numberOf r (exchange s (orderOf r k)) < length (orders r)) × (orderOf r (numberOf r (exchange s (orderOf r k))) ≡ exchange s (orderOf r k))
-next-order r k s h =
-    let (c, e) = order-named r k h in
-    let f : named r (c ++ (s ∷ [])) ≡ exchange s (orderOf r k) = named-end r c s ∙ ap (exchange s) e in
-    rw (← f) (number-below r (c ++ (s ∷ [])), order-number r (c ++ (s ∷ [])))
+    there : k < length ps
+    there = le-of-suc-le-suc h
+
+    missed : (t : Bool) → same o p ≡ t → same o p ≡ false
+    missed false q = q
+    missed true q = absurd (n (subst (λ (l : List ℕ). List·Memᴰ l ps) (same→eq o p (subst T (sym q) tt)) (at-place ps k there)))
+
+module _ (r k : ℕ) (h : k < orderCount r) where
+  listed : k < length (orders r)
+  listed = rw (count-orders r) h
+
+  -- a chain names the order with number k
+  pub order-named : (c : List ℕ) × (named r c ≡ orderOf r k)
+  unfolding orderOf
+  order-named = listed-named r (at-place (orders r) k listed)
+
+  -- the number of the order with number k is k
+  pub number-order : numberOf r (orderOf r k) ≡ k
+  unfolding numberOf orderOf
+  number-order = rank-place (orders-distinct r) k listed
+
+-- different numbers are different orders
+pub one-number : (r j k : ℕ) → j < orderCount r → k < orderCount r → orderOf r j ≡ orderOf r k → j ≡ k
+one-number r j k h i e = sym (number-order r j h) ∙ ap (numberOf r) e ∙ number-order r k i

@@ -1,12 +1,14 @@
 -- The computed plan of an order that a chain names is its plan. Its first swap takes one falling pair away, so that the plan is
 -- as long as there are falling pairs and no chain is shorter; a shortest chain begins with a label whose follower stands before it,
 -- and the plan begins with the least such label. By induction on the count of falling pairs.
-use mathlib.Core.Path.{_≡_, refl, sym, ap, _∙_, subst}
+use mathlib.Core.Path.{_≡_, refl, sym, ap, _∙_, subst, subst₂}
 use mathlib.Core.List.{List, [], _∷_, map}
+use mathlib.Core.Bool.{Bool, true, false, cond}
 use mathlib.Core.Logic.{_⊎_, inl, inr, ⊎-elim}
 use Prim.Native.Nat.{ℕ, zero, suc, _+_, _-_, _<_, _≤_, zero-le}
 use native.Mathlib.Nat.{not-suc-le-zero, le-of-suc-le-suc, le-antisymm}
 use native.Mathlib.Omega.{arith}
+use lib.Dec.{ltb}
 use lib.ListN.{length}
 use borrow.Author.Tests.{lt-ltb, le-ltb}
 use Rattle.lists.proofs.Decide.{lt-or-ge}
@@ -14,8 +16,8 @@ use Rattle.layout.specs.Layout.{placeOf}
 use Rattle.layout.proofs.Picks.{Below}
 use Rattle.layout.proofs.Picks.Below.{empty, next}
 use Rattle.orders.specs.Chains.{follow, named}
-use Rattle.orders.specs.Numbers.{orders, orderOf}
-use Rattle.orders.specs.Plans.{falling, Sooner, Plan, relabelled, firstBack, planned, planOf}
+use Rattle.orders.specs.Numbers.{orderCount, orderOf}
+use Rattle.orders.specs.Plans.{under, falling, Sooner, Plan, relabelled, firstBack, planned, planOf, planPlaces}
 use Rattle.orders.specs.Plans.Sooner.{ends, less, then}
 use Rattle.orders.proofs.Chains.{length-named}
 use Rattle.orders.proofs.Numbers.{order-named}
@@ -27,11 +29,11 @@ use Rattle.orders.proofs.Rising.{rising}
 abbrev Back : ℕ → List ℕ → Type 0
 Back k o = placeOf (suc k) o < placeOf k o
 
-back-here : (n k : ℕ) (o : List ℕ) → Back k o → firstBack (suc n) k o ≡ k
+pub back-here : (n k : ℕ) (o : List ℕ) → Back k o → firstBack (suc n) k o ≡ k
 unfolding firstBack
 back-here n k o b = rw (lt-ltb (placeOf (suc k) o) (placeOf k o) b)
 
-back-past : (n k : ℕ) (o : List ℕ) → placeOf k o ≤ placeOf (suc k) o → firstBack (suc n) k o ≡ firstBack n (suc k) o
+pub back-past : (n k : ℕ) (o : List ℕ) → placeOf k o ≤ placeOf (suc k) o → firstBack (suc n) k o ≡ firstBack n (suc k) o
 unfolding firstBack
 back-past n k o b = rw (le-ltb (placeOf (suc k) o) (placeOf k o) b)
 
@@ -161,7 +163,7 @@ module _ (r : ℕ) where
       (planned-sooner n (k ∷ c) d (left n c h s) (b .2 ∙ ap (λ (m : ℕ). named r (m ∷ c)) (sym q)) (omega arith)))))
       (lt-or-ge k j)
 
-length-planned : (n : ℕ) (o : List ℕ) → length (planned n o) ≡ n
+pub length-planned : (n : ℕ) (o : List ℕ) → length (planned n o) ≡ n
 unfolding planned
 length-planned zero o = refl
 length-planned (suc n) o = ap suc (length-planned n (map (relabelled (start o)) o))
@@ -208,9 +210,41 @@ pub plan-below : (m : ℕ) (c : List ℕ) → Below m (planOf (named (suc m) c))
 unfolding planOf
 plan-below m c = planned-below m (falling (named (suc m) c)) c refl
 
--- the computed plan of the order with number k is its plan
-pub plan-of-number : (r k : ℕ) → k < length (orders r) → Plan r (orderOf r k) (planOf (orderOf r k))
-plan-of-number r k h = let (c, e) = order-named r k h in subst (λ (o : List ℕ). Plan r o (planOf o)) e (plan-is r c)
+-- no order has more falling pairs than pairs of places
+pub under-few : (a : ℕ) (l : List ℕ) → under a l ≤ length l
+unfolding under
+under-few a [] = zero-le
+under-few a (x ∷ l) = go (ltb x a) (under-few a l)
+  where
+    go : (t : Bool) → under a l ≤ length l → cond t 1 0 + under a l ≤ suc (length l)
+    go true h = omega arith
+    go false h = omega arith
 
-pub plan-of-number-below : (m k : ℕ) → k < length (orders (suc m)) → Below m (planOf (orderOf (suc m) k))
-plan-of-number-below m k h = let (c, e) = order-named (suc m) k h in subst (λ (o : List ℕ). Below m (planOf o)) e (plan-below m c)
+falling-few : (o : List ℕ) → falling o ≤ planPlaces (length o)
+unfolding falling
+falling-few [] = zero-le
+falling-few (a ∷ l) = omega (arith, under-few a l, falling-few l)
+
+-- the order with number k: its computed plan is its plan, of swaps of the axes, and no longer than there are pairs of places
+module _ (r k : ℕ) (h : k < orderCount r) where
+  pub plan-of-number : Plan r (orderOf r k) (planOf (orderOf r k))
+  plan-of-number = let (c, e) = order-named r k h in subst (λ (o : List ℕ). Plan r o (planOf o)) e (plan-is r c)
+
+  pub falling-places : falling (orderOf r k) ≤ planPlaces r
+  falling-places =
+      let (c, e) = order-named r k h in
+      let long : length (orderOf r k) ≡ r = ap length (sym e) ∙ length-named r c in
+      rw long at (falling-few (orderOf r k))
+
+  pub plan-places : length (planOf (orderOf r k)) ≤ planPlaces r
+  plan-places = rw (length-plan (orderOf r k)) falling-places
+
+none-below : {n : ℕ} (l : List ℕ) → length l ≤ 0 → Below n l
+none-below [] h = empty
+none-below (a ∷ l) h = absurd (not-suc-le-zero h)
+
+pub plan-of-number-below : (r k : ℕ) → k < orderCount r → Below (r - 1) (planOf (orderOf r k))
+plan-of-number-below zero k h = none-below (planOf (orderOf 0 k)) (plan-places 0 k h)
+plan-of-number-below (suc m) k h =
+    let (c, e) = order-named (suc m) k h in
+    subst₂ (λ (n : ℕ) (o : List ℕ). Below n (planOf o)) (omega arith) e (plan-below m c)

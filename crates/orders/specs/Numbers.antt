@@ -1,7 +1,7 @@
 -- Orders by number. Assumes nothing: these are definitions.
 use mathlib.Core.Bool.{cond}
 use mathlib.Core.List.{List, [], _∷_, _++_, map}
-use Prim.Native.Nat.{ℕ, zero, suc}
+use Prim.Native.Nat.{ℕ, zero, suc, _*_}
 use lib.ListN.{getD}
 use Rattle.lists.specs.Tab.{upto}
 use Rattle.lists.specs.Same.{same}
@@ -17,6 +17,11 @@ arrangements (suc n) passed (a ∷ axes) =
 -- all orders of r axes in dictionary order
 unfoldable pub orders : ℕ → List (List ℕ)
 orders r = arrangements r [] (upto r)
+
+-- how many orders r axes have
+abbrev pub orderCount : ℕ → ℕ
+orderCount zero = 1
+orderCount (suc r) = suc r * orderCount r
 
 -- the order of r axes with number k
 unfoldable pub orderOf : ℕ → ℕ → List ℕ

@@ -48,3 +48,8 @@ planned (suc n) o = let k = firstBack (length o) 0 o in k ∷ planned n (map (re
 -- the plan of an order, computed
 unfoldable pub planOf : List ℕ → List ℕ
 planOf o = planned (falling o) o
+
+-- the most swaps that the plan of an order of r axes has, as many as there are pairs of places: for four axes six
+abbrev pub planPlaces : ℕ → ℕ
+planPlaces zero = 0
+planPlaces (suc r) = r + planPlaces r

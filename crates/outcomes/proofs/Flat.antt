@@ -4,8 +4,8 @@ use Prim.Native.Nat.{ℕ}
 use contract.Lifetimes.{Lfts}
 use denote.Triple.Clauses.{AtExit}
 use borrow.Fn.Kinds.{endedOf, Dens}
-use Rattle.passes.proofs.Once as passes
-use Rattle.halves.proofs.Once as halves
+use Rattle.passes.proofs.OneOutcome as passes
+use Rattle.halves.proofs.OneOutcome as halves
 use Rattle.passes.proofs.turn.Kinds as turn-kinds
 use Rattle.passes.proofs.turn.Reads as turn
 use Rattle.passes.proofs.turn_back.Kinds as turn-back-kinds
@@ -35,4 +35,4 @@ clear-once κs a r r′ s s′ p q = passes.clear-once p q
 
 pub halves-turn-once : (κs : Lfts 1) (a : Dens κs halves-kinds.ps) (r r′ : ℕ) (s s′ : AtExit (endedOf 1 halves-kinds.ps halves-kinds.r) κs)
     → halves-turn.Post κs a r s → halves-turn.Post κs a r′ s′ → (r ≡ r′) × (s .0 .now ≡ s′ .0 .now)
-halves-turn-once κs a r r′ s s′ p q = halves.one-outcome p q
+halves-turn-once κs a r r′ s s′ p q = halves.turn-once p q

@@ -6,9 +6,8 @@ use denote.Triple.Clauses.{AtExit}
 use borrow.Fn.Kinds.{endedOf, Dens}
 use Rattle.sheet.specs.declared.Sheet.{Sheet}
 use Rattle.sheet.specs.declared.Written.{Written}
-use Rattle.sheet.proofs.Promises as sheets
-use Rattle.sheet.proofs.Refusals as refusals
-use Rattle.job.proofs.Outcomes as jobs
+use Rattle.sheet.proofs.OneOutcome as sheets
+use Rattle.job.proofs.OneOutcome as jobs
 use Rattle.sheet.proofs.read.Kinds as read-kinds
 use Rattle.sheet.proofs.read.Reads as read
 use Rattle.sheet.proofs.write.Kinds as write-kinds
@@ -29,7 +28,7 @@ write-once κs a r r′ s s′ p q = sheets.write-once p q
 pub write-refusal-once : (κs : Lfts 1) (a : Dens κs write-refusal-kinds.ps) (r r′ : Written)
     (s s′ : AtExit (endedOf 1 write-refusal-kinds.ps write-refusal-kinds.r) κs)
     → write-refusal.Post κs a r s → write-refusal.Post κs a r′ s′ → (r ≡ r′) × (s .1 .1 .0 .now ≡ s′ .1 .1 .0 .now)
-write-refusal-once κs a r r′ s s′ p q = refusals.refusal-once p q
+write-refusal-once κs a r r′ s s′ p q = sheets.write-refusal-once p q
 
 pub job-once : (κs : Lfts 4) (a : Dens κs job-kinds.ps) (r r′ : ℕ) (s s′ : AtExit (endedOf 4 job-kinds.ps job-kinds.r) κs)
     → job.Post κs a r s → job.Post κs a r′ s′

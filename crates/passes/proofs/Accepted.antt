@@ -1,45 +1,25 @@
 -- What the calls' checks tell where none holds, and what the block's turn and the cleared scratch are then.
 use mathlib.Core.Path.{_≡_, sym, ap, _∙_}
 use mathlib.Core.List.{List, [], _∷_, _++_}
-use mathlib.Core.Logic.{⊎-elim}
 use Prim.Native.Nat.{ℕ, _+_, _*_, _-_, _/_, _%_, _<_, _≤_}
 use native.Mathlib.Omega.{arith}
 use native.Mathlib.Nat.{le-trans}
 use lib.ListN.{length, getD, drop, replicate, length-drop}
-use borrow.Author.Tests.{lt-ltb, le-ltb}
 use lib.Seq.{ext-getD, getD-drop}
 use lib.Arith.{digits-div, digits-mod, digits-lt}
-use Rattle.lists.proofs.Decide.{eq-or-ne}
-use Rattle.refusals.specs.FirstOf.{Check, check, firstOf}
+use Rattle.refusals.specs.FirstOf.{check, firstOf}
 use Rattle.refusals.specs.Conditions.{shortScratch}
-use Rattle.refusals.specs.Calls.{blockChecks, passesChecks}
+use Rattle.refusals.specs.Calls.{passesChecks}
 use Rattle.refusals.specs.Scratch.{need, cleared}
-use Rattle.refusals.proofs.FirstOf.{refused-first, accepted-so-far}
-use Rattle.refusals.proofs.Calls.{recursion-accepted}
+use Rattle.refusals.proofs.Promise.{accepted}
 use Rattle.refusals.proofs.Conditions.{Valid, InRange, valid, enough-scratch}
 use Rattle.refusals.proofs.Conditions.InRange.{none, more}
 use Rattle.flat.specs.Turn.{sides, Turn}
-use Rattle.flat.proofs.Turn.{volume-two, from-literal}
-use Rattle.passes.specs.ThroughScratch.{Lies, Past, TurnedAt}
+use Rattle.flat.proofs.Turn.{volume-two, from-literal, turn-home}
+use Rattle.passes.specs.ThroughScratch.{Grouped, Lies, Past, TurnedAt}
+use Rattle.passes.specs.Promises.{TurnPromise, TurnBackPromise}
+use Rattle.passes.specs.declared.line.GroupedSides.{GroupedSides}
 use Rattle.passes.proofs.Fits.{side-need}
-
--- the checks of a block, then the room in scratch: what they answer where the block is refused, and where scratch decides
-module _ (ds buffer scratch : List ℕ) where
-  abbrev room-check : List Check
-  room-check = check 4 (shortScratch (need ds) scratch) ∷ []
-
-  pub block-refused : {r : ℕ} → r ≡ firstOf (blockChecks ds buffer) → (r ≡ 0 → ⊥) → r ≡ firstOf (passesChecks ds buffer scratch)
-  block-refused e n = e ∙ sym (refused-first (blockChecks ds buffer) room-check (λ z. n (e ∙ z)))
-
-  pub short-refused : firstOf (blockChecks ds buffer) ≡ 0 → length scratch < need ds → 4 ≡ firstOf (passesChecks ds buffer scratch)
-  short-refused e h = sym (accepted-so-far room-check (recursion-accepted ds buffer .0 e) ∙ rw (lt-ltb _ _ h))
-
-  pub block-good : firstOf (passesChecks ds buffer scratch) ≡ 0 → firstOf (blockChecks ds buffer) ≡ 0
-  block-good e =
-      ⊎-elim (λ z. z) (λ n. absurd (n (sym (refused-first (blockChecks ds buffer) room-check n) ∙ e))) (eq-or-ne (firstOf (blockChecks ds buffer)) 0)
-
-  pub room-passed : firstOf (blockChecks ds buffer) ≡ 0 → need ds ≤ length scratch → 0 ≡ firstOf (passesChecks ds buffer scratch)
-  room-passed e h = sym (accepted-so-far room-check (recursion-accepted ds buffer .0 e) ∙ rw (le-ltb _ _ h))
 
 -- sides and buffers of a flat call that is accepted
 pub record Accepted (m n : ℕ) (buffer scratch : List ℕ) : Type 0 where
@@ -67,7 +47,7 @@ flat-accepted m n buffer scratch e = go (v .0 .lengths)
     }
 
 -- the block of a flat call lies at the buffer's start
-pub flat-lies : {m n : ℕ} {buffer scratch : List ℕ} → Accepted m n buffer scratch → Lies m n 0 1 buffer scratch
+flat-lies : {m n : ℕ} {buffer scratch : List ℕ} → Accepted m n buffer scratch → Lies m n 0 1 buffer scratch
 flat-lies {m} {n} a = record {
   apart = omega arith;
   inside = λ p h. omega (arith, a .enough);
@@ -78,7 +58,7 @@ flat-lies {m} {n} a = record {
 }
 
 -- turned there, it is turned
-pub flat-turned : (m n : ℕ) (xs ys : List ℕ) → TurnedAt m n 0 1 xs ys → Turn m n xs ys
+flat-turned : (m n : ℕ) (xs ys : List ℕ) → TurnedAt m n 0 1 xs ys → Turn m n xs ys
 flat-turned m n xs ys t =
     from-literal m n xs ys (t .same)
     (λ i j hi hj.
@@ -93,3 +73,15 @@ past-cleared {k} {scratch} {held} p =
     ap (λ (l : List ℕ). replicate k 0 ++ l)
     (ext-getD 0 (drop k held) (drop k scratch) (length-drop k held ∙ ap (λ (z : ℕ). z - k) (p .same) ∙ sym (length-drop k scratch))
     (λ i h. getD-drop k held i 0 ∙ p .rest (k + i) (omega arith) ∙ sym (getD-drop k scratch i 0)))
+
+-- what a flat call asks once the sides are grouped, and the outcomes of a block that is turned, or turned home, and of the cleared scratch
+module _ {m n : ℕ} {s : GroupedSides} (is : (s .m ≡ m) × (s .n ≡ n) × Grouped s) where
+  pub flat-asked : {b sc : List ℕ} → Accepted m n b sc → Grouped s × Lies (s .m) (s .n) 0 1 b sc
+  flat-asked a = (is .2, rw (is .0, is .1) (flat-lies a))
+
+  module _ {b₀ sc₀ b sc sc′ : List ℕ} (good : firstOf (passesChecks (sides m n) b₀ sc₀) ≡ 0) (zeroed : sc′ ≡ cleared (need (sides m n)) sc) where
+    pub turn-outcome : TurnedAt (s .m) (s .n) 0 1 b₀ b × Past (need (sides (s .m) (s .n))) sc₀ sc → TurnPromise m n b₀ sc₀ 0 b sc′
+    turn-outcome t = let u = rw (is .0, is .1) at t in accepted good (flat-turned m n b₀ b (u .0)) (zeroed ∙ past-cleared (u .1))
+
+    pub turn-back-outcome : TurnedAt (s .m) (s .n) 0 1 b b₀ × Past (need (sides (s .m) (s .n))) sc₀ sc → TurnBackPromise m n b₀ sc₀ 0 b sc′
+    turn-back-outcome t = let u = rw (is .0, is .1) at t in accepted good (turn-home (flat-turned m n b b₀ (u .0))) (zeroed ∙ past-cleared (u .1))

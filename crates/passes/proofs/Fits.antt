@@ -3,13 +3,14 @@
 use mathlib.Core.Path.{_≡_, refl, sym, ap, _∙_, subst}
 use mathlib.Core.List.{List}
 use mathlib.Core.Logic.{⊎-elim}
-use Prim.Native.Nat.{ℕ, _+_, _*_, _-_, _<_, _≤_, max, zero-le}
+use Prim.Native.Nat.{ℕ, _+_, _*_, _-_, _<_, _≤_}
 use native.Mathlib.Omega.{arith}
-use native.Mathlib.Nat.{mul-pos, le-max-left, le-max-right, max-le, le-trans, le-refl, le-antisymm}
+use native.Mathlib.Nat.{mul-pos, le-trans}
+use lib.Dec.{lit<}
 use lib.ListN.{length}
 use lib.Arith.{digits-lt}
 use Rattle.lists.proofs.Decide.{lt-or-ge}
-use Rattle.refusals.specs.Conditions.{longest}
+use Rattle.refusals.proofs.Scratch.{need-entry}
 use Rattle.refusals.specs.Scratch.{need}
 use Rattle.flat.specs.Turn.{sides}
 use Rattle.flat.proofs.Sides.{sides-are, row1-lt, column2-lt, row3-lt, rows1-apart, columns-apart, rows3-apart}
@@ -17,6 +18,20 @@ use Rattle.passes.specs.Lines.{column, row, lineAt, paired}
 use Rattle.passes.specs.ThroughScratch.{Fits, Lies, Past}
 use Rattle.passes.specs.declared.line.Line.{Line}
 use Rattle.passes.proofs.Strided.{line1, line2, line3, column-at, row-at}
+
+-- what holds of the columns of passes 1 and 3 and of the rows of pass 2 holds of every line
+every-line : (m n base chunk : ℕ) (P : Line → Type 0) → ((j : ℕ) → j < n → P (column m n base chunk 1 j)) → ((i : ℕ) → i < m → P (row n base chunk i))
+    → ((j : ℕ) → j < n → P (column m n base chunk 3 j)) → (t : ℕ) → t < n + m + n → P (lineAt m n base chunk t)
+every-line m n base chunk P first second third t h =
+    ⊎-elim
+    (λ (a : t < n). subst P (sym (line1 m n base chunk t a)) (first t a))
+    (λ (a : n ≤ t). ⊎-elim
+    (λ (b : t < n + m).
+    let i : t - n < m = omega arith in
+    subst P (sym (line2 m n base chunk (t - n) i) ∙ ap (lineAt m n base chunk) (omega arith)) (second (t - n) i))
+    (λ (b : n + m ≤ t). subst P (sym (line3 m n base chunk (t - (n + m))) ∙ ap (lineAt m n base chunk) (omega arith)) (third (t - (n + m)) (omega arith)))
+    (lt-or-ge t (n + m)))
+    (lt-or-ge t n)
 
 module _ {m n base chunk : ℕ} {xs scratch : List ℕ} (hm : 0 < m) (hn : 0 < n) (fm : m ≤ 4096) (fn : n ≤ 4096) (y : Lies m n base chunk xs scratch) where
   -- a column, whose pass pairs its rows by f
@@ -44,49 +59,20 @@ module _ {m n base chunk : ℕ} {xs scratch : List ℕ} (hm : 0 < m) (hn : 0 < n
   }
 
   pub line-fits : (t : ℕ) → t < n + m + n → Fits m n (lineAt m n base chunk t) xs scratch
-  line-fits t h =
+  line-fits =
       let s = sides-are m n hm hn in
-      ⊎-elim
-      (λ (a : t < n).
-      subst (λ (l : Line). Fits m n l xs scratch) (sym (line1 m n base chunk t a))
-      (column-fits 1 t a (λ k d. row1-lt m n k t hm) (λ i k d e. rows1-apart s t i k d e)))
-      (λ (a : n ≤ t). ⊎-elim
-      (λ (b : t < n + m).
-      subst (λ (l : Line). Fits m n l xs scratch) (sym (line2 m n base chunk (t - n) (omega arith)) ∙ ap (lineAt m n base chunk) (omega arith)) (row-fits (t - n) (omega arith)))
-      (λ (b : n + m ≤ t).
-      let j = t - (n + m) in
-      let hj : j < n = omega arith in
-      subst (λ (l : Line). Fits m n l xs scratch) (sym (line3 m n base chunk j) ∙ ap (lineAt m n base chunk) (omega arith))
-      (column-fits 3 j hj (λ k d. row3-lt m n k j hm) (λ i k d e. rows3-apart s j i k hj d e)))
-      (lt-or-ge t (n + m)))
-      (lt-or-ge t n)
+      every-line m n base chunk (λ l. Fits m n l xs scratch)
+      (λ j h. column-fits 1 j h (λ k d. row1-lt m n k j hm) (λ i k d e. rows1-apart s j i k d e))
+      row-fits
+      (λ j h. column-fits 3 j h (λ k d. row3-lt m n k j hm) (λ i k d e. rows3-apart s j i k h d e))
 
 -- a line is no longer than what the call needs of scratch
 pub side-need : (m n : ℕ) → (m ≤ need (sides m n)) × (n ≤ need (sides m n))
-unfolding longest
-side-need m n = (le-max-left m (max n 0), le-trans (le-max-left n 0) (le-max-right m (max n 0)))
-
-pub need-le : {m n k : ℕ} → m ≤ k → n ≤ k → need (sides m n) ≤ k
-unfolding longest
-need-le h d = max-le h (max-le d zero-le)
-
-pub need-right : (m n : ℕ) → m ≤ n → need (sides m n) ≡ n
-need-right m n h = le-antisymm (need-le h (le-refl n)) (side-need m n .1)
-
-pub need-left : (m n : ℕ) → n ≤ m → need (sides m n) ≡ m
-need-left m n h = le-antisymm (need-le (le-refl m) h) (side-need m n .0)
+side-need m n = (need-entry (sides m n) 0 (lit< tt), need-entry (sides m n) 1 (lit< tt))
 
 pub line-short : (m n base chunk t : ℕ) → t < n + m + n → lineAt m n base chunk t .count ≤ need (sides m n)
-line-short m n base chunk t h =
-    ⊎-elim
-    (λ (a : t < n). subst (λ (l : Line). l .count ≤ need (sides m n)) (sym (line1 m n base chunk t a)) (side-need m n .0))
-    (λ (a : n ≤ t). ⊎-elim
-    (λ (b : t < n + m).
-    subst (λ (l : Line). l .count ≤ need (sides m n)) (sym (line2 m n base chunk (t - n) (omega arith)) ∙ ap (lineAt m n base chunk) (omega arith)) (side-need m n .1))
-    (λ (b : n + m ≤ t).
-    subst (λ (l : Line). l .count ≤ need (sides m n)) (sym (line3 m n base chunk (t - (n + m))) ∙ ap (lineAt m n base chunk) (omega arith)) (side-need m n .0))
-    (lt-or-ge t (n + m)))
-    (lt-or-ge t n)
+line-short m n base chunk =
+    every-line m n base chunk (λ l. l .count ≤ need (sides m n)) (λ j h. side-need m n .0) (λ i h. side-need m n .1) (λ j h. side-need m n .0)
 
 -- scratch past its first words, line after line
 pub past-none : (k : ℕ) (s : List ℕ) → Past k s s

@@ -16,16 +16,20 @@ decided F p e f = subst (λ (t : Bool). F (λ k. cond t (p k) k) (λ k. cond t k
 
 -- pass 2 scatters a line that fits forwards and gathers it home, passes 1 and 3 gather it forwards and scatter it home
 module _ {m n : ℕ} {l : Line} {xs scratch : List ℕ} (f : Fits m n l xs scratch) {held : List ℕ} where
-  pub scattered : l .pass ≡ 2 → Lifted l (paired m n (l .pass) (l .index)) (λ k. k) xs scratch held → Lifted l (toPlace m n l) (fromPlace m n l) xs scratch held
+  pub scattered : l .pass ≡ 2
+      → Lifted l (paired m n (l .pass) (l .index)) (λ k. k) xs scratch held → Lifted l (toPlace m n l) (fromPlace m n l) xs scratch held
   scattered e h = decided (λ (to from : ℕ → ℕ). Lifted l to from xs scratch held) (paired m n (l .pass) (l .index)) (eq-eqb _ _ e) h
 
-  pub gathered : (l .pass ≡ 2 → ⊥) → Lifted l (λ k. k) (paired m n (l .pass) (l .index)) xs scratch held → Lifted l (toPlace m n l) (fromPlace m n l) xs scratch held
+  pub gathered : (l .pass ≡ 2 → ⊥)
+      → Lifted l (λ k. k) (paired m n (l .pass) (l .index)) xs scratch held → Lifted l (toPlace m n l) (fromPlace m n l) xs scratch held
   gathered e h = decided (λ (to from : ℕ → ℕ). Lifted l to from xs scratch held) (paired m n (l .pass) (l .index)) (ne-eqb _ _ e) h
 
-  pub gathered-home : l .pass ≡ 2 → Lifted l (λ k. k) (paired m n (l .pass) (l .index)) xs scratch held → Lifted l (fromPlace m n l) (toPlace m n l) xs scratch held
+  pub gathered-home : l .pass ≡ 2
+      → Lifted l (λ k. k) (paired m n (l .pass) (l .index)) xs scratch held → Lifted l (fromPlace m n l) (toPlace m n l) xs scratch held
   gathered-home e h = decided (λ (to from : ℕ → ℕ). Lifted l from to xs scratch held) (paired m n (l .pass) (l .index)) (eq-eqb _ _ e) h
 
-  pub scattered-home : (l .pass ≡ 2 → ⊥) → Lifted l (paired m n (l .pass) (l .index)) (λ k. k) xs scratch held → Lifted l (fromPlace m n l) (toPlace m n l) xs scratch held
+  pub scattered-home : (l .pass ≡ 2 → ⊥)
+      → Lifted l (paired m n (l .pass) (l .index)) (λ k. k) xs scratch held → Lifted l (fromPlace m n l) (toPlace m n l) xs scratch held
   scattered-home e h = decided (λ (to from : ℕ → ℕ). Lifted l from to xs scratch held) (paired m n (l .pass) (l .index)) (ne-eqb _ _ e) h
 
 -- lifted, then returned: where the places that words go to are places of the line, the line has moved
@@ -60,8 +64,10 @@ module _ {m n : ℕ} {l : Line} {xs scratch : List ℕ} (f : Fits m n l xs scrat
       go true = h
       go false = f .within k h
 
-  pub moved-forth : {held ys : List ℕ} → Lifted l (toPlace m n l) (fromPlace m n l) xs scratch held → Returned l held xs ys → LineMoved m n l xs ys × Past (l .count) scratch held
+  pub moved-forth : {held ys : List ℕ}
+      → Lifted l (toPlace m n l) (fromPlace m n l) xs scratch held → Returned l held xs ys → LineMoved m n l xs ys × Past (l .count) scratch held
   moved-forth h r = (moved-through to-within h r, lifted-past h)
 
-  pub moved-back : {held ys : List ℕ} → Lifted l (fromPlace m n l) (toPlace m n l) xs scratch held → Returned l held xs ys → LineMoved m n l ys xs × Past (l .count) scratch held
+  pub moved-back : {held ys : List ℕ}
+      → Lifted l (fromPlace m n l) (toPlace m n l) xs scratch held → Returned l held xs ys → LineMoved m n l ys xs × Past (l .count) scratch held
   moved-back h r = (moved-home (moved-through from-within h r), lifted-past h)

@@ -16,18 +16,22 @@ use Rattle.passes.specs.Promises.{TurnPromise, TurnBackPromise, SwapProm
 abbrev pub Same : ℕ → ℕ → List ℕ → List ℕ → List ℕ → List ℕ → Type 0
 Same r r′ b b′ s s′ = (r ≡ r′) × (b ≡ b′) × (s ≡ s′)
 
-pub turn-once : {m n r r′ : ℕ} {b₀ s₀ b s b′ s′ : List ℕ} → TurnPromise m n b₀ s₀ r b s → TurnPromise m n b₀ s₀ r′ b′ s′ → Same r r′ b b′ s s′
+pub turn-once : {m n r r′ : ℕ} {b₀ s₀ b s b′ s′ : List ℕ}
+    → TurnPromise m n b₀ s₀ r b s → TurnPromise m n b₀ s₀ r′ b′ s′ → Same r r′ b b′ s s′
 turn-once p q = one-outcome (λ ys zs t u. one-turn t u) p q
 
-pub turn-back-once : {m n r r′ : ℕ} {b₀ s₀ b s b′ s′ : List ℕ} → TurnBackPromise m n b₀ s₀ r b s → TurnBackPromise m n b₀ s₀ r′ b′ s′ → Same r r′ b b′ s s′
+pub turn-back-once : {m n r r′ : ℕ} {b₀ s₀ b s b′ s′ : List ℕ}
+    → TurnBackPromise m n b₀ s₀ r b s → TurnBackPromise m n b₀ s₀ r′ b′ s′ → Same r r′ b b′ s s′
 turn-back-once p q = one-outcome (λ ys zs t u. one-turn t u) p q
 
 -- two outcomes of an adjacent swap's layout are equal: a chain of one swap names its order
-one-swap : {outer m n chunk : ℕ} {xs : List ℕ} (ys zs : List ℕ) → Laid (swapBlock outer m n chunk) middle xs ys → Laid (swapBlock outer m n chunk) middle xs zs → ys ≡ zs
+one-swap : {outer m n chunk : ℕ} {xs : List ℕ} (ys zs : List ℕ)
+    → Laid (swapBlock outer m n chunk) middle xs ys → Laid (swapBlock outer m n chunk) middle xs zs → ys ≡ zs
 unfolding named follow exchange
 one-swap {outer} {m} {n} {chunk} ys zs f g = chain-once (swapBlock outer m n chunk) refl (1 ∷ []) f g
 
-pub swap-once : {outer m n chunk r r′ : ℕ} {b₀ s₀ b s b′ s′ : List ℕ} → SwapPromise outer m n chunk b₀ s₀ r b s → SwapPromise outer m n chunk b₀ s₀ r′ b′ s′ → Same r r′ b b′ s s′
+pub swap-once : {outer m n chunk r r′ : ℕ} {b₀ s₀ b s b′ s′ : List ℕ}
+    → SwapPromise outer m n chunk b₀ s₀ r b s → SwapPromise outer m n chunk b₀ s₀ r′ b′ s′ → Same r r′ b b′ s s′
 swap-once p q = one-outcome one-swap p q
 
 pub clear-once : {n r r′ : ℕ} {s₀ s s′ : List ℕ} → ClearPromise n s₀ r s → ClearPromise n s₀ r′ s′ → (r ≡ r′) × (s ≡ s′)

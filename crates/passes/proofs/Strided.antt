@@ -46,7 +46,8 @@ module _ (m n base chunk : ℕ) where
   -- the words of a column, and of a row, in the block's own terms
   pub column-at : (p j i : ℕ) → posOn (column m n base chunk p j) i ≡ cellAt i j
   column-at p j i =
-      let e : chunk * (i * n + j) ≡ chunk * n * i + chunk * j = mul-add chunk (i * n) j ∙ ap (λ (z : ℕ). z + chunk * j) (ap (λ (z : ℕ). chunk * z) (mul-comm i n) ∙ sym (mul-assoc chunk n i)) in
+      let e : chunk * (i * n + j) ≡ chunk * n * i + chunk * j
+      = mul-add chunk (i * n) j ∙ ap (λ (z : ℕ). z + chunk * j) (ap (λ (z : ℕ). chunk * z) (mul-comm i n) ∙ sym (mul-assoc chunk n i)) in
       omega arith
 
   pub row-at : (i j : ℕ) → posOn (row n base chunk i) j ≡ cellAt i j

@@ -92,13 +92,16 @@ module _ (outer m n chunk : ℕ) (hm : 0 < m) (hn : 0 < n) (hc : 0 < chunk) wher
       blocks-apart : (t k u j : ℕ) → k < m * n → j < m * n → posOf m n chunk t k ≡ posOf m n chunk u j → t ≡ u
       blocks-apart t k u j hk hj e =
           let q = sym (flat-pos t k) ∙ e ∙ flat-pos u j in
-          let r : t % chunk ≡ u % chunk = sym (digits-mod (t / chunk * (m * n) + k) (mod-lt t hc)) ∙ ap (λ (z : ℕ). z % chunk) q ∙ digits-mod (u / chunk * (m * n) + j) (mod-lt u hc) in
-          let d : t / chunk * (m * n) + k ≡ u / chunk * (m * n) + j = sym (digits-div (t / chunk * (m * n) + k) (mod-lt t hc)) ∙ ap (λ (z : ℕ). z / chunk) q ∙ digits-div (u / chunk * (m * n) + j) (mod-lt u hc) in
+          let r : t % chunk ≡ u % chunk
+          = sym (digits-mod (t / chunk * (m * n) + k) (mod-lt t hc)) ∙ ap (λ (z : ℕ). z % chunk) q ∙ digits-mod (u / chunk * (m * n) + j) (mod-lt u hc) in
+          let d : t / chunk * (m * n) + k ≡ u / chunk * (m * n) + j
+          = sym (digits-div (t / chunk * (m * n) + k) (mod-lt t hc)) ∙ ap (λ (z : ℕ). z / chunk) q ∙ digits-div (u / chunk * (m * n) + j) (mod-lt u hc) in
           let e′ : t / chunk ≡ u / chunk = sym (digits-div (t / chunk) hk) ∙ ap (λ (z : ℕ). z / (m * n)) d ∙ digits-div (u / chunk) hj in
           sym (div-add-mod' t chunk) ∙ ap₂ (λ (x y : ℕ). x * chunk + y) e′ r ∙ div-add-mod' u chunk
 
   -- all blocks turned are the swap
-  pub swapped : (xs ys : List ℕ) → Some (outer * chunk) (m * n) (posOf m n chunk) (toOf m n) fromOf (outer * chunk) xs ys → Laid (swapBlock outer m n chunk) middle xs ys
+  pub swapped : (xs ys : List ℕ) → Some (outer * chunk) (m * n) (posOf m n chunk) (toOf m n) fromOf (outer * chunk) xs ys
+      → Laid (swapBlock outer m n chunk) middle xs ys
   unfolding pick
   swapped xs ys f = record {
     same = f .same;
@@ -106,7 +109,8 @@ module _ (outer m n chunk : ℕ) (hm : 0 < m) (hn : 0 < n) (hc : 0 < chunk) wher
     tail = λ k h. f .others k (λ t p a b e. let z = pos-lt t p a b in omega arith);
   }
     where
-      placed : (x : List ℕ) → Within (swapBlock outer m n chunk) x → getD ys (at (pick middle (swapBlock outer m n chunk)) (pick middle x)) 0 ≡ getD xs (at (swapBlock outer m n chunk) x) 0
+      placed : (x : List ℕ) → Within (swapBlock outer m n chunk) x
+          → getD ys (at (pick middle (swapBlock outer m n chunk)) (pick middle x)) 0 ≡ getD xs (at (swapBlock outer m n chunk) x) 0
       placed x (more {x = e} he (more {x = i} hi (more {x = j} hj (more {x = u} hu none)))) =
           let t = e * chunk + u in
           let p = i * n + j in
@@ -133,7 +137,8 @@ module _ {outer m n chunk : ℕ} {xs scratch : List ℕ} (hm : 0 < m) (hn : 0 < 
       let z = pos-lt outer m n chunk hm hn (y .words) t 0 h (mul-pos hm hn) in
       omega (arith, y .few, swap-volume outer m n chunk)
 
-  pub block-lies : (t : ℕ) (ys held : List ℕ) → t < outer * chunk → length ys ≡ length xs → length held ≡ length scratch → Lies m n (swapBase m n chunk t) chunk ys held
+  pub block-lies : (t : ℕ) (ys held : List ℕ) → t < outer * chunk → length ys ≡ length xs → length held ≡ length scratch
+      → Lies m n (swapBase m n chunk t) chunk ys held
   block-lies t ys held h e f = record {
     apart = y .words;
     inside = λ p k. let z = pos-lt outer m n chunk hm hn (y .words) t p h k in omega (arith, y .enough, swap-volume outer m n chunk);

@@ -8,10 +8,10 @@ use Rattle.refusals.specs.FirstOf.{Check, firstOf}
 use Rattle.refusals.specs.Calls.{blockChecks, passesChecks}
 use Rattle.refusals.specs.Scratch.{need}
 use Rattle.refusals.specs.Promise.{Rearranged}
+use Rattle.refusals.proofs.Calls.{block-good, room-passed}
 use Rattle.flat.specs.Turn.{sides, Turn}
 use Rattle.flat.proofs.Turn.{one-turn, turn-home}
 use Rattle.passes.specs.Promises.{TurnPromise, TurnBackPromise}
-use Rattle.passes.proofs.Accepted.{block-good, room-passed}
 
 -- an accepted turn of k by l, then one of l by k, under the checks of m by n: accepted, every word home
 restored : (m n k l : ℕ) {r : ℕ} {b₀ s₀ b₁ s₁ t₁ b₂ t₂ : List ℕ} → need (sides m n) ≤ length t₁

@@ -11,7 +11,8 @@ ghost use Rattle.passes.specs.Promises.{TurnPromise, TurnBackPromise, Sw
 pub fn turn(buf: &mut [u32], scratch: &mut [u32], m: usize, n: usize) -> u32
     ensures { λ r. ⌜ TurnPromise m n (now (buf .entry)) (now (scratch .entry)) r (now (buf .exit)) (now (scratch .exit)) ⌝ }
 {
-    let number = refusal::flat_number(buf, scratch, m, n);
+    let lens = [m, n];
+    let number = checks::passes_number(&lens, buf, scratch);
     if number != 0 {
         return number;
     }
@@ -25,7 +26,8 @@ pub fn turn(buf: &mut [u32], scratch: &mut [u32], m: usize, n: usize) -> u32
 pub fn turn_back(buf: &mut [u32], scratch: &mut [u32], m: usize, n: usize) -> u32
     ensures { λ r. ⌜ TurnBackPromise m n (now (buf .entry)) (now (scratch .entry)) r (now (buf .exit)) (now (scratch .exit)) ⌝ }
 {
-    let number = refusal::flat_number(buf, scratch, m, n);
+    let lens = [m, n];
+    let number = checks::passes_number(&lens, buf, scratch);
     if number != 0 {
         return number;
     }

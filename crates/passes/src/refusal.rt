@@ -1,24 +1,7 @@
-// The number that a call answers before it touches a word: that of the first of its checks that holds, else 0.
+// The number that an adjacent swap answers before it touches a word: that of the first of its checks that holds, else 0.
 ghost use mathlib.Core.Path.{_≡_};
-ghost use Rattle.flat.specs.Turn.{sides};
 ghost use Rattle.refusals.specs.FirstOf.{firstOf};
-ghost use Rattle.refusals.specs.Calls.{passesChecks};
 ghost use Rattle.passes.specs.Promises.{swapChecks, noBlock};
-
-// Flat by passes and reverse: 1, 2, 3, 4.
-pub(crate) fn flat_number(buf: &[u32], scratch: &[u32], m: usize, n: usize) -> u32
-    ensures { λ r. ⌜ r ≡ firstOf (passesChecks (sides m n) (now (buf .entry)) (now (scratch .entry))) ⌝ }
-{
-    let lens = [m, n];
-    let number = checks::block_number(&lens, buf);
-    if number != 0 {
-        return number;
-    }
-    if scratch.len() < checks::longest_of(&lens) {
-        return 4;
-    }
-    0
-}
 
 // Whether an adjacent swap has a side out of range, no block before the two axes or no word after them.
 fn no_block(outer: usize, m: usize, n: usize, chunk: usize) -> bool
@@ -56,8 +39,8 @@ pub(crate) fn swap_number(
     if buf.len() < words {
         return 3;
     }
-    let lens = [m, n];
-    if scratch.len() < checks::longest_of(&lens) {
+    let sides = [m, n];
+    if scratch.len() < checks::longest_of(&sides) {
         return 4;
     }
     0

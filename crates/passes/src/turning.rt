@@ -12,7 +12,7 @@ ghost use Rattle.passes.specs.Lines.{lineCount, lineOf};
 ghost use Rattle.passes.specs.ThroughScratch.{Grouped, Lies, AllLie, Past, TurnedAt};
 ghost use Rattle.passes.specs.Promises.{swapBlock, middle};
 
-// The sides of an m by n block.
+// The sides of an m by n block, with their quotients by their greatest common divisor.
 pub(crate) fn group_sides(m: usize, n: usize) -> GroupedSides
     requires { ⌜ (0 < m) × (0 < n) × (m ≤ 4096) × (n ≤ 4096) ⌝ }
     ensures { λ r. ⌜ (r .m ≡ m) × (r .n ≡ n) × Grouped r ⌝ }

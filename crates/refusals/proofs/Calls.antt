@@ -1,13 +1,18 @@
 -- Every list of checks has numbers that refuse, so the laws of `firstOf` hold of every call: 0 exactly when none of its
--- conditions holds.
-use mathlib.Core.List.{List}
-use mathlib.Core.Logic.{_↔_}
-use mathlib.Core.Path.{_≡_}
-use Prim.Native.Nat.{ℕ}
+-- conditions holds. And the checks of a block before the room in scratch: where the block is refused, and where scratch decides.
+use mathlib.Core.List.{List, [], _∷_}
+use mathlib.Core.Logic.{_↔_, ⊎-elim}
+use mathlib.Core.Path.{_≡_, sym, _∙_}
+use Prim.Native.Nat.{ℕ, _<_, _≤_}
 use lib.Dec.{lit<}
-use Rattle.refusals.specs.FirstOf.{firstOf}
-use Rattle.refusals.specs.Calls.{sizeChecks, passesChecks, recursionChecks, chainChecks, requestChecks, planChecks}
-use Rattle.refusals.proofs.FirstOf.{Refusing, Silent, accepted-exactly}
+use lib.ListN.{length}
+use borrow.Author.Tests.{lt-ltb, le-ltb}
+use Rattle.lists.proofs.Decide.{eq-or-ne}
+use Rattle.refusals.specs.FirstOf.{Check, check, firstOf}
+use Rattle.refusals.specs.Conditions.{shortScratch}
+use Rattle.refusals.specs.Calls.{sizeChecks, blockChecks, passesChecks, recursionChecks, chainChecks, requestChecks, planChecks}
+use Rattle.refusals.specs.Scratch.{need}
+use Rattle.refusals.proofs.FirstOf.{Refusing, Silent, accepted-exactly, refused-first, accepted-so-far}
 use Rattle.refusals.proofs.FirstOf.Refusing.{none, more}
 
 pub size-refusing : (ds : List ℕ) → Refusing (sizeChecks ds)
@@ -27,3 +32,21 @@ request-accepted r ds b s order = accepted-exactly (more (lit< tt) (more (lit< t
 
 pub plan-accepted : (r order : ℕ) → (firstOf (planChecks r order) ≡ 0) ↔ Silent (planChecks r order)
 plan-accepted r order = accepted-exactly (more (lit< tt) (more (lit< tt) none))
+
+-- the checks of a block, then the room in scratch
+module _ (ds buffer scratch : List ℕ) where
+  abbrev room-check : List Check
+  room-check = check 4 (shortScratch (need ds) scratch) ∷ []
+
+  pub block-refused : {r : ℕ} → r ≡ firstOf (blockChecks ds buffer) → (r ≡ 0 → ⊥) → r ≡ firstOf (passesChecks ds buffer scratch)
+  block-refused e n = e ∙ sym (refused-first (blockChecks ds buffer) room-check (λ z. n (e ∙ z)))
+
+  pub short-refused : firstOf (blockChecks ds buffer) ≡ 0 → length scratch < need ds → 4 ≡ firstOf (passesChecks ds buffer scratch)
+  short-refused e h = sym (accepted-so-far room-check (recursion-accepted ds buffer .0 e) ∙ rw (lt-ltb _ _ h))
+
+  pub block-good : firstOf (passesChecks ds buffer scratch) ≡ 0 → firstOf (blockChecks ds buffer) ≡ 0
+  block-good e =
+      ⊎-elim (λ z. z) (λ n. absurd (n (sym (refused-first (blockChecks ds buffer) room-check n) ∙ e))) (eq-or-ne (firstOf (blockChecks ds buffer)) 0)
+
+  pub room-passed : firstOf (blockChecks ds buffer) ≡ 0 → need ds ≤ length scratch → 0 ≡ firstOf (passesChecks ds buffer scratch)
+  room-passed e h = sym (accepted-so-far room-check (recursion-accepted ds buffer .0 e) ∙ rw (le-ltb _ _ h))

@@ -6,6 +6,7 @@ use mathlib.Core.List.{List, [], _∷_, _++_}
 use mathlib.Core.Logic.{_↔_}
 use Prim.Native.Nat.{ℕ, _<_}
 use native.Mathlib.Omega.{arith}
+use Rattle.lists.proofs.Decide.{decided}
 use Rattle.refusals.specs.FirstOf.{Check, firstOf}
 
 -- every number of the list is one that refuses
@@ -31,22 +32,14 @@ pub first-is : {k : ℕ} {cs : List Check} → First k cs → firstOf cs ≡ k
 first-is (here h e) = rw h e
 first-is (later h f) = rw h (first-is f)
 
--- the condition of the first check is decided one way or the other
-first-check : {A : Type 0} (c : Check) → (c .holds ≡ true → A) → (c .holds ≡ false → A) → A
-first-check {A} c held quiet = go (c .holds) refl
-  where
-    go : (t : Bool) → c .holds ≡ t → A
-    go true q = held q
-    go false q = quiet q
-
 pub zero-silent : {cs : List Check} → Refusing cs → firstOf cs ≡ 0 → Silent cs
 zero-silent none e = Silent.none
 zero-silent (more {c} {cs} p r) e =
-    first-check c (λ q. let z : c .number ≡ 0 = rw q at e in absurd (omega arith)) (λ q. Silent.more q (zero-silent r (rw q at e)))
+    decided (c .holds) (λ q. let z : c .number ≡ 0 = rw q at e in absurd (omega arith)) (λ q. Silent.more q (zero-silent r (rw q at e)))
 
 pub is-first : {k : ℕ} (cs : List Check) → 0 < k → firstOf cs ≡ k → First k cs
 is-first [] p e = absurd (omega arith)
-is-first (c ∷ cs) p e = first-check c (λ q. First.here q (rw q at e)) (λ q. First.later q (is-first cs p (rw q at e)))
+is-first (c ∷ cs) p e = decided (c .holds) (λ q. First.here q (rw q at e)) (λ q. First.later q (is-first cs p (rw q at e)))
 
 -- the answer is 0 exactly when no condition holds
 pub accepted-exactly : {cs : List Check} → Refusing cs → (firstOf cs ≡ 0) ↔ Silent cs

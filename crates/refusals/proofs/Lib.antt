@@ -8,3 +8,5 @@ pub mod Some
 pub mod Conditions
 -- the laws of `firstOf` hold of every call's list
 pub mod Calls
+-- what callers use of the need of scratch, and what clearing scratch leaves
+pub mod Scratch

@@ -1,6 +1,6 @@
 -- A test over the entries of a list: what it says from one entry on, what it says of each entry, and where the first entry is at which
 -- it holds. From the definitions of `some` and `firstPlace`, by induction on the list.
-use mathlib.Core.Path.{_≡_, refl, ap}
+use mathlib.Core.Path.{_≡_, refl}
 use mathlib.Core.Bool.{Bool, true, false, cond, _||_}
 use mathlib.Core.List.{List, [], _∷_}
 use mathlib.Core.Logic.{⊎-elim}

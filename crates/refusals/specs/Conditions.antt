@@ -1,11 +1,11 @@
 -- The condition of each number. Assumes nothing: these are definitions.
 use mathlib.Core.Bool.{Bool, false, cond, _||_}
 use mathlib.Core.List.{List, [], _∷_}
-use Prim.Native.Nat.{ℕ, zero, suc, _*_, _-_, max}
+use Prim.Native.Nat.{ℕ, suc, _-_, max}
 use lib.Dec.{ltb, eqb}
 use lib.ListN.{length}
 use Rattle.layout.specs.Layout.{volume}
-use Rattle.orders.specs.Numbers.{orderOf}
+use Rattle.orders.specs.Numbers.{orderCount, orderOf}
 use Rattle.orders.specs.Plans.{planOf}
 
 -- the test holds at some entry
@@ -54,11 +54,6 @@ badSwap r chain = some (noSwap r) chain
 unfoldable pub firstPlace : (ℕ → Bool) → List ℕ → ℕ
 firstPlace f [] = 0
 firstPlace f (x ∷ xs) = cond (f x) 0 (suc (firstPlace f xs))
-
--- how many orders r axes have
-abbrev pub orderCount : ℕ → ℕ
-orderCount zero = 1
-orderCount (suc r) = suc r * orderCount r
 
 -- 7: the order number is above the last, for four axes above 23
 abbrev pub noOrder : ℕ → ℕ → Bool

@@ -1,6 +1,7 @@
--- Words, tabs and lines at a place of the bytes: what the byte at the place says of what is read there. From the definitions.
+-- Words, tabs and lines at a place of the bytes: what the byte at the place says of what is read there, and the ways out of reading a
+-- line. From the definitions.
 use mathlib.Core.Path.{_≡_, refl, sym, ap, _∙_}
-use mathlib.Core.Bool.{Bool, true, false, cond, _&&_}
+use mathlib.Core.Bool.{Bool, true, false, not, _&&_}
 use mathlib.Core.List.{List, [], _∷_, _++_}
 use mathlib.Core.Logic.{⊎-elim}
 use Prim.Native.Nat.{ℕ, zero, suc, _+_, _-_, _<_, _≤_}
@@ -8,15 +9,17 @@ use native.Mathlib.Omega.{arith}
 use lib.Dec.{T, eqb}
 use lib.ListN.{length, take, drop, getD, length-take, length-drop, drop-of-length-le, List·getD-eq-default}
 use lib.Seq.{drop-drop, drop-length}
-use borrow.Author.Tests.{eq-eqb, ne-eqb}
+use borrow.Author.Tests.{not-true, not-false, eq-eqb, ne-eqb}
 use Rattle.lists.specs.Same.{same}
 use Rattle.lists.proofs.Test.{same→eq}
-use Rattle.lists.proofs.Decide.{lt-or-ge}
+use Rattle.lists.proofs.Decide.{decided, lt-or-ge}
 use Rattle.text.specs.Print.{tabByte, lineFeed}
-use Rattle.text.specs.Read.{Found, after, readFields, closed, readLine, tabs}
-use Rattle.text.proofs.Numbers.{decided}
+use Rattle.text.specs.Read.{Reading, after, readFields, closed, readLine, tabs}
 use Rattle.text.proofs.Lines.{after-found, closed-found}
-use Rattle.sheet.proofs.Places.{drop-next}
+use Rattle.sheet.specs.Place.{At, numbersOf}
+use Rattle.lists.proofs.Front.{drop-next}
+use Rattle.sheet.proofs.Places.{at-found, at-none}
+use Rattle.sheet.proofs.Runs.{got}
 
 same-length : (xs ys : List ℕ) → same xs ys ≡ true → length xs ≡ length ys
 same-length xs ys e = let t : T (same xs ys) = rw e tt in ap length (same→eq xs ys t)
@@ -32,8 +35,8 @@ module _ (bytes : List ℕ) (at : ℕ) (word : List ℕ) where
       let b : at + 0 ≡ at = omega arith in
       rw (a, b)
 
-  pub word-end : agrees (length word) ≡ true
-  word-end = let a : length word - length word ≡ 0 = omega arith in rw (a, drop-length word)
+  pub word-end : (i : ℕ) → i ≡ length word → agrees i ≡ true
+  word-end i e = let a : length word - length word ≡ 0 = omega arith in rw (e, a, drop-length word)
 
   word-next : (i : ℕ) → i < length word → at + i < length bytes
       → agrees i ≡ (eqb (getD bytes (at + i) 0) (getD word i 0) && agrees (i + 1))
@@ -58,7 +61,7 @@ module _ (bytes : List ℕ) (at : ℕ) (word : List ℕ) where
       )
 
   -- the line at a place, once its word stands there
-  pub no-word : (n : ℕ) → same (take (length word) (drop at bytes)) word ≡ false → readLine word n (drop at bytes) ≡ Found.none
+  pub no-word : (n : ℕ) → same (take (length word) (drop at bytes)) word ≡ false → readLine word n (drop at bytes) ≡ Reading.none
   unfolding readLine
   no-word n e = rw e
 
@@ -68,17 +71,17 @@ module _ (bytes : List ℕ) (at : ℕ) (word : List ℕ) where
   past-word n e = rw (e, drop-drop (length word) at bytes)
 
   -- the fields of a line that was read, and its LF behind them
-  pub line-fields : (n : ℕ) {us mid : List ℕ} → at ≤ length bytes → readLine word n (drop at bytes) ≡ Found.found us mid
-      → (at + length word ≤ length bytes) × (readFields n (drop (at + length word) bytes) ≡ Found.found us (lineFeed ∷ mid))
+  pub line-fields : (n : ℕ) {us mid : List ℕ} → at ≤ length bytes → readLine word n (drop at bytes) ≡ Reading.found us mid
+      → (at + length word ≤ length bytes) × (readFields n (drop (at + length word) bytes) ≡ Reading.found us (lineFeed ∷ mid))
   line-fields n {us} {mid} h e =
       decided (same (take (length word) (drop at bytes)) word)
       (λ (t : same (take (length word) (drop at bytes)) word ≡ true).
       after-found (readFields n (drop (at + length word) bytes)) closed (sym (past-word n t) ∙ e)
       (λ vs end f g.
       let k = closed-found vs end g in
-      (word-inside h t, f ∙ ap (λ (l : List ℕ). Found.found l end) (k .0) ∙ ap (Found.found us) (k .1))))
+      (word-inside h t, f ∙ ap (λ (l : List ℕ). Reading.found l end) (k .0) ∙ ap (Reading.found us) (k .1))))
       (λ (t : same (take (length word) (drop at bytes)) word ≡ false).
-      let z : Found.none ≡ Found.found us mid = sym (no-word n t) ∙ e in
+      let z : Reading.none ≡ Reading.found us mid = sym (no-word n t) ∙ e in
       let q : _≡_ {A = ℕ} 0 1 = cc in
       absurd (omega arith))
 
@@ -86,7 +89,7 @@ module _ (bytes : List ℕ) (at : ℕ) (word : List ℕ) where
   word-short h k =
       decided (same (take (length word) (drop at bytes)) word) (λ t. absurd (omega (arith, word-inside h t))) (λ t. t)
 
-pub not-closed : (bytes : List ℕ) (p : ℕ) (vs : List ℕ) → (getD bytes p 0 ≡ lineFeed → ⊥) → closed vs (drop p bytes) ≡ Found.none
+pub not-closed : (bytes : List ℕ) (p : ℕ) (vs : List ℕ) → (getD bytes p 0 ≡ lineFeed → ⊥) → closed vs (drop p bytes) ≡ Reading.none
 unfolding closed
 not-closed bytes p vs e =
     ⊎-elim
@@ -108,7 +111,7 @@ module _ (bytes : List ℕ) (p : ℕ) where
   tabs-end h = rw (drop-of-length-le bytes {i = p} h)
 
 module _ (bytes : List ℕ) (p : ℕ) (h : p < length bytes) where
-  pub closed-feed : (vs : List ℕ) → getD bytes p 0 ≡ lineFeed → closed vs (drop p bytes) ≡ Found.found vs (drop (p + 1) bytes)
+  pub closed-feed : (vs : List ℕ) → getD bytes p 0 ≡ lineFeed → closed vs (drop p bytes) ≡ Reading.found vs (drop (p + 1) bytes)
   unfolding closed
   closed-feed vs e = rw (drop-next bytes p h, e)
 
@@ -123,3 +126,31 @@ module _ (bytes : List ℕ) (p : ℕ) (h : p < length bytes) where
   pub tabs-other : (getD bytes p 0 ≡ lineFeed → ⊥) → (getD bytes p 0 ≡ tabByte → ⊥) → tabs (drop p bytes) ≡ tabs (drop (p + 1) bytes)
   unfolding tabs
   tabs-other e f = rw (drop-next bytes p h, ne-eqb (getD bytes p 0) lineFeed e, ne-eqb (getD bytes p 0) tabByte f)
+
+-- the ways out of reading a line: no word, no fields, no LF, or the line
+module _ (bytes : List ℕ) (at : ℕ) (word : List ℕ) (n : ℕ) {w : Bool} (stands : w ≡ same (take (length word) (drop at bytes)) word) where
+  pub line-no-word : {vs : List ℕ} → not w ≡ true → At bytes (readLine word n (drop at bytes)) false vs 0
+  line-no-word o = at-none (no-word bytes at word n (sym stands ∙ not-true w o))
+
+  module _ (o : not w ≡ false) where
+    is : same (take (length word) (drop at bytes)) word ≡ true
+    is = sym stands ∙ not-false w o
+
+    pub line-inside : at ≤ length bytes → at + length word ≤ length bytes
+    line-inside h = word-inside bytes at word h is
+
+    module _ {ok : Bool} {us : List ℕ} {end : ℕ} (f : At bytes (readFields n (drop (at + length word) bytes)) ok us end) where
+      pub line-no-fields : {vs : List ℕ} → not ok ≡ true → At bytes (readLine word n (drop at bytes)) false vs 0
+      line-no-fields k = at-none (past-word bytes at word n is ∙ rw (f .wrong (not-true ok k)))
+
+      module _ (k : not ok ≡ false) where
+        fielded : readLine word n (drop at bytes) ≡ closed us (drop end bytes)
+        fielded = past-word bytes at word n is ∙ rw (f .right (not-false ok k))
+
+        pub line-no-feed : {vs : List ℕ} → (getD bytes end 0 ≡ lineFeed → ⊥) → At bytes (readLine word n (drop at bytes)) false vs 0
+        line-no-feed e = at-none (fielded ∙ not-closed bytes end us e)
+
+        pub line-read : getD bytes end 0 ≡ lineFeed → At bytes (readLine word n (drop at bytes)) true (numbersOf (readLine word n (drop at bytes))) (end + 1)
+        line-read e =
+            let inside = byte-inside bytes end e (omega arith) in
+            at-found (end + 1) (got (fielded ∙ closed-feed bytes end inside us e)) (omega arith)

@@ -4,14 +4,16 @@ use mathlib.Core.List.{List, [], _∷_, _++_, append-assoc, append-nil}
 use Prim.Native.Nat.{ℕ, zero, suc, _+_, _-_, _*_, _<_, _≤_}
 use native.Mathlib.Omega.{arith}
 use lib.ListN.{length, take, drop, getD, length-append, length-drop}
-use lib.Seq.{drop-drop, take-add, getD-take, length-take-le}
+use lib.Seq.{drop-drop, take-add, take-all, getD-take, length-take-le}
 use Rattle.layout.specs.Layout.{volume}
 use Rattle.text.specs.Print.{lineFeed, decimal, field, fields, line}
 use Rattle.text.specs.Sheet.{shapeWord, orderWord, rowWord, rowCount, rowWidth, rowsText, resultText}
 use Rattle.text.proofs.Rows.{rows-volume}
 use Rattle.text.proofs.Length.{length-line}
 use Rattle.sheet.specs.Put.{Room, Put}
-use Rattle.sheet.proofs.Puts.{first-room, second-room, third-room, three-put, fields-next}
+use Rattle.sheet.specs.Thin.{lineOf, shapeLineOf, orderLineOf, pageOf, Ready}
+use Rattle.sheet.specs.declared.page.Line.{Line}
+use Rattle.sheet.proofs.Puts.{Leads, leads-room, leads-step, leads-end, leads-same, first-room, second-room, third-room, three-put, fields-next, no-fields}
 
 -- a line is its word, its fields and its LF
 line-parts : (word vs : List ℕ) → line word vs ≡ word ++ (fields vs ++ (lineFeed ∷ []))
@@ -33,22 +35,36 @@ module _ {out : List ℕ} {at : ℕ} (word vs : List ℕ) (r : Room out at (line
       → Put out₂ b (lineFeed ∷ []) next out₃ → Put out at (line word vs) next out₃
   line-put p q e = three-put word (fields vs) (lineFeed ∷ []) (line-parts word vs) r p q e
 
--- the fields of one number are its field
-pub fields-one : (v : ℕ) → fields (v ∷ []) ≡ field v
-unfolding fields
-fields-one v = append-nil (field v)
-
 -- one row, then the others
-pub rows-next : (count n i from : ℕ) (words : List ℕ) → i < count
+rows-next : (count n i from : ℕ) (words : List ℕ) → i < count
     → rowsText (count - i) n (drop from words) ≡ line rowWord (take n (drop from words)) ++ rowsText (count - (i + 1)) n (drop (from + n) words)
 unfolding rowsText
 rows-next count n i from words h =
     let a : count - i ≡ suc (count - (i + 1)) = omega arith in
     rw a (ap (λ (l : List ℕ). line rowWord (take n (drop from words)) ++ rowsText (count - (i + 1)) n l) (drop-drop n from words))
 
-pub no-rows : (count n : ℕ) (words : List ℕ) → rowsText (count - count) n words ≡ []
+no-rows : (count n i : ℕ) (words : List ℕ) → count ≤ i → rowsText (count - i) n words ≡ []
 unfolding rowsText
-no-rows count n words = let a : count - count ≡ 0 = omega arith in rw a
+no-rows count n i words h = let a : count - i ≡ 0 = omega arith in rw a
+
+-- rows put one by one: those from row i on, whose words begin at `from`, lead to the whole text
+module _ (count n i from : ℕ) (words : List ℕ) {out₀ : List ℕ} {at : ℕ} {text out : List ℕ} {p : ℕ}
+    (h : Leads out₀ at text out p (rowsText (count - i) n (drop from words))) where
+  abbrev row : List ℕ
+  row = line rowWord (take n (drop from words))
+
+  abbrev rest : List ℕ
+  rest = rowsText (count - (i + 1)) n (drop (from + n) words)
+
+  pub next-row-room : i < count → Room out p (line rowWord (take n (drop from words)))
+  next-row-room k = leads-room row rest (leads-same (rows-next count n i from words k) h)
+
+  pub next-row-put : i < count → {next : ℕ} {out′ : List ℕ} → Put out p (line rowWord (take n (drop from words))) next out′
+      → Leads out₀ at text out′ next (rowsText (count - (i + 1)) n (drop (from + n) words))
+  next-row-put k = leads-step row rest (leads-same (rows-next count n i from words k) h)
+
+  pub all-rows-put : count ≤ i → Put out₀ at text p out
+  all-rows-put k = leads-end (leads-same (no-rows count n i (drop from words) k) h)
 
 fields-append : (us vs : List ℕ) → fields (us ++ vs) ≡ fields us ++ fields vs
 unfolding fields
@@ -76,11 +92,20 @@ length-rows (suc count) n words =
     )
     (omega arith)
 
--- a result sheet is line 1, line 2 and the rows
-pub result-parts : (ds : List ℕ) (order : ℕ) (words : List ℕ)
-    → resultText ds order words ≡ line shapeWord ds ++ (line orderWord (order ∷ []) ++ rowsText (rowCount ds) (rowWidth ds) words)
-unfolding resultText
-result-parts ds order words = refl
+-- a result sheet is its two lines, by value, and the rows: what the thin writer needs for it, and what it puts
+module _ (ds : List ℕ) (order : ℕ) (words : List ℕ) {shape line : Line} {rows : ℕ} (four : length ds ≡ 4) (s : shape ≡ shapeLineOf ds)
+    (l : line ≡ orderLineOf order) (r : rows ≡ rowCount ds) where
+  page : pageOf shape line words rows (getD ds 3 0) ≡ resultText ds order words
+  unfolding resultText rowWidth
+  page = rw (s, l, take-all 4 ds (omega arith), r, four)
+
+  pub page-ready : {out : List ℕ} → rows * getD ds 3 0 ≤ length words → length (resultText ds order words) ≤ length out
+      → Ready out shape line words rows (getD ds 3 0)
+  page-ready h k = record { first = rw s (omega arith); second = rw l (omega arith); enough = h; room = record { fits = rw page (omega arith) } }
+
+  pub page-put : {out : List ℕ} {next : ℕ} {out′ : List ℕ} → Put out 0 (pageOf shape line words rows (getD ds 3 0)) next out′
+      → Put out 0 (resultText ds order words) next out′
+  page-put q = rw page at q
 
 -- the length of a result sheet from its parts
 pub length-result : (ds : List ℕ) (order : ℕ) (words : List ℕ)
@@ -91,13 +116,6 @@ length-result ds order words =
     ap length (sym (append-assoc (line shapeWord ds) (line orderWord (order ∷ [])) (rowsText (rowCount ds) (rowWidth ds) words)))
     ∙ length-append (line shapeWord ds ++ line orderWord (order ∷ [])) (rowsText (rowCount ds) (rowWidth ds) words)
 
-pub length-head : (ds : List ℕ) (order : ℕ)
-    → length (line shapeWord ds ++ line orderWord (order ∷ [])) ≡ 13 + length (fields ds) + length (decimal order)
-unfolding fields field
-length-head ds order =
-    length-append (line shapeWord ds) (line orderWord (order ∷ []))
-    ∙ rw (length-line shapeWord ds, length-line orderWord (order ∷ []), append-nil (decimal order)) (omega arith)
-
 -- the field of the next number measured, then the others
 pub measure-next : (vs : List ℕ) (i : ℕ) → i < length vs
     → length (fields (drop i vs)) ≡ 1 + length (decimal (getD vs i 0)) + length (fields (drop (i + 1) vs))
@@ -105,10 +123,20 @@ unfolding field
 measure-next vs i h =
     ap length (fields-next vs i h) ∙ length-append (field (getD vs i 0)) (fields (drop (i + 1) vs)) ∙ omega arith
 
--- the length of a result sheet, measured
-pub length-measured : (ds : List ℕ) (order : ℕ) (words : List ℕ) → 0 < length ds
+-- and none is left past the last
+pub measure-all : (vs : List ℕ) (i : ℕ) → length vs ≤ i → length (fields (drop i vs)) ≡ 0
+measure-all vs i h = ap length (no-fields vs i h)
+
+-- the length of a result sheet, measured: its two lines, and four bytes a row beside the fields
+pub length-measured : (ds : List ℕ) (order : ℕ) (words : List ℕ) → length ds ≡ 4
     → length (resultText ds order words)
-    ≡ 13 + length (fields ds) + length (decimal order) + 4 * rowCount ds + length (fields (take (volume ds) words))
-length-measured ds order words h =
+    ≡ length (lineOf (shapeLineOf ds)) + length (lineOf (orderLineOf order)) + 4 * rowCount ds + length (fields (take (volume ds) words))
+length-measured ds order words four =
     length-result ds order words
-    ∙ rw (length-head ds order, length-rows (rowCount ds) (rowWidth ds) words, rows-volume ds h) (omega arith)
+    ∙ rw (
+      length-append (line shapeWord ds) (line orderWord (order ∷ [])),
+      length-rows (rowCount ds) (rowWidth ds) words,
+      rows-volume ds (omega arith),
+      take-all 4 ds (omega arith),
+    )
+    (omega arith)

@@ -5,31 +5,26 @@ use mathlib.Core.Bool.{Bool, true, false, cond, _&&_}
 use mathlib.Core.List.{List, [], _∷_, _++_}
 use Prim.Native.Nat.{ℕ, zero, suc, _+_, _-_, _*_, _<_, _≤_}
 use native.Mathlib.Omega.{arith}
-use native.Mathlib.Numerals.{add-one}
 use lib.Dec.{ltb, leb, eqb}
 use lib.ListN.{length, drop, getD, drop-of-length-le}
-use lib.Seq.{drop-cons}
 use borrow.Author.Tests.{le-ltb, lt-ltb, le-leb, lt-leb, eq-eqb, ne-eqb}
+use Rattle.lists.proofs.Front.{drop-next}
 use Rattle.text.specs.Print.{limit, tabByte, lineFeed}
-use Rattle.text.specs.Read.{Found, isDigit, readMore, readNumber, readField}
+use Rattle.text.specs.Read.{Reading, isDigit, readMore, readNumber, readField}
 use Rattle.text.proofs.Numbers.{both-true}
 use Rattle.sheet.specs.Place.{At}
 
-pub at-found : {A : Type 0} {bytes : List ℕ} {what : Found A} {value : A} (next : ℕ) → what ≡ Found.found value (drop next bytes)
+pub at-found : {A : Type 0} {bytes : List ℕ} {what : Reading A} {value : A} (next : ℕ) → what ≡ Reading.found value (drop next bytes)
     → next ≤ length bytes → At bytes what true value next
 at-found next e h = record { right = λ t. e; wrong = λ t. let n : _≡_ {A = ℕ} 0 1 = cc in absurd (omega arith); inside = h }
 
-pub at-none : {A : Type 0} {bytes : List ℕ} {what : Found A} {value : A} → what ≡ Found.none → At bytes what false value 0
+pub at-none : {A : Type 0} {bytes : List ℕ} {what : Reading A} {value : A} → what ≡ Reading.none → At bytes what false value 0
 at-none e = record { right = λ t. let n : _≡_ {A = ℕ} 0 1 = cc in absurd (omega arith); wrong = λ t. e; inside = omega arith }
 
 -- another way to the same reading
-pub at-same : {A : Type 0} {bytes : List ℕ} {what what′ : Found A} {ok : Bool} {value : A} {next : ℕ} → what ≡ what′
+pub at-same : {A : Type 0} {bytes : List ℕ} {what what′ : Reading A} {ok : Bool} {value : A} {next : ℕ} → what ≡ what′
     → At bytes what′ ok value next → At bytes what ok value next
 at-same e h = record { right = λ t. e ∙ h .right t; wrong = λ t. e ∙ h .wrong t; inside = h .inside }
-
--- the byte at a place, then the rest
-pub drop-next : (bytes : List ℕ) (p : ℕ) → p < length bytes → drop p bytes ≡ getD bytes p 0 ∷ drop (p + 1) bytes
-drop-next bytes p h = rw (add-one, drop-cons bytes p 0 h)
 
 digit-yes : (b : ℕ) → 48 ≤ b → b ≤ 57 → isDigit b ≡ true
 digit-yes b h k = both-true (leb 48 b) (leb b 57) (le-leb 48 b h) (le-leb b 57 k)
@@ -41,31 +36,31 @@ digit-above : (b : ℕ) → 57 < b → isDigit b ≡ false
 digit-above b h = rw (le-leb 48 b (omega arith), lt-leb b 57 h)
 
 module _ (bytes : List ℕ) (p : ℕ) where
-  pub more-end : (v : ℕ) → length bytes ≤ p → readMore v (drop p bytes) ≡ Found.found v (drop p bytes)
+  pub more-end : (v : ℕ) → length bytes ≤ p → readMore v (drop p bytes) ≡ Reading.found v (drop p bytes)
   unfolding readMore
   more-end v h = rw (drop-of-length-le bytes {i = p} h)
 
-  pub number-end : length bytes ≤ p → readNumber (drop p bytes) ≡ Found.none
+  pub number-end : length bytes ≤ p → readNumber (drop p bytes) ≡ Reading.none
   unfolding readNumber
   number-end h = rw (drop-of-length-le bytes {i = p} h)
 
-  pub field-end : length bytes ≤ p → readField (drop p bytes) ≡ Found.none
+  pub field-end : length bytes ≤ p → readField (drop p bytes) ≡ Reading.none
   unfolding readField
   field-end h = rw (drop-of-length-le bytes {i = p} h)
 
 module _ (bytes : List ℕ) (p : ℕ) (h : p < length bytes) where
-  more-stop : (v : ℕ) → isDigit (getD bytes p 0) ≡ false → readMore v (drop p bytes) ≡ Found.found v (drop p bytes)
+  more-stop : (v : ℕ) → isDigit (getD bytes p 0) ≡ false → readMore v (drop p bytes) ≡ Reading.found v (drop p bytes)
   unfolding readMore
   more-stop v q = rw (drop-next bytes p h, q)
 
-  pub more-below : (v : ℕ) → getD bytes p 0 < 48 → readMore v (drop p bytes) ≡ Found.found v (drop p bytes)
+  pub more-below : (v : ℕ) → getD bytes p 0 < 48 → readMore v (drop p bytes) ≡ Reading.found v (drop p bytes)
   more-below v k = more-stop v (digit-below (getD bytes p 0) k)
 
-  pub more-above : (v : ℕ) → 57 < getD bytes p 0 → readMore v (drop p bytes) ≡ Found.found v (drop p bytes)
+  pub more-above : (v : ℕ) → 57 < getD bytes p 0 → readMore v (drop p bytes) ≡ Reading.found v (drop p bytes)
   more-above v k = more-stop v (digit-above (getD bytes p 0) k)
 
   pub more-over : (v : ℕ) → 48 ≤ getD bytes p 0 → getD bytes p 0 ≤ 57 → limit < v * 10 + (getD bytes p 0 - 48)
-      → readMore v (drop p bytes) ≡ Found.none
+      → readMore v (drop p bytes) ≡ Reading.none
   unfolding readMore
   more-over v a b k =
       rw (drop-next bytes p h, digit-yes (getD bytes p 0) a b, lt-ltb limit (v * 10 + (getD bytes p 0 - 48)) k)
@@ -76,15 +71,15 @@ module _ (bytes : List ℕ) (p : ℕ) (h : p < length bytes) where
   more-step v a b k =
       rw (drop-next bytes p h, digit-yes (getD bytes p 0) a b, le-ltb limit (v * 10 + (getD bytes p 0 - 48)) k)
 
-  pub number-below : getD bytes p 0 < 48 → readNumber (drop p bytes) ≡ Found.none
+  pub number-below : getD bytes p 0 < 48 → readNumber (drop p bytes) ≡ Reading.none
   unfolding readNumber
   number-below k = rw (drop-next bytes p h, digit-below (getD bytes p 0) k)
 
-  pub number-above : 57 < getD bytes p 0 → readNumber (drop p bytes) ≡ Found.none
+  pub number-above : 57 < getD bytes p 0 → readNumber (drop p bytes) ≡ Reading.none
   unfolding readNumber
   number-above k = rw (drop-next bytes p h, digit-above (getD bytes p 0) k)
 
-  pub number-zero : getD bytes p 0 ≡ 48 → readNumber (drop p bytes) ≡ Found.found 0 (drop (p + 1) bytes)
+  pub number-zero : getD bytes p 0 ≡ 48 → readNumber (drop p bytes) ≡ Reading.found 0 (drop (p + 1) bytes)
   unfolding readNumber
   number-zero k = rw (drop-next bytes p h, k)
 
@@ -93,7 +88,7 @@ module _ (bytes : List ℕ) (p : ℕ) (h : p < length bytes) where
   unfolding readNumber
   number-step a b k = rw (drop-next bytes p h, digit-yes (getD bytes p 0) a b, ne-eqb (getD bytes p 0) 48 k)
 
-  pub field-other : (getD bytes p 0 ≡ tabByte → ⊥) → readField (drop p bytes) ≡ Found.none
+  pub field-other : (getD bytes p 0 ≡ tabByte → ⊥) → readField (drop p bytes) ≡ Reading.none
   unfolding readField
   field-other k = rw (drop-next bytes p h, ne-eqb (getD bytes p 0) tabByte k)
 

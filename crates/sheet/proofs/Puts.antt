@@ -8,7 +8,7 @@ use lib.ListN.{length, set, take, drop, getD, length-append, length-set, length-
 use lib.Seq.{sets, length-sets, length-take-le, getD-take, getD-drop}
 use Rattle.text.specs.Print.{tabByte, decimal, field, fields}
 use Rattle.sheet.specs.Put.{Room, Put}
-use Rattle.sheet.proofs.Places.{drop-next}
+use Rattle.lists.proofs.Front.{drop-next, drop-end}
 use Rattle.sheet.proofs.Stores.{sets-append}
 
 -- what is left, put at p, is the whole text, put at `at`, and the whole text has room
@@ -51,17 +51,26 @@ pub no-fields : (vs : List ℕ) (i : ℕ) → length vs ≤ i → fields (drop i
 unfolding fields
 no-fields vs i h = rw (drop-of-length-le vs {i = i} h)
 
--- n words from a place on
-module _ (words : List ℕ) (from n : ℕ) (fits : from + n ≤ length words) where
-  pub length-part : length (take n (drop from words)) ≡ n
-  length-part = length-take-le n (drop from words) (omega (arith, length-drop from words))
+-- the fields of a list, put one by one: those from entry i on lead to the whole text
+module _ (vs : List ℕ) (i : ℕ) {out₀ : List ℕ} {at : ℕ} {text out : List ℕ} {p : ℕ} (h : Leads out₀ at text out p (fields (drop i vs))) where
+  pub next-room : i < length vs → Room out p (field (getD vs i 0))
+  next-room k = leads-room (field (getD vs i 0)) (fields (drop (i + 1) vs)) (leads-same (fields-next vs i k) h)
 
-  pub words-next : (i : ℕ) → i < n
-      → fields (drop i (take n (drop from words))) ≡ field (getD words (from + i) 0) ++ fields (drop (i + 1) (take n (drop from words)))
-  words-next i h =
-      fields-next (take n (drop from words)) i (omega (arith, length-part))
-      ∙ ap (λ (v : ℕ). field v ++ fields (drop (i + 1) (take n (drop from words))))
-      (getD-take n (drop from words) i 0 h ∙ getD-drop from words i 0)
+  pub next-put : i < length vs → {next : ℕ} {out′ : List ℕ} → Put out p (field (getD vs i 0)) next out′
+      → Leads out₀ at text out′ next (fields (drop (i + 1) vs))
+  next-put k = leads-step (field (getD vs i 0)) (fields (drop (i + 1) vs)) (leads-same (fields-next vs i k) h)
+
+  pub all-put : length vs ≤ i → Put out₀ at text p out
+  all-put k = leads-end (leads-same (no-fields vs i k) h)
+
+-- the bytes of a word, put one by one
+module _ (word : List ℕ) (at i : ℕ) {out₀ : List ℕ} {text out : List ℕ} (h : Leads out₀ at text out (at + i) (drop i word)) where
+  pub next-byte : i < length word → Leads out₀ at text (set out (at + i) (getD word i 0)) (at + (i + 1)) (drop (i + 1) word)
+  next-byte k =
+      leads-step (getD word i 0 ∷ []) (drop (i + 1) word) (leads-same (drop-next word i k) h) (record { place = omega arith; bytes = refl })
+
+  pub all-bytes : i ≡ length word → Put out₀ at text (at + length word) out
+  all-bytes e = rw (← e) (leads-end (leads-same (drop-end word i (omega arith)) h))
 
 -- a field is its tab and its number
 module _ {out : List ℕ} {at : ℕ} (v : ℕ) (r : Room out at (field v)) where

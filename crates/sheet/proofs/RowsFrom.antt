@@ -1,93 +1,95 @@
 -- Rows from a line on: one row more, a wrong row, the end of the rows; and what is stored of them. From the definitions, the count
 -- of rows left going down by one.
 use mathlib.Core.Path.{_≡_, refl, sym, ap, _∙_}
-use mathlib.Core.Bool.{Bool, true, false}
+use mathlib.Core.Bool.{Bool, true, false, not}
 use mathlib.Core.List.{List, [], _∷_, _++_, append-assoc, append-nil}
 use Prim.Native.Nat.{ℕ, zero, suc, _+_, _-_, _*_, _<_, _≤_}
 use native.Mathlib.Omega.{arith}
 use lib.ListN.{length, drop, getD, drop-of-length-le}
+use lib.Seq.{sets}
 use mathlib.Core.Logic.{⊎-elim}
 use Rattle.lists.proofs.Decide.{lt-or-ge}
+use borrow.Author.Tests.{not-true, not-false}
 use Rattle.text.specs.Print.{lineFeed}
-use Rattle.text.specs.Read.{Found, readFields, readLine}
-use Rattle.text.specs.Sheet.{rowWord}
-use Rattle.text.specs.Meaning.{Step, onLine, onward, behind, ended, rowLines}
+use Rattle.text.specs.Read.{Reading, readFields, readLine}
+use Rattle.text.specs.Sheet.{rowWord, rowCount, rowWidth}
+use Rattle.text.specs.Meaning.{Verdict, onLine, onward, behind, ended, rowLines}
 use Rattle.text.proofs.Lines.{fields-text}
 use Rattle.text.proofs.Steps.{behind-go}
-use Rattle.sheet.specs.Place.{RowsAt, RowsThere, There, wordsOf, numbersOf}
-use Rattle.sheet.proofs.Places.{drop-next}
+use Rattle.sheet.specs.Place.{At, RowsAt, RowsThere, RowsTaken, There, wordsOf, numbersOf}
+use Rattle.lists.proofs.Front.{drop-next}
 use Rattle.sheet.proofs.LinesAt.{line-fields}
 
-pub rows-right : {what : Step} {ws : List ℕ} (line : ℕ) → what ≡ Step.go ws [] → RowsAt what true line
-rows-right line e = record { right = λ t. rw e; wrong = λ t. let n : _≡_ {A = ℕ} 0 1 = cc in absurd (omega arith) }
+rows-right : {what : Verdict} {ws : List ℕ} → what ≡ Verdict.go ws [] → RowsAt what 0
+rows-right e = record { right = λ t. rw e; wrong = λ t. absurd (t refl) }
 
-pub rows-wrong : {what : Step} {line : ℕ} → what ≡ Step.refuse 10 line → RowsAt what false line
-rows-wrong e = record { right = λ t. let n : _≡_ {A = ℕ} 0 1 = cc in absurd (omega arith); wrong = λ t. e }
+rows-wrong : {what : Verdict} {line : ℕ} → 0 < line → what ≡ Verdict.refuse 10 line → RowsAt what line
+rows-wrong h e = record { right = λ t. absurd (omega arith); wrong = λ t. e }
 
-pub behind-behind : (ws us : List ℕ) (s : Step) → behind ws (behind us s) ≡ behind (ws ++ us) s
-behind-behind ws us (Step.refuse number place) = refl
-behind-behind ws us (Step.go vs rest) = ap (λ (l : List ℕ). Step.go l rest) (sym (append-assoc ws us vs))
+behind-behind : (ws us : List ℕ) (s : Verdict) → behind ws (behind us s) ≡ behind (ws ++ us) s
+behind-behind ws us (Verdict.refuse number place) = refl
+behind-behind ws us (Verdict.go vs rest) = ap (λ (l : List ℕ). Verdict.go l rest) (sym (append-assoc ws us vs))
 
-pub behind-none : (s : Step) → s ≡ behind [] s
-behind-none (Step.refuse number place) = refl
-behind-none (Step.go vs rest) = refl
+behind-none : (s : Verdict) → s ≡ behind [] s
+behind-none (Verdict.refuse number place) = refl
+behind-none (Verdict.go vs rest) = refl
 
-row-more : (k c n : ℕ) (bs : List ℕ) {us mid : List ℕ} → readLine rowWord n bs ≡ Found.found us mid
+row-more : (k c n : ℕ) (bs : List ℕ) {us mid : List ℕ} → readLine rowWord n bs ≡ Reading.found us mid
     → rowLines k (suc c) n bs ≡ behind us (rowLines (suc k) c n mid)
 unfolding rowLines
 row-more k c n bs e = rw e
 
-row-none : (k c n : ℕ) (bs : List ℕ) → readLine rowWord n bs ≡ Found.none → rowLines k (suc c) n bs ≡ Step.refuse 10 k
+row-none : (k c n : ℕ) (bs : List ℕ) → readLine rowWord n bs ≡ Reading.none → rowLines k (suc c) n bs ≡ Verdict.refuse 10 k
 unfolding rowLines
 row-none k c n bs e = rw e
 
 -- the rows left from row i on, the first row being line 3
-abbrev pub rowsLeft : ℕ → ℕ → ℕ → List ℕ → Step
+abbrev pub rowsLeft : ℕ → ℕ → ℕ → List ℕ → Verdict
 rowsLeft count n i bs = rowLines (3 + i) (count - i) n bs
 
 module _ (count n i : ℕ) (bs : List ℕ) (h : i < count) where
-  pub row-step : {us mid : List ℕ} → readLine rowWord n bs ≡ Found.found us mid → rowsLeft count n i bs ≡ behind us (rowsLeft count n (i + 1) mid)
+  row-step : {us mid : List ℕ} → readLine rowWord n bs ≡ Reading.found us mid → rowsLeft count n i bs ≡ behind us (rowsLeft count n (i + 1) mid)
   row-step {us} {mid} e =
       let a : count - i ≡ suc (count - (i + 1)) = omega arith in
       let b : suc (3 + i) ≡ 3 + (i + 1) = omega arith in
       rw (a, ← b) (row-more (3 + i) (count - (i + 1)) n bs e)
 
-  pub row-bad : readLine rowWord n bs ≡ Found.none → rowsLeft count n i bs ≡ Step.refuse 10 (i + 3)
+  row-bad : readLine rowWord n bs ≡ Reading.none → rowsLeft count n i bs ≡ Verdict.refuse 10 (i + 3)
   row-bad e =
       let a : count - i ≡ suc (count - (i + 1)) = omega arith in
       let b : 3 + i ≡ i + 3 = omega arith in
-      rw a (row-none (3 + i) (count - (i + 1)) n bs e ∙ ap (Step.refuse 10) b)
+      rw a (row-none (3 + i) (count - (i + 1)) n bs e ∙ ap (Verdict.refuse 10) b)
 
 module _ (count n : ℕ) (bytes : List ℕ) (p : ℕ) where
   rows-over : rowsLeft count n count (drop p bytes) ≡ ended (3 + count) (drop p bytes)
   unfolding rowLines
   rows-over = let a : count - count ≡ 0 = omega arith in rw a
 
-  pub rows-end : length bytes ≤ p → rowsLeft count n count (drop p bytes) ≡ Step.go [] []
+  rows-end : length bytes ≤ p → rowsLeft count n count (drop p bytes) ≡ Verdict.go [] []
   unfolding ended
   rows-end h = rows-over ∙ rw (drop-of-length-le bytes {i = p} h)
 
-  pub rows-left-over : p < length bytes → rowsLeft count n count (drop p bytes) ≡ Step.refuse 10 (count + 3)
+  rows-left-over : p < length bytes → rowsLeft count n count (drop p bytes) ≡ Verdict.refuse 10 (count + 3)
   unfolding ended
   rows-left-over h =
       let b : 3 + count ≡ count + 3 = omega arith in
-      rows-over ∙ rw (drop-next bytes p h) (ap (Step.refuse 10) b)
+      rows-over ∙ rw (drop-next bytes p h) (ap (Verdict.refuse 10) b)
 
 -- a row that is right, taken from the rows left
 row-taken : (count n i : ℕ) (bs : List ℕ) {C : Type 0} → i < count → RowsThere (rowsLeft count n i bs)
-    → ((us mid : List ℕ) → readLine rowWord n bs ≡ Found.found us mid → RowsThere (rowsLeft count n (i + 1) mid)
+    → ((us mid : List ℕ) → readLine rowWord n bs ≡ Reading.found us mid → RowsThere (rowsLeft count n (i + 1) mid)
     → wordsOf (rowsLeft count n i bs) ≡ us ++ wordsOf (rowsLeft count n (i + 1) mid) → C) → C
 row-taken count n i bs {C} h t k = by (readLine rowWord n bs) refl
   where
-    by : (x : Found (List ℕ)) → readLine rowWord n bs ≡ x → C
-    by Found.none e =
-        let z : Step.refuse 10 (i + 3) ≡ Step.go (wordsOf (rowsLeft count n i bs)) [] = sym (row-bad count n i bs h e) ∙ t .rows in
+    by : (x : Reading (List ℕ)) → readLine rowWord n bs ≡ x → C
+    by Reading.none e =
+        let z : Verdict.refuse 10 (i + 3) ≡ Verdict.go (wordsOf (rowsLeft count n i bs)) [] = sym (row-bad count n i bs h e) ∙ t .rows in
         let q : _≡_ {A = ℕ} 0 1 = cc in
         absurd (omega arith)
-    by (Found.found us mid) e =
+    by (Reading.found us mid) e =
         let s = row-step count n i bs h e in
         behind-go us (rowsLeft count n (i + 1) mid) (sym s ∙ t .rows)
-        (λ vs e₁ e₂. k us mid e (record { rows = rw e₁ }) (e₂ ∙ ap (λ (x : Step). us ++ wordsOf x) (sym e₁)))
+        (λ vs e₁ e₂. k us mid e (record { rows = rw e₁ }) (e₂ ∙ ap (λ (x : Verdict). us ++ wordsOf x) (sym e₁)))
 
 -- what follows a byte at a place
 past-byte : (bytes : List ℕ) (r : ℕ) {b : ℕ} {mid : List ℕ} → drop r bytes ≡ b ∷ mid → (r + 1 ≤ length bytes) × (drop (r + 1) bytes ≡ mid)
@@ -104,7 +106,7 @@ past-byte bytes r {b} {mid} e =
     (lt-or-ge r (length bytes))
 
 -- the fields of the row at a place of rows that are right
-abbrev pub rowFields : List ℕ → ℕ → ℕ → Found (List ℕ)
+abbrev pub rowFields : List ℕ → ℕ → ℕ → Reading (List ℕ)
 rowFields bytes n p = readFields n (drop (p + 3) bytes)
 
 -- the row at a place is right; behind it, past its LF, stand the rows left
@@ -112,7 +114,7 @@ pub record RowAt (bytes : List ℕ) (count n i p : ℕ) : Type 0 where
   pub inside : p + 3 ≤ length bytes
   pub there : There (rowFields bytes n p)
   pub long : length (numbersOf (rowFields bytes n p)) ≡ n
-  pub onwards : (r : ℕ) → rowFields bytes n p ≡ Found.found (numbersOf (rowFields bytes n p)) (drop r bytes)
+  pub onwards : (r : ℕ) → rowFields bytes n p ≡ Reading.found (numbersOf (rowFields bytes n p)) (drop r bytes)
       → (r + 1 ≤ length bytes) × RowsThere (rowsLeft count n (i + 1) (drop (r + 1) bytes))
       × (wordsOf (rowsLeft count n i (drop p bytes)) ≡ numbersOf (rowFields bytes n p) ++ wordsOf (rowsLeft count n (i + 1) (drop (r + 1) bytes)))
 
@@ -121,13 +123,13 @@ row-at bytes count n i p h inside t =
     row-taken count n i (drop p bytes) h t
     (λ us mid e₁ e₂ e₃.
     let f = line-fields bytes p rowWord n inside e₁ in
-    let found : rowFields bytes n p ≡ Found.found us (lineFeed ∷ mid) = f .1 in
+    let found : rowFields bytes n p ≡ Reading.found us (lineFeed ∷ mid) = f .1 in
     record {
       inside = f .0;
       there = record { found = rw found };
       long = rw found (fields-text n (drop (p + 3) bytes) found .long);
       onwards = λ r e.
-          let z : Found.found us (lineFeed ∷ mid) ≡ Found.found us (drop r bytes) = rw found at e in
+          let z : Reading.found us (lineFeed ∷ mid) ≡ Reading.found us (drop r bytes) = rw found at e in
           let d : lineFeed ∷ mid ≡ drop r bytes = cc in
           let b = past-byte bytes r (sym d) in
           rw (b .1, found) (b .0, e₂, e₃);
@@ -146,3 +148,47 @@ ended-words k (b ∷ bs) = refl
 pub no-words : (count n : ℕ) (bs : List ℕ) → wordsOf (rowsLeft count n count bs) ≡ []
 unfolding rowLines
 no-words count n bs = let a : count - count ≡ 0 = omega arith in rw a (ended-words (3 + count) bs)
+
+-- the rows of a block whose count and width are given by other numbers: wrong and kept, or right and stored
+module _ (ds : List ℕ) (bs : List ℕ) {count n : ℕ} (e : count ≡ rowCount ds) (w : n ≡ rowWidth ds) {words : List ℕ} {line : ℕ}
+    (j : RowsAt (rowLines 3 count n bs) line) where
+  pub rows-kept : (line ≡ 0 → ⊥) → RowsTaken (rowLines 3 (rowCount ds) (rowWidth ds) bs) line words words
+  rows-kept z = rw (← e, ← w) (record { judged = j; stored = λ t. absurd (z t); kept = λ _. refl })
+
+  pub rows-stored : line ≡ 0 → {words′ : List ℕ} → words′ ≡ sets words 0 (wordsOf (rowLines 3 count n bs))
+      → RowsTaken (rowLines 3 (rowCount ds) (rowWidth ds) bs) 0 words words′
+  rows-stored z s = rw (← e, ← w) (record { judged = rw z at j; stored = λ _. s; kept = λ t. absurd (t refl) })
+
+-- judging rows one by one: the words of those passed stand before what those left read as
+pub record Passed (bytes : List ℕ) (at count n p i : ℕ) : Type 0 where
+  pub words : List ℕ
+  pub left : rowLines 3 count n (drop at bytes) ≡ behind words (rowsLeft count n i (drop p bytes))
+
+module _ (bytes : List ℕ) (at count n : ℕ) where
+  pub none-passed : Passed bytes at count n at 0
+  none-passed =
+      let z : count - 0 ≡ count = omega arith in
+      record { words = []; left = rw z (behind-none (rowLines 3 count n (drop at bytes))) }
+
+  module _ (p i : ℕ) (h : Passed bytes at count n p i) where
+    module _ {ok : Bool} {next : ℕ} (l : At bytes (readLine rowWord n (drop p bytes)) ok (numbersOf (readLine rowWord n (drop p bytes))) next) where
+      pub one-passed : not ok ≡ false → i < count → Passed bytes at count n next (i + 1)
+      one-passed o k =
+          let us = numbersOf (readLine rowWord n (drop p bytes)) in
+          record {
+            words = h .words ++ us;
+            left =
+                h .left
+                ∙ ap (behind (h .words)) (row-step count n i (drop p bytes) k (l .right (not-false ok o)))
+                ∙ behind-behind (h .words) us (rowsLeft count n (i + 1) (drop next bytes));
+          }
+
+      pub wrong-row : not ok ≡ true → i < count → RowsAt (rowLines 3 count n (drop at bytes)) (i + 3)
+      wrong-row o k = rows-wrong (omega arith) (h .left ∙ rw (row-bad count n i (drop p bytes) k (l .wrong (not-true ok o))))
+
+    pub left-over : i ≡ count → p < length bytes → RowsAt (rowLines 3 count n (drop at bytes)) (count + 3)
+    left-over e k =
+        rows-wrong (omega arith) (h .left ∙ rw e (ap (behind (h .words)) (rows-left-over count n bytes p k)))
+
+    pub all-passed : i ≡ count → length bytes ≤ p → RowsAt (rowLines 3 count n (drop at bytes)) 0
+    all-passed e k = rows-right {ws = h .words ++ []} (h .left ∙ rw e (ap (behind (h .words)) (rows-end count n bytes p k)))

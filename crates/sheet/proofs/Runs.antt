@@ -6,45 +6,47 @@ use native.Mathlib.Omega.{arith}
 use native.Mathlib.Nat.{le-of-suc-le-suc}
 use native.Mathlib.Numerals.{add-one}
 use lib.ListN.{length, drop}
-use mathlib.Core.Bool.{Bool}
-use Rattle.text.specs.Read.{Found, after, readField, readFields}
-use Rattle.text.proofs.Numbers.{decided}
+use mathlib.Core.Bool.{Bool, false, true, not}
+use borrow.Author.Tests.{not-true, not-false}
+use Rattle.text.specs.Read.{Reading, after, readField, readFields}
+use Rattle.lists.proofs.Decide.{decided}
 use Rattle.text.proofs.Lines.{after-found}
 use Rattle.sheet.specs.Place.{At, There, numbersOf}
+use Rattle.sheet.proofs.Places.{at-none}
 
 -- what was found is found with its own numbers
-pub got : {x : Found (List ℕ)} {vs rest : List ℕ} → x ≡ Found.found vs rest → x ≡ Found.found (numbersOf x) rest
+pub got : {x : Reading (List ℕ)} {vs rest : List ℕ} → x ≡ Reading.found vs rest → x ≡ Reading.found (numbersOf x) rest
 got e = rw e
 
-pub no-field : (bs : List ℕ) → readFields 0 bs ≡ Found.found [] bs
+pub no-field : (bs : List ℕ) → readFields 0 bs ≡ Reading.found [] bs
 unfolding readFields
 no-field bs = refl
 
-fields-then : (v : ℕ) (bs : List ℕ) {mid : List ℕ} (n : ℕ) → readField bs ≡ Found.found v mid
-    → readFields (suc n) bs ≡ after (readFields n mid) (λ (vs : List ℕ) (rest : List ℕ). Found.found (v ∷ vs) rest)
+fields-then : (v : ℕ) (bs : List ℕ) {mid : List ℕ} (n : ℕ) → readField bs ≡ Reading.found v mid
+    → readFields (suc n) bs ≡ after (readFields n mid) (λ (vs : List ℕ) (rest : List ℕ). Reading.found (v ∷ vs) rest)
 unfolding readFields
 fields-then v bs n e = rw e
 
-no-fields : (bs : List ℕ) (n : ℕ) → readField bs ≡ Found.none → readFields (suc n) bs ≡ Found.none
+no-fields : (bs : List ℕ) (n : ℕ) → readField bs ≡ Reading.none → readFields (suc n) bs ≡ Reading.none
 unfolding readFields
 no-fields bs n e = rw e
 
 -- n fields after one: the one and the others
-fields-taken : (n : ℕ) (bs : List ℕ) {vs mid : List ℕ} {C : Type 0} → readFields (suc n) bs ≡ Found.found vs mid
-    → ((u : ℕ) (us start : List ℕ) → readField bs ≡ Found.found u start → readFields n start ≡ Found.found us mid → vs ≡ u ∷ us → C) → C
+fields-taken : (n : ℕ) (bs : List ℕ) {vs mid : List ℕ} {C : Type 0} → readFields (suc n) bs ≡ Reading.found vs mid
+    → ((u : ℕ) (us start : List ℕ) → readField bs ≡ Reading.found u start → readFields n start ≡ Reading.found us mid → vs ≡ u ∷ us → C) → C
 unfolding readFields
 fields-taken n bs {vs} {mid} e k =
-    after-found (readField bs) (λ (u : ℕ) (start : List ℕ). after (readFields n start) (λ (us : List ℕ) (end : List ℕ). Found.found (u ∷ us) end)) e
-    (λ u start e₁ e₂. after-found (readFields n start) (λ (us : List ℕ) (end : List ℕ). Found.found (u ∷ us) end) e₂
+    after-found (readField bs) (λ (u : ℕ) (start : List ℕ). after (readFields n start) (λ (us : List ℕ) (end : List ℕ). Reading.found (u ∷ us) end)) e
+    (λ u start e₁ e₂. after-found (readFields n start) (λ (us : List ℕ) (end : List ℕ). Reading.found (u ∷ us) end) e₂
     (λ us end e₃ e₄.
     let a : u ∷ us ≡ vs = cc in
     let b : end ≡ mid = cc in
-    k u us start e₁ (e₃ ∙ ap (Found.found us) b) (sym a)))
+    k u us start e₁ (e₃ ∙ ap (Reading.found us) b) (sym a)))
 
-fields-suc : (i : ℕ) (bs : List ℕ) {vs mid : List ℕ} {v : ℕ} {rest : List ℕ} → readFields i bs ≡ Found.found vs mid
-    → readField mid ≡ Found.found v rest → readFields (suc i) bs ≡ Found.found (vs ++ (v ∷ [])) rest
+fields-suc : (i : ℕ) (bs : List ℕ) {vs mid : List ℕ} {v : ℕ} {rest : List ℕ} → readFields i bs ≡ Reading.found vs mid
+    → readField mid ≡ Reading.found v rest → readFields (suc i) bs ≡ Reading.found (vs ++ (v ∷ [])) rest
 fields-suc zero bs {vs} {mid} {v} {rest} e f =
-    let z : Found.found [] bs ≡ Found.found vs mid = sym (no-field bs) ∙ e in
+    let z : Reading.found [] bs ≡ Reading.found vs mid = sym (no-field bs) ∙ e in
     let a : [] ≡ vs = cc in
     let b : bs ≡ mid = cc in
     rw (← a, b) (fields-then v mid 0 f ∙ rw (no-field rest))
@@ -52,12 +54,12 @@ fields-suc (suc i) bs {vs} {mid} {v} {rest} e f =
     fields-taken i bs e
     (λ u us start e₁ e₂ e₃. rw e₃ (fields-then u bs (suc i) e₁ ∙ rw (fields-suc i start e₂ f)))
 
-pub fields-more : (i : ℕ) (bs : List ℕ) {vs mid : List ℕ} {v : ℕ} {rest : List ℕ} → readFields i bs ≡ Found.found vs mid
-    → readField mid ≡ Found.found v rest → readFields (i + 1) bs ≡ Found.found (vs ++ (v ∷ [])) rest
+pub fields-more : (i : ℕ) (bs : List ℕ) {vs mid : List ℕ} {v : ℕ} {rest : List ℕ} → readFields i bs ≡ Reading.found vs mid
+    → readField mid ≡ Reading.found v rest → readFields (i + 1) bs ≡ Reading.found (vs ++ (v ∷ [])) rest
 fields-more i bs e f = rw add-one (fields-suc i bs e f)
 
-pub fields-stop : (i n : ℕ) (bs : List ℕ) {vs mid : List ℕ} → readFields i bs ≡ Found.found vs mid → readField mid ≡ Found.none → i < n
-    → readFields n bs ≡ Found.none
+pub fields-stop : (i n : ℕ) (bs : List ℕ) {vs mid : List ℕ} → readFields i bs ≡ Reading.found vs mid → readField mid ≡ Reading.none → i < n
+    → readFields n bs ≡ Reading.none
 unfolding readFields
 fields-stop i zero bs e f h = absurd (omega arith)
 fields-stop zero (suc n) bs {vs} {mid} e f h = let b : mid ≡ bs = cc in no-fields bs n (rw b at f)
@@ -66,15 +68,25 @@ fields-stop (suc i) (suc n) bs e f h =
     (λ u us start e₁ e₂ e₃. fields-then u bs n e₁ ∙ rw (fields-stop i n start e₂ f (le-of-suc-le-suc h)))
 
 -- among n fields that were read, each stands in its place
-pub field-there : (i n : ℕ) (bs : List ℕ) {us end vs mid : List ℕ} → readFields n bs ≡ Found.found us end → i < n → readFields i bs ≡ Found.found vs mid
-    → readField mid ≡ Found.none → ⊥
+pub field-there : (i n : ℕ) (bs : List ℕ) {us end vs mid : List ℕ} → readFields n bs ≡ Reading.found us end → i < n → readFields i bs ≡ Reading.found vs mid
+    → readField mid ≡ Reading.none → ⊥
 field-there i n bs {us} {end} e h f g =
-    let a : Found.none ≡ Found.found us end = sym (fields-stop i n bs f g h) ∙ e in
+    let a : Reading.none ≡ Reading.found us end = sym (fields-stop i n bs f g h) ∙ e in
     let z : _≡_ {A = ℕ} 0 1 = cc in
     omega arith
 
 -- so a field that is read again is found again
 pub taken-field : (i n : ℕ) (bs : List ℕ) {vs mid bytes : List ℕ} (ok : Bool) {value next : ℕ} → There (readFields n bs) → i < n
-    → readFields i bs ≡ Found.found vs mid → At bytes (readField mid) ok value next → readField mid ≡ Found.found value (drop next bytes)
+    → readFields i bs ≡ Reading.found vs mid → At bytes (readField mid) ok value next → readField mid ≡ Reading.found value (drop next bytes)
 taken-field i n bs ok t h e a =
     decided ok (λ q. a .right q) (λ q. absurd (field-there i n bs (t .found) h e (a .wrong q)))
+
+-- the next field of a run, by what was found at its place
+module _ (i : ℕ) {bytes : List ℕ} {ok : Bool} {value next : ℕ} where
+  pub next-field : (bs : List ℕ) {vs mid : List ℕ} → readFields i bs ≡ Reading.found vs mid → At bytes (readField mid) ok value next → not ok ≡ false
+      → readFields (i + 1) bs ≡ Reading.found (numbersOf (readFields (i + 1) bs)) (drop next bytes)
+  next-field bs e a o = got (fields-more i bs e (a .right (not-false ok o)))
+
+  pub no-next-field : (n : ℕ) (bs : List ℕ) {vs mid us : List ℕ} → readFields i bs ≡ Reading.found vs mid → At bytes (readField mid) ok value next
+      → not ok ≡ true → i < n → At bytes (readFields n bs) false us 0
+  no-next-field n bs e a o h = at-none (fields-stop i n bs e (a .wrong (not-true ok o)) h)

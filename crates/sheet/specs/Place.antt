@@ -1,62 +1,83 @@
--- What the private functions that read at a place promise. Assumes nothing: these are definitions.
+-- These definitions serve only the contracts of private functions: a reader of the promises can pass over them.
+-- What the functions that read at a place promise. Assumes nothing.
 use mathlib.Core.Path.{_≡_}
 use mathlib.Core.Bool.{Bool, true, false}
 use mathlib.Core.List.{List, []}
 use Prim.Native.Nat.{ℕ, _≤_}
 use lib.ListN.{length, drop}
 use lib.Seq.{sets}
-use Rattle.text.specs.Read.{Found}
-use Rattle.text.specs.Meaning.{Step}
+use Rattle.layout.specs.Layout.{volume}
+use Rattle.refusals.specs.Conditions.{badLength}
+use Rattle.text.specs.Read.{Reading}
+use Rattle.text.specs.Meaning.{Verdict}
 use Rattle.sheet.specs.Swaps.{padded}
 
 -- where it is ok, what was found is the value, with the bytes from `next` on after it; else nothing was found
-pub record At {A : Type 0} (bytes : List ℕ) (what : Found A) (ok : Bool) (value : A) (next : ℕ) : Type 0 where
-  pub right : ok ≡ true → what ≡ Found.found value (drop next bytes)
-  pub wrong : ok ≡ false → what ≡ Found.none
+pub record At {A : Type 0} (bytes : List ℕ) (what : Reading A) (ok : Bool) (value : A) (next : ℕ) : Type 0 where
+  pub right : ok ≡ true → what ≡ Reading.found value (drop next bytes)
+  pub wrong : ok ≡ false → what ≡ Reading.none
   pub inside : next ≤ length bytes
 
 -- the numbers that were found, none where nothing was
-abbrev pub numbersOf : Found (List ℕ) → List ℕ
-numbersOf Found.none = []
-numbersOf (Found.found vs rest) = vs
+abbrev pub numbersOf : Reading (List ℕ) → List ℕ
+numbersOf Reading.none = []
+numbersOf (Reading.found vs rest) = vs
 
 -- the bytes after what was found
-abbrev pub restOf : {A : Type 0} → Found A → List ℕ
-restOf Found.none = []
-restOf (Found.found a rest) = rest
+abbrev pub restOf : {A : Type 0} → Reading A → List ℕ
+restOf Reading.none = []
+restOf (Reading.found a rest) = rest
 
 -- something was found
-pub record There (what : Found (List ℕ)) : Type 0 where
-  pub found : what ≡ Found.found (numbersOf what) (restOf what)
+pub record There (what : Reading (List ℕ)) : Type 0 where
+  pub found : what ≡ Reading.found (numbersOf what) (restOf what)
 
 -- the numbers that were found are stored in words from `from` on, and the bytes from `next` on follow them
-pub record Copied (bytes : List ℕ) (what : Found (List ℕ)) (next : ℕ) (words : List ℕ) (from : ℕ) (words′ : List ℕ) : Type 0 where
-  pub read : what ≡ Found.found (numbersOf what) (drop next bytes)
+pub record Copied (bytes : List ℕ) (what : Reading (List ℕ)) (next : ℕ) (words : List ℕ) (from : ℕ) (words′ : List ℕ) : Type 0 where
+  pub read : what ≡ Reading.found (numbersOf what) (drop next bytes)
   pub inside : next ≤ length bytes
   pub stored : words′ ≡ sets words from (numbersOf what)
 
--- the words of a step that went on, none of a refusal
-abbrev pub wordsOf : Step → List ℕ
-wordsOf (Step.refuse number place) = []
-wordsOf (Step.go vs rest) = vs
+-- the words of a verdict that went on, none of a refusal
+abbrev pub wordsOf : Verdict → List ℕ
+wordsOf (Verdict.refuse number place) = []
+wordsOf (Verdict.go vs rest) = vs
 
 -- the rows are right, and nothing follows them
-pub record RowsThere (what : Step) : Type 0 where
-  pub rows : what ≡ Step.go (wordsOf what) []
+pub record RowsThere (what : Verdict) : Type 0 where
+  pub rows : what ≡ Verdict.go (wordsOf what) []
 
--- where it is ok, the rows are right and nothing follows them; else the line is malformed, missing or left over
-pub record RowsAt (what : Step) (ok : Bool) (line : ℕ) : Type 0 where
-  pub right : ok ≡ true → what ≡ Step.go (wordsOf what) []
-  pub wrong : ok ≡ false → what ≡ Step.refuse 10 line
+-- where the line is 0, the rows are right and nothing follows them; else that line is malformed, missing or left over
+pub record RowsAt (what : Verdict) (line : ℕ) : Type 0 where
+  pub right : line ≡ 0 → what ≡ Verdict.go (wordsOf what) []
+  pub wrong : (line ≡ 0 → ⊥) → what ≡ Verdict.refuse 10 line
 
--- where the number is 0, the step went on with the values, and the bytes from `next` on follow them; else it refused so
-pub record StepAt (bytes : List ℕ) (what : Step) (number place : ℕ) (values : List ℕ) (next : ℕ) : Type 0 where
-  pub right : number ≡ 0 → what ≡ Step.go values (drop next bytes)
-  pub wrong : (number ≡ 0 → ⊥) → what ≡ Step.refuse number place
+-- rows that are right are stored from the start of the words; else no word is stored
+pub record RowsTaken (what : Verdict) (line : ℕ) (words words′ : List ℕ) : Type 0 where
+  pub judged : RowsAt what line
+  pub stored : line ≡ 0 → words′ ≡ sets words 0 (wordsOf what)
+  pub kept : (line ≡ 0 → ⊥) → words′ ≡ words
+
+-- a block that a sheet may have, for which the word buffer has room
+pub record OnSheet (ds words : List ℕ) : Type 0 where
+  pub lengths : badLength ds ≡ false
+  pub few : volume ds ≤ 1024
+  pub enough : volume ds ≤ length words
+
+-- a refusal with the number k and the place p; no bytes follow it
+pub record RefusedWith (k p number place next : ℕ) : Type 0 where
+  pub numbered : number ≡ k
+  pub placed : place ≡ p
+  pub ended : next ≡ 0
+
+-- where the number is 0, the verdict went on with the values, and the bytes from `next` on follow them; else it is this refusal
+pub record VerdictAt (bytes : List ℕ) (what : Verdict) (number place : ℕ) (values : List ℕ) (next : ℕ) : Type 0 where
+  pub right : number ≡ 0 → what ≡ Verdict.go values (drop next bytes)
+  pub wrong : (number ≡ 0 → ⊥) → what ≡ Verdict.refuse number place
   pub inside : next ≤ length bytes
 
 -- the chain that was read stands before the zeros of the swaps, which it counts
-pub record ChainAt (bytes : List ℕ) (what : Step) (number place : ℕ) (swaps : List ℕ) (count next : ℕ) : Type 0 where
-  pub step : StepAt bytes what number place (wordsOf what) next
+pub record ChainAt (bytes : List ℕ) (what : Verdict) (number place : ℕ) (swaps : List ℕ) (count next : ℕ) : Type 0 where
+  pub step : VerdictAt bytes what number place (wordsOf what) next
   pub padded : number ≡ 0 → swaps ≡ padded (wordsOf what)
   pub counted : number ≡ 0 → count ≡ length (wordsOf what)

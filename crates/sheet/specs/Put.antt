@@ -1,4 +1,5 @@
--- What the private functions that put bytes into a buffer promise. Assumes nothing: these are definitions.
+-- These definitions serve only the contracts of private functions: a reader of the promises can pass over them.
+-- What the functions that put bytes into a buffer promise. Assumes nothing.
 use mathlib.Core.Path.{_≡_}
 use mathlib.Core.List.{List}
 use Prim.Native.Nat.{ℕ, _+_, _≤_}

@@ -1,14 +1,13 @@
 -- What the writer answers and writes. Assumes nothing: these are definitions.
 use mathlib.Core.Path.{_≡_}
-use mathlib.Core.Bool.{Bool, false, cond}
+use mathlib.Core.Bool.{Bool, cond}
 use mathlib.Core.List.{List, [], _∷_, _++_}
-use Prim.Native.Nat.{ℕ, _≤_}
+use Prim.Native.Nat.{ℕ}
 use lib.Dec.{ltb, eqb}
 use lib.ListN.{length, drop}
-use Rattle.layout.specs.Layout.{volume}
 use Rattle.refusals.specs.FirstOf.{Check, check, firstOf}
 use Rattle.refusals.specs.Conditions.{badLength, shortBuffer, noOrder}
-use Rattle.text.specs.Sheet.{rowCount, resultText}
+use Rattle.text.specs.Sheet.{resultText}
 use Rattle.text.specs.Meaning.{bigSheet}
 use Rattle.sheet.specs.declared.Written.{Written}
 
@@ -16,11 +15,14 @@ use Rattle.sheet.specs.declared.Written.{Written}
 abbrev pub shortBytes : List ℕ → List ℕ → Bool
 shortBytes text out = ltb (length out) (length text)
 
+-- a sheet's block in a word buffer: 1, 11, 3
+abbrev pub sheetChecks : List ℕ → List ℕ → List Check
+sheetChecks ds words = check 1 (badLength ds) ∷ check 11 (bigSheet ds) ∷ check 3 (shortBuffer ds words) ∷ []
+
 -- sheet writer: 1, 11, 3, 7, 24
 abbrev pub writerChecks : List ℕ → ℕ → List ℕ → List ℕ → List Check
 writerChecks ds order words out =
-    check 1 (badLength ds) ∷ check 11 (bigSheet ds) ∷ check 3 (shortBuffer ds words) ∷ check 7 (noOrder 4 order)
-    ∷ check 24 (shortBytes (resultText ds order words) out) ∷ []
+    sheetChecks ds words ++ (check 7 (noOrder 4 order) ∷ check 24 (shortBytes (resultText ds order words) out) ∷ [])
 
 -- the number that the writer answers
 abbrev pub writerNumber : List ℕ → ℕ → List ℕ → List ℕ → ℕ
@@ -42,12 +44,3 @@ writtenTo number text out = cond (eqb number 0) (text ++ drop (length text) out)
 pub record WrittenAs (ds : List ℕ) (order : ℕ) (words out : List ℕ) (answered : Written) (out′ : List ℕ) : Type 0 where
   pub answers : answered ≡ written (writerNumber ds order words out) (resultText ds order words)
   pub bytes : out′ ≡ writtenTo (writerNumber ds order words out) (resultText ds order words) out
-
--- what is known once 1, 11, 3 and 7 do not hold: the block's words and rows
-pub record Measured (ds : List ℕ) (order : ℕ) (words : List ℕ) (size rows : ℕ) : Type 0 where
-  pub lengths : badLength ds ≡ false
-  pub few : size ≤ 1024
-  pub room : size ≤ length words
-  pub ordered : order ≤ 23
-  pub sized : size ≡ volume ds
-  pub counted : rows ≡ rowCount ds

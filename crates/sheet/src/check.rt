@@ -1,55 +1,21 @@
-// The conditions that the reader and the writer share: private to the library.
+// The checks of a sheet's block, which the reader and the writer share: private to the library.
 ghost use mathlib.Core.Path.{_≡_};
-ghost use mathlib.Core.Bool.{false};
-ghost use Prim.Native.Nat.{_≤_};
-ghost use lib.ListN.{take};
-ghost use Rattle.layout.specs.Layout.{volume};
-ghost use Rattle.refusals.specs.Conditions.{badLength, firstPlace, noSwap};
-ghost use Rattle.text.specs.Sheet.{rowCount};
+ghost use Rattle.refusals.specs.FirstOf.{firstOf};
+ghost use Rattle.sheet.specs.Writer.{sheetChecks};
 
-// Whether an axis length is 0 or above 4,096.
-pub(crate) fn bad_length(lens: [usize; 4]) -> bool
-    ensures { λ r. ⌜ r ≡ badLength lens ⌝ }
+// The first of the checks 1, 11 and 3 that holds, else 0.
+pub(crate) fn sheet_number(lens: &[usize], words: &[u32]) -> u32
+    ensures { λ r. ⌜ r ≡ firstOf (sheetChecks (now (lens .entry)) (now (words .entry))) ⌝ }
 {
-    for i in 0..4 {
-        if lens[i] == 0 {
-            return true;
-        }
-        if 4096 < lens[i] {
-            return true;
-        }
+    if checks::bad_length(lens) {
+        return 1;
     }
-    false
-}
-
-// The words of a block.
-pub(crate) fn volume_of(lens: [usize; 4]) -> usize
-    requires { ⌜ badLength lens ≡ false ⌝ }
-    ensures { λ r. ⌜ r ≡ volume lens ⌝ }
-{
-    let chunk = lens[2] * lens[3];
-    let plane = lens[1] * chunk;
-    lens[0] * plane
-}
-
-// The rows of a block.
-pub(crate) fn row_count(lens: [usize; 4]) -> usize
-    requires { ⌜ badLength lens ≡ false ⌝ }
-    ensures { λ r. ⌜ r ≡ rowCount lens ⌝ }
-{
-    let plane = lens[1] * lens[2];
-    lens[0] * plane
-}
-
-// The place of the first swap above 2, n where there is none.
-pub(crate) fn first_bad(swaps: [usize; 32], n: usize) -> usize
-    requires { ⌜ n ≤ 32 ⌝ }
-    ensures { λ r. ⌜ r ≡ firstPlace (noSwap 4) (take n swaps) ⌝ }
-{
-    for i in 0..n {
-        if 2 < swaps[i] {
-            return i;
-        }
+    let size = checks::words_of(lens);
+    if 1024 < size {
+        return 11;
     }
-    n
+    if words.len() < size {
+        return 3;
+    }
+    0
 }

@@ -2,12 +2,10 @@
 use crate::check;
 use crate::line;
 use crate::values;
-ghost use mathlib.Core.Path.{_≡_};
-ghost use mathlib.Core.List.{List};
-ghost use Prim.Native.Nat.{ℕ, _≤_};
+ghost use Prim.Native.Nat.{_≤_};
 ghost use lib.ListN.{length, drop};
 ghost use Rattle.text.specs.Meaning.{shapeLine, chainLine};
-ghost use Rattle.sheet.specs.Place.{StepAt, ChainAt};
+ghost use Rattle.sheet.specs.Place.{RefusedWith, VerdictAt, ChainAt};
 
 // Line 1 as it was read: a number and a place, or the lengths and the place after the line.
 pub struct Shape {
@@ -27,7 +25,7 @@ pub struct Chain {
 }
 
 fn no_shape(number: u32, place: usize) -> Shape
-    ensures { λ r. ⌜ (r .number ≡ number) × (r .place ≡ place) × (r .next ≡ 0) ⌝ }
+    ensures { λ r. ⌜ RefusedWith number place (r .number) (r .place) (r .next) ⌝ }
 {
     Shape {
         number,
@@ -38,7 +36,7 @@ fn no_shape(number: u32, place: usize) -> Shape
 }
 
 fn no_chain(number: u32, place: usize) -> Chain
-    ensures { λ r. ⌜ (r .number ≡ number) × (r .place ≡ place) × (r .next ≡ 0) ⌝ }
+    ensures { λ r. ⌜ RefusedWith number place (r .number) (r .place) (r .next) ⌝ }
 {
     Chain {
         number,
@@ -49,9 +47,9 @@ fn no_chain(number: u32, place: usize) -> Chain
     }
 }
 
-// Line 1, for a word buffer of `room` words.
-pub(crate) fn shape_at(bytes: &[u8], room: usize) -> Shape
-    ensures { λ r. ⌜ ((buffer : List ℕ) → length buffer ≡ room → StepAt (now (bytes .entry)) (shapeLine buffer (now (bytes .entry))) (r .number) (r .place) (r .lens) (r .next)) ⌝ }
+// Line 1, for this word buffer.
+pub(crate) fn shape_at(bytes: &[u8], words: &[u32]) -> Shape
+    ensures { λ r. ⌜ VerdictAt (now (bytes .entry)) (shapeLine (now (words .entry)) (now (bytes .entry))) (r .number) (r .place) (r .lens) (r .next) ⌝ }
 {
     if 16384 < bytes.len() {
         return no_shape(9, 0);
@@ -62,15 +60,9 @@ pub(crate) fn shape_at(bytes: &[u8], room: usize) -> Shape
     }
     let v = values::values_at(bytes, 5, 4);
     let lens = [v[0], v[1], v[2], v[3]];
-    if check::bad_length(lens) {
-        return no_shape(1, 0);
-    }
-    let size = check::volume_of(lens);
-    if 1024 < size {
-        return no_shape(11, 0);
-    }
-    if room < size {
-        return no_shape(3, 0);
+    let number = check::sheet_number(&lens, words);
+    if number != 0 {
+        return no_shape(number, 0);
     }
     Shape {
         number: 0,
@@ -94,7 +86,7 @@ pub(crate) fn chain_at(bytes: &[u8], at: usize) -> Chain
         return no_chain(5, 0);
     }
     let swaps = values::values_at(bytes, at + 5, count);
-    let bad = check::first_bad(swaps, count);
+    let bad = checks::first_above(&swaps[..count], 2);
     if bad < count {
         return no_chain(6, bad);
     }

@@ -4,16 +4,17 @@ mod head;
 mod line;
 mod page;
 mod put;
-mod refusal;
 mod rows;
 mod values;
 mod writer;
 
 ghost use mathlib.Core.Path.{_≡_};
+ghost use Prim.Native.Nat.{_≤_};
 ghost use lib.ListN.{length};
 ghost use Rattle.text.specs.Sheet.{resultText};
+ghost use Rattle.sheet.specs.Place.{OnSheet};
 ghost use Rattle.sheet.specs.Reader.{ReadAs, refusal};
-ghost use Rattle.sheet.specs.Writer.{Measured, nothingWritten, WrittenAs};
+ghost use Rattle.sheet.specs.Writer.{nothingWritten, WrittenAs};
 ghost use Rattle.sheet.specs.RefusalWriter.{RefusalWrittenAs};
 
 // What a sheet says: its number and place, its lengths, its swaps (unused ones 0) and how many they are.
@@ -42,7 +43,7 @@ fn refused(number: u32, place: usize) -> Sheet
 pub fn read(bytes: &[u8], words: &mut [u32]) -> Sheet
     ensures { λ r. ⌜ ReadAs (now (words .entry)) (now (bytes .entry)) r (now (words .exit)) ⌝ }
 {
-    let first = head::shape_at(bytes, words.len());
+    let first = head::shape_at(bytes, words);
     if first.number != 0 {
         return refused(first.number, first.place);
     }
@@ -51,14 +52,10 @@ pub fn read(bytes: &[u8], words: &mut [u32]) -> Sheet
         return refused(second.number, second.place);
     }
     let lens = first.lens;
-    let count = check::row_count(lens);
-    let n = lens[3];
-    let at = second.next;
-    let judged = rows::rows_at(bytes, at, count, n);
-    if !judged.ok {
-        return refused(10, judged.line);
+    let wrong = rows::rows_into(bytes, second.next, lens, words);
+    if wrong != 0 {
+        return refused(10, wrong);
     }
-    rows::store_rows(bytes, at, count, n, words);
     let swaps = second.swaps;
     Sheet {
         number: 0,
@@ -82,58 +79,60 @@ fn nothing_written(number: u32) -> Written
     Written { number, count: 0 }
 }
 
-// How many bytes the result sheet has: `size` words in `rows` rows.
-fn result_len(lens: [usize; 4], order: usize, words: &[u32], size: usize, rows: usize) -> usize
-    requires { ⌜ Measured lens order (now words) size rows ⌝ }
+// How many bytes the result sheet has.
+fn result_len(lens: [usize; 4], order: usize, words: &[u32]) -> usize
+    requires { ⌜ OnSheet lens (now words) × (order ≤ 23) ⌝ }
     ensures { λ r. ⌜ r ≡ length (resultText lens order (now (words .entry))) ⌝ }
 {
-    let head = 13 + page::lens_len(lens) + put::digits_of(order);
-    head + 4 * rows + page::words_len(words, size)
+    let size = checks::words_of(&lens);
+    let rows = checks::words_of(&lens[..3]);
+    let head = page::head_len(page::shape_line(lens)) + page::head_len(page::order_line(order));
+    head + 4 * rows + page::words_len(&words[..size])
 }
 
-// Writes the result sheet: measures it, then puts it at the start of `out`.
-pub fn write(lens: [usize; 4], order: usize, words: &[u32], out: &mut [u8]) -> Written
+// The result sheet of a block that was checked: measured, then put at the start of `out`.
+fn put_result(lens: [usize; 4], order: usize, words: &[u32], out: &mut [u8]) -> Written
+    requires { ⌜ OnSheet lens (now words) × (order ≤ 23) ⌝ }
     ensures { λ r. ⌜ WrittenAs lens order (now (words .entry)) (now (out .entry)) r (now (out .exit)) ⌝ }
 {
-    if check::bad_length(lens) {
-        return nothing_written(1);
-    }
-    let size = check::volume_of(lens);
-    if 1024 < size {
-        return nothing_written(11);
-    }
-    if words.len() < size {
-        return nothing_written(3);
-    }
-    if 23 < order {
-        return nothing_written(7);
-    }
-    let rows = check::row_count(lens);
-    let need = result_len(lens, order, words, size, rows);
+    let need = result_len(lens, order, words);
     if out.len() < need {
         return nothing_written(24);
     }
-    let end = writer::result(out, lens, order, words, rows, lens[3]);
+    let shape = page::shape_line(lens);
+    let line = page::order_line(order);
+    let rows = checks::words_of(&lens[..3]);
+    let end = writer::result(out, shape, line, words, rows, lens[3]);
     Written {
         number: 0,
         count: end,
     }
 }
 
+// Writes the result sheet at the start of `out`.
+pub fn write(lens: [usize; 4], order: usize, words: &[u32], out: &mut [u8]) -> Written
+    ensures { λ r. ⌜ WrittenAs lens order (now (words .entry)) (now (out .entry)) r (now (out .exit)) ⌝ }
+{
+    let number = check::sheet_number(&lens, words);
+    if number != 0 {
+        return nothing_written(number);
+    }
+    if 23 < order {
+        return nothing_written(7);
+    }
+    put_result(lens, order, words, out)
+}
+
 // Writes the line of a refusal: measures it, then puts it at the start of `out`.
 pub fn write_refusal(number: u32, place: u32, out: &mut [u8]) -> Written
     ensures { λ r. ⌜ RefusalWrittenAs number place (now (out .entry)) r (now (out .exit)) ⌝ }
 {
-    let first = number as usize;
-    let second = place as usize;
-    let need = refusal::refusal_len(first, second);
+    let numbers = [number, place];
+    let need = 8 + page::words_len(&numbers);
     if out.len() < need {
-        return Written {
-            number: 24,
-            count: 0,
-        };
+        return nothing_written(24);
     }
-    let end = refusal::put_refusal(out, 0, first, second);
+    let end = page::put_line(out, 0, b"refused", &numbers);
     Written {
         number: 0,
         count: end,

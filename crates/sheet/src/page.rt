@@ -2,66 +2,89 @@
 use crate::put;
 ghost use mathlib.Core.Path.{_≡_};
 ghost use mathlib.Core.Bool.{false};
-ghost use mathlib.Core.List.{_∷_, []};
-ghost use Prim.Native.Nat.{_+_, _*_, _≤_};
-ghost use lib.ListN.{length, take, drop};
+ghost use Prim.Native.Nat.{_*_, _≤_};
+ghost use lib.ListN.{length};
 ghost use Rattle.refusals.specs.Conditions.{badLength};
-ghost use Rattle.text.specs.Print.{limit, fields, line};
-ghost use Rattle.text.specs.Sheet.{shapeWord, orderWord, rowWord, rowsText};
+ghost use Rattle.text.specs.Print.{fields, line};
+ghost use Rattle.text.specs.Sheet.{rowsText};
 ghost use Rattle.sheet.specs.Put.{Room, Put};
+ghost use Rattle.sheet.specs.Thin.{lineOf, shapeLineOf, orderLineOf};
 
-// How many bytes the fields of the first n words have.
-pub(crate) fn words_len(words: &[u32], n: usize) -> usize
-    requires { ⌜ (n ≤ length (now words)) × (n ≤ 1024) ⌝ }
-    ensures { λ r. ⌜ r ≡ length (fields (take n (now (words .entry)))) ⌝ }
+// How many bytes the fields of these words have.
+pub(crate) fn words_len(words: &[u32]) -> usize
+    requires { ⌜ length (now words) ≤ 1024 ⌝ }
+    ensures { λ r. ⌜ (r ≡ length (fields (now (words .entry)))) × (r ≤ 11264) ⌝ }
 {
     let mut total = 0;
-    for i in 0..n {
-        total += 1 + put::digits_of(words[i] as usize);
+    for i in 0..words.len() {
+        total += 1 + put::digits_of(words[i]);
     }
     total
 }
 
-// How many bytes the fields of the lengths have.
-pub(crate) fn lens_len(lens: [usize; 4]) -> usize
+// A line by value: its word, and its first `count` numbers.
+pub struct Line {
+    pub word: [u8; 5],
+    pub numbers: [u32; 4],
+    pub count: usize,
+}
+
+// Line 1 of a result sheet: `shape` and the lengths.
+pub(crate) fn shape_line(lens: [usize; 4]) -> Line
     requires { ⌜ badLength lens ≡ false ⌝ }
-    ensures { λ r. ⌜ r ≡ length (fields lens) ⌝ }
+    ensures { λ r. ⌜ r ≡ shapeLineOf lens ⌝ }
 {
-    let mut total = 0;
-    for i in 0..4 {
-        total += 1 + put::digits_of(lens[i]);
+    Line {
+        word: *b"shape",
+        numbers: [
+            lens[0] as u32,
+            lens[1] as u32,
+            lens[2] as u32,
+            lens[3] as u32,
+        ],
+        count: 4,
     }
-    total
 }
 
-// Line 1: `shape` with the lengths.
-pub(crate) fn put_shape(out: &mut [u8], at: usize, lens: [usize; 4]) -> usize
-    requires { ⌜ (badLength lens ≡ false) × Room (now out) at (line shapeWord lens) ⌝ }
-    ensures { λ r. ⌜ Put (now (out .entry)) at (line shapeWord lens) r (now (out .exit)) ⌝ }
+// Line 2 of a result sheet: `order` and the order number.
+pub(crate) fn order_line(order: usize) -> Line
+    requires { ⌜ order ≤ 23 ⌝ }
+    ensures { λ r. ⌜ r ≡ orderLineOf order ⌝ }
 {
-    let word = put::put_word(out, at, b"shape");
-    let end = put::put_lens(out, word, lens);
+    Line {
+        word: *b"order",
+        numbers: [order as u32, 0, 0, 0],
+        count: 1,
+    }
+}
+
+// How many bytes a line has that is passed by value.
+pub(crate) fn head_len(l: Line) -> usize
+    requires { ⌜ l .count ≤ 4 ⌝ }
+    ensures { λ r. ⌜ (r ≡ length (lineOf l)) × (r ≤ 50) ⌝ }
+{
+    let numbers = l.numbers;
+    6 + words_len(&numbers[..l.count])
+}
+
+// A line of a word and numbers.
+pub(crate) fn put_line(out: &mut [u8], at: usize, word: &[u8], numbers: &[u32]) -> usize
+    requires { ⌜ Room (now out) at (line (now word) (now numbers)) ⌝ }
+    ensures { λ r. ⌜ Put (now (out .entry)) at (line (now (word .entry)) (now (numbers .entry))) r (now (out .exit)) ⌝ }
+{
+    let first = put::put_word(out, at, word);
+    let end = put::put_words(out, first, numbers);
     put::put_end(out, end)
 }
 
-// Line 2: `order` with the order number.
-pub(crate) fn put_order(out: &mut [u8], at: usize, order: usize) -> usize
-    requires { ⌜ (order ≤ limit) × Room (now out) at (line orderWord (order ∷ [])) ⌝ }
-    ensures { λ r. ⌜ Put (now (out .entry)) at (line orderWord (order ∷ [])) r (now (out .exit)) ⌝ }
+// A line that is passed by value.
+pub(crate) fn put_head(out: &mut [u8], at: usize, l: Line) -> usize
+    requires { ⌜ (l .count ≤ 4) × Room (now out) at (lineOf l) ⌝ }
+    ensures { λ r. ⌜ Put (now (out .entry)) at (lineOf l) r (now (out .exit)) ⌝ }
 {
-    let word = put::put_word(out, at, b"order");
-    let end = put::put_field(out, word, order);
-    put::put_end(out, end)
-}
-
-// The row of n words from `from` on.
-pub(crate) fn put_row(out: &mut [u8], at: usize, words: &[u32], from: usize, n: usize) -> usize
-    requires { ⌜ (from + n ≤ length (now words)) × Room (now out) at (line rowWord (take n (drop from (now words)))) ⌝ }
-    ensures { λ r. ⌜ Put (now (out .entry)) at (line rowWord (take n (drop from (now (words .entry))))) r (now (out .exit)) ⌝ }
-{
-    let word = put::put_word(out, at, b"row");
-    let end = put::put_words(out, word, words, from, n);
-    put::put_end(out, end)
+    let word = l.word;
+    let numbers = l.numbers;
+    put_line(out, at, &word, &numbers[..l.count])
 }
 
 // So many rows of n words each.
@@ -72,7 +95,7 @@ pub(crate) fn put_rows(out: &mut [u8], at: usize, words: &[u32], count: usize, n
     let mut p = at;
     let mut from = 0;
     for i in 0..count {
-        p = put_row(out, p, words, from, n);
+        p = put_line(out, p, b"row", &words[from..from + n]);
         from += n;
     }
     p

@@ -1,16 +1,12 @@
 // Bytes put into a lent buffer at a place, each function giving the place after them: private to the library.
 ghost use mathlib.Core.Path.{_≡_};
-ghost use mathlib.Core.Bool.{false};
 ghost use mathlib.Core.List.{_∷_, []};
-ghost use Prim.Native.Nat.{_+_, _≤_};
-ghost use lib.ListN.{length, take, drop};
-ghost use Rattle.refusals.specs.Conditions.{badLength};
-ghost use Rattle.text.specs.Print.{limit, lineFeed, decimal, field, fields};
+ghost use lib.ListN.{length};
+ghost use Rattle.text.specs.Print.{lineFeed, decimal, field, fields};
 ghost use Rattle.sheet.specs.Put.{Room, Put};
 
 // How many digits v has.
-pub(crate) fn digits_of(v: usize) -> usize
-    requires { ⌜ v ≤ limit ⌝ }
+pub(crate) fn digits_of(v: u32) -> usize
     ensures { λ r. ⌜ r ≡ length (decimal v) ⌝ }
 {
     let mut count = 1;
@@ -23,8 +19,8 @@ pub(crate) fn digits_of(v: usize) -> usize
 }
 
 // The number v in decimal, its last digit first.
-pub(crate) fn put_number(out: &mut [u8], at: usize, v: usize) -> usize
-    requires { ⌜ (v ≤ limit) × Room (now out) at (decimal v) ⌝ }
+pub(crate) fn put_number(out: &mut [u8], at: usize, v: u32) -> usize
+    requires { ⌜ Room (now out) at (decimal v) ⌝ }
     ensures { λ r. ⌜ Put (now (out .entry)) at (decimal v) r (now (out .exit)) ⌝ }
 {
     let next = at + digits_of(v);
@@ -39,8 +35,8 @@ pub(crate) fn put_number(out: &mut [u8], at: usize, v: usize) -> usize
 }
 
 // A field: a tab and the number v.
-pub(crate) fn put_field(out: &mut [u8], at: usize, v: usize) -> usize
-    requires { ⌜ (v ≤ limit) × Room (now out) at (field v) ⌝ }
+pub(crate) fn put_field(out: &mut [u8], at: usize, v: u32) -> usize
+    requires { ⌜ Room (now out) at (field v) ⌝ }
     ensures { λ r. ⌜ Put (now (out .entry)) at (field v) r (now (out .exit)) ⌝ }
 {
     out[at] = 9;
@@ -67,26 +63,14 @@ pub(crate) fn put_end(out: &mut [u8], at: usize) -> usize
     at + 1
 }
 
-// A field for each of n words from `from` on.
-pub(crate) fn put_words(out: &mut [u8], at: usize, words: &[u32], from: usize, n: usize) -> usize
-    requires { ⌜ (from + n ≤ length (now words)) × Room (now out) at (fields (take n (drop from (now words)))) ⌝ }
-    ensures { λ r. ⌜ Put (now (out .entry)) at (fields (take n (drop from (now (words .entry))))) r (now (out .exit)) ⌝ }
+// A field for each word.
+pub(crate) fn put_words(out: &mut [u8], at: usize, words: &[u32]) -> usize
+    requires { ⌜ Room (now out) at (fields (now words)) ⌝ }
+    ensures { λ r. ⌜ Put (now (out .entry)) at (fields (now (words .entry))) r (now (out .exit)) ⌝ }
 {
     let mut p = at;
-    for i in 0..n {
-        p = put_field(out, p, words[from + i] as usize);
-    }
-    p
-}
-
-// A field for each length.
-pub(crate) fn put_lens(out: &mut [u8], at: usize, lens: [usize; 4]) -> usize
-    requires { ⌜ (badLength lens ≡ false) × Room (now out) at (fields lens) ⌝ }
-    ensures { λ r. ⌜ Put (now (out .entry)) at (fields lens) r (now (out .exit)) ⌝ }
-{
-    let mut p = at;
-    for i in 0..4 {
-        p = put_field(out, p, lens[i]);
+    for i in 0..words.len() {
+        p = put_field(out, p, words[i]);
     }
     p
 }

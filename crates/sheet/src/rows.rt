@@ -6,37 +6,26 @@ ghost use Prim.Native.Nat.{_*_, _≤_};
 ghost use lib.ListN.{length, drop};
 ghost use lib.Seq.{sets};
 ghost use Rattle.text.specs.Meaning.{rowLines};
-ghost use Rattle.sheet.specs.Place.{RowsAt, RowsThere, wordsOf};
+ghost use Rattle.text.specs.Sheet.{rowCount, rowWidth};
+ghost use Rattle.sheet.specs.Place.{OnSheet, RowsAt, RowsThere, RowsTaken, wordsOf};
 
-// Whether the rows are right, and the number of the line that is not.
-pub struct Rows {
-    pub ok: bool,
-    pub line: usize,
-}
-
-// So many rows of n words from `at` on, and nothing after them.
-pub(crate) fn rows_at(bytes: &[u8], at: usize, count: usize, n: usize) -> Rows
+// So many rows of n words from `at` on, and nothing after them: 0, or the number of the line that is wrong.
+pub(crate) fn rows_at(bytes: &[u8], at: usize, count: usize, n: usize) -> usize
     requires { ⌜ (at ≤ length (now bytes)) × (count ≤ 1024) ⌝ }
-    ensures { λ r. ⌜ RowsAt (rowLines 3 count n (drop at (now (bytes .entry)))) (r .ok) (r .line) ⌝ }
+    ensures { λ r. ⌜ RowsAt (rowLines 3 count n (drop at (now (bytes .entry)))) r ⌝ }
 {
     let mut p = at;
     for i in 0..count {
         let l = line::line_at(bytes, p, b"row", n);
         if !l.ok {
-            return Rows {
-                ok: false,
-                line: i + 3,
-            };
+            return i + 3;
         }
         p = l.next;
     }
     if p < bytes.len() {
-        return Rows {
-            ok: false,
-            line: count + 3,
-        };
+        return count + 3;
     }
-    Rows { ok: true, line: 0 }
+    0
 }
 
 // The words of rows that were judged right, stored from the start of words.
@@ -50,4 +39,19 @@ pub(crate) fn store_rows(bytes: &[u8], at: usize, count: usize, n: usize, words:
         p = values::words_into(bytes, p + 3, n, words, from) + 1;
         from += n;
     }
+}
+
+// The rows of a block from `at` on, judged and then stored from the start of words: 0, or the number of the line that is wrong.
+pub(crate) fn rows_into(bytes: &[u8], at: usize, lens: [usize; 4], words: &mut [u32]) -> usize
+    requires { ⌜ (at ≤ length (now bytes)) × OnSheet lens (now words) ⌝ }
+    ensures { λ r. ⌜ RowsTaken (rowLines 3 (rowCount lens) (rowWidth lens) (drop at (now (bytes .entry)))) r (now (words .entry)) (now (words .exit)) ⌝ }
+{
+    let count = checks::words_of(&lens[..3]);
+    let n = lens[3];
+    let wrong = rows_at(bytes, at, count, n);
+    if wrong != 0 {
+        return wrong;
+    }
+    store_rows(bytes, at, count, n, words);
+    0
 }

@@ -2,15 +2,11 @@
 // number. Private to the library.
 use crate::page;
 ghost use mathlib.Core.Path.{_≡_};
-ghost use mathlib.Core.Bool.{false};
-ghost use mathlib.Core.List.{_∷_, []};
 ghost use Prim.Native.Nat.{_*_, _≤_};
 ghost use lib.ListN.{length};
-ghost use Rattle.refusals.specs.Conditions.{badLength};
-ghost use Rattle.text.specs.Print.{limit, line};
-ghost use Rattle.text.specs.Sheet.{shapeWord, orderWord, rowsText, resultText};
+ghost use Rattle.text.specs.Sheet.{rowsText};
 ghost use Rattle.sheet.specs.Put.{Room, Put};
-ghost use Rattle.sheet.specs.Thin.{stored, Ready};
+ghost use Rattle.sheet.specs.Thin.{lineOf, stored, pageOf, Ready};
 
 pub(crate) struct Writer<'a> {
     out: &'a mut [u8],
@@ -24,26 +20,13 @@ pub(crate) fn new<'a>(out: &'a mut [u8]) -> Writer<'a>
     Writer { out: out, at: 0 }
 }
 
-// Line 1: the writer is handed back with the next place.
-pub(crate) fn shape<'a>(w: Writer<'a>, lens: [usize; 4]) -> Writer<'a>
-    requires { ⌜ (badLength lens ≡ false) × Room (now (w .out)) (w .at) (line shapeWord lens) ⌝ }
-    ensures { λ r. ⌜ r ≡ stored (w .entry) (line shapeWord lens) ⌝ }
+// A line: the writer is handed back with the next place.
+pub(crate) fn line<'a>(w: Writer<'a>, l: page::Line) -> Writer<'a>
+    requires { ⌜ (l .count ≤ 4) × Room (now (w .out)) (w .at) (lineOf l) ⌝ }
+    ensures { λ r. ⌜ r ≡ stored (w .entry) (lineOf l) ⌝ }
 {
     let at = w.at;
-    let next = page::put_shape(&mut *w.out, at, lens);
-    Writer {
-        out: w.out,
-        at: next,
-    }
-}
-
-// Line 2: the writer is handed back with the next place.
-pub(crate) fn order<'a>(w: Writer<'a>, number: usize) -> Writer<'a>
-    requires { ⌜ (number ≤ limit) × Room (now (w .out)) (w .at) (line orderWord (number ∷ [])) ⌝ }
-    ensures { λ r. ⌜ r ≡ stored (w .entry) (line orderWord (number ∷ [])) ⌝ }
-{
-    let at = w.at;
-    let next = page::put_order(&mut *w.out, at, number);
+    let next = page::put_head(&mut *w.out, at, l);
     Writer {
         out: w.out,
         at: next,
@@ -59,19 +42,19 @@ pub(crate) fn rows<'a, 'b>(w: Writer<'a>, words: &'b [u32], count: usize, n: usi
     page::put_rows(&mut *w.out, at, words, count, n)
 }
 
-// The result sheet at the start of the lent bytes, and the place after it: whoever calls it needs no writer.
+// Two lines and rows at the start of the lent bytes, and the place after them: whoever calls it needs no writer.
 pub(crate) fn result(
     out: &mut [u8],
-    lens: [usize; 4],
-    number: usize,
+    shape: page::Line,
+    order: page::Line,
     words: &[u32],
     count: usize,
     n: usize,
 ) -> usize
-    requires { ⌜ Ready (now out) lens number (now words) count n ⌝ }
-    ensures { λ r. ⌜ Put (now (out .entry)) 0 (resultText lens number (now (words .entry))) r (now (out .exit)) ⌝ }
+    requires { ⌜ Ready (now out) shape order (now words) count n ⌝ }
+    ensures { λ r. ⌜ Put (now (out .entry)) 0 (pageOf shape order (now (words .entry)) count n) r (now (out .exit)) ⌝ }
 {
-    let first = shape(new(out), lens);
-    let second = order(first, number);
+    let first = line(new(out), shape);
+    let second = line(first, order);
     rows(second, words, count, n)
 }

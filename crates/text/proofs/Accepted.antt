@@ -6,17 +6,17 @@ use mathlib.Core.List.{List, [], _∷_, _++_}
 use mathlib.Core.Logic.{_↔_}
 use Prim.Native.Nat.{ℕ, zero, suc, _+_, _*_, _<_, _≤_}
 use native.Mathlib.Omega.{arith}
-use lib.Dec.{ltb, eqb}
 use lib.ListN.{length}
 use borrow.Author.Tests.{ltb-false, le-ltb}
 use Rattle.layout.specs.Layout.{volume}
 use Rattle.refusals.specs.Conditions.{some, outOfRange, badLength, shortBuffer, longChain, noSwap, badSwap, firstPlace}
 use Rattle.text.specs.Print.{limit, lineFeed, fields, line}
-use Rattle.text.specs.Read.{Found, readLine, tabs}
+use Rattle.text.specs.Read.{Reading, readLine, tabs}
 use Rattle.text.specs.Sheet.{shapeWord, chainWord, rowCount, rowWidth, rowsText, sheetText}
-use Rattle.text.specs.Meaning.{Step, Outcome, longSheet, bigSheet, refuseIf, onLine, onward, conclude, shapeLine, chainLine, rowLines, meaning}
+use Rattle.text.specs.Meaning.{Verdict, Outcome, longSheet, bigSheet, refuseIf, onLine, onward, conclude, shapeLine, chainLine, rowLines, meaning}
 use Rattle.refusals.proofs.Some.{either-false}
-use Rattle.text.proofs.Lines.{Small, Held, line-then, line-text, text-line, tabs-fields}
+use Rattle.refusals.proofs.Conditions.{ranged}
+use Rattle.text.proofs.Lines.{Small, Stands, line-then, line-text, text-line, tabs-fields}
 use Rattle.text.proofs.Steps.{refuse-go, on-line-go, onward-go, conclude-accepted}
 use Rattle.text.proofs.Rows.{rows-text, text-rows, rows-volume}
 
@@ -34,14 +34,14 @@ pub record Right (buffer bytes ds chain words : List ℕ) : Type 0 where
   pub small : Small words
 
 -- numbers among which the test finds none are small, where the test finds every number that is not
-pub none-small : (f : ℕ → Bool) → ((v : ℕ) → f v ≡ false → v ≤ limit) → (vs : List ℕ) → some f vs ≡ false → Small vs
+none-small : (f : ℕ → Bool) → ((v : ℕ) → f v ≡ false → v ≤ limit) → (vs : List ℕ) → some f vs ≡ false → Small vs
 none-small f under [] e = Small.none
 none-small f under (v ∷ vs) e =
     let h = either-false (f v) (some f vs) e in
     Small.more (under v (h .0)) (none-small f under vs (h .1))
 
-in-range : (d : ℕ) → outOfRange d ≡ false → d ≤ limit
-in-range d e = omega (arith, ltb-false 4096 d (either-false (eqb d 0) (ltb 4096 d) e .1))
+a-length : (d : ℕ) → outOfRange d ≡ false → d ≤ limit
+a-length d e = omega (arith, ranged d e)
 
 a-swap : (k : ℕ) → (noSwap 4) k ≡ false → k ≤ limit
 a-swap k e = omega (arith, ltb-false 2 k e)
@@ -49,23 +49,23 @@ a-swap k e = omega (arith, ltb-false 2 k e)
 -- what line 1 and its checks let through
 pub record ShapeRead (buffer bytes ds rest : List ℕ) : Type 0 where
   pub few-bytes : length bytes ≤ 16384
-  pub held : Held (line shapeWord) 4 bytes ds rest
+  pub held : Stands (line shapeWord) 4 bytes ds rest
   pub lengths : badLength ds ≡ false
   pub few-words : volume ds ≤ 1024
   pub room : volume ds ≤ length buffer
 
-pub shape-read : (buffer bytes : List ℕ) {ds rest : List ℕ} → shapeLine buffer bytes ≡ Step.go ds rest → ShapeRead buffer bytes ds rest
+pub shape-read : (buffer bytes : List ℕ) {ds rest : List ℕ} → shapeLine buffer bytes ≡ Verdict.go ds rest → ShapeRead buffer bytes ds rest
 unfolding shapeLine
 shape-read buffer bytes {ds} {rest} e =
-    let checked : List ℕ → List ℕ → Step = λ es mid.
-    refuseIf (badLength es) 1 0 (refuseIf (bigSheet es) 11 0 (refuseIf (shortBuffer es buffer) 3 0 (Step.go es mid))) in
+    let checked : List ℕ → List ℕ → Verdict = λ es mid.
+    refuseIf (badLength es) 1 0 (refuseIf (bigSheet es) 11 0 (refuseIf (shortBuffer es buffer) 3 0 (Verdict.go es mid))) in
     let e₁ = refuse-go (longSheet bytes) 9 0 (onward (onLine 1 (readLine shapeWord 4 bytes)) checked) e in
     onward-go (onLine 1 (readLine shapeWord 4 bytes)) checked (e₁ .1)
     (λ es mid e₂ e₃.
-    let f₁ = refuse-go (badLength es) 1 0 (refuseIf (bigSheet es) 11 0 (refuseIf (shortBuffer es buffer) 3 0 (Step.go es mid))) e₃ in
-    let f₂ = refuse-go (bigSheet es) 11 0 (refuseIf (shortBuffer es buffer) 3 0 (Step.go es mid)) (f₁ .1) in
-    let f₃ = refuse-go (shortBuffer es buffer) 3 0 (Step.go es mid) (f₂ .1) in
-    let f₄ : Step.go es mid ≡ Step.go ds rest = f₃ .1 in
+    let f₁ = refuse-go (badLength es) 1 0 (refuseIf (bigSheet es) 11 0 (refuseIf (shortBuffer es buffer) 3 0 (Verdict.go es mid))) e₃ in
+    let f₂ = refuse-go (bigSheet es) 11 0 (refuseIf (shortBuffer es buffer) 3 0 (Verdict.go es mid)) (f₁ .1) in
+    let f₃ = refuse-go (shortBuffer es buffer) 3 0 (Verdict.go es mid) (f₂ .1) in
+    let f₄ : Verdict.go es mid ≡ Verdict.go ds rest = f₃ .1 in
     let a : es ≡ ds = cc in
     let b : mid ≡ rest = cc in
     rw (← a, ← b)
@@ -77,7 +77,7 @@ shape-read buffer bytes {ds} {rest} e =
       room = ltb-false (length buffer) (volume es) (f₃ .0);
     }))
 
-read-shape : {buffer bytes ds rest : List ℕ} → ShapeRead buffer bytes ds rest → shapeLine buffer bytes ≡ Step.go ds rest
+read-shape : {buffer bytes ds rest : List ℕ} → ShapeRead buffer bytes ds rest → shapeLine buffer bytes ≡ Verdict.go ds rest
 unfolding shapeLine
 read-shape {buffer} {bytes} {ds} {rest} h =
     rw (
@@ -90,20 +90,20 @@ read-shape {buffer} {bytes} {ds} {rest} h =
 
 -- what line 2 and its checks let through
 pub record ChainRead (bytes chain rest : List ℕ) : Type 0 where
-  pub held : Held (line chainWord) (tabs bytes) bytes chain rest
+  pub held : Stands (line chainWord) (tabs bytes) bytes chain rest
   pub few-swaps : length chain ≤ 32
   pub swaps : badSwap 4 chain ≡ false
 
-pub chain-read : (bytes : List ℕ) {chain rest : List ℕ} → chainLine bytes ≡ Step.go chain rest → ChainRead bytes chain rest
+pub chain-read : (bytes : List ℕ) {chain rest : List ℕ} → chainLine bytes ≡ Verdict.go chain rest → ChainRead bytes chain rest
 unfolding chainLine
 chain-read bytes {chain} {rest} e =
-    let checked : List ℕ → List ℕ → Step = λ c mid.
-    refuseIf (longChain c) 5 0 (refuseIf (badSwap 4 c) 6 (firstPlace (noSwap 4) c) (Step.go c mid)) in
+    let checked : List ℕ → List ℕ → Verdict = λ c mid.
+    refuseIf (longChain c) 5 0 (refuseIf (badSwap 4 c) 6 (firstPlace (noSwap 4) c) (Verdict.go c mid)) in
     onward-go (onLine 2 (readLine chainWord (tabs bytes) bytes)) checked e
     (λ c mid e₁ e₂.
-    let f₁ = refuse-go (longChain c) 5 0 (refuseIf (badSwap 4 c) 6 (firstPlace (noSwap 4) c) (Step.go c mid)) e₂ in
-    let f₂ = refuse-go (badSwap 4 c) 6 (firstPlace (noSwap 4) c) (Step.go c mid) (f₁ .1) in
-    let f₃ : Step.go c mid ≡ Step.go chain rest = f₂ .1 in
+    let f₁ = refuse-go (longChain c) 5 0 (refuseIf (badSwap 4 c) 6 (firstPlace (noSwap 4) c) (Verdict.go c mid)) e₂ in
+    let f₂ = refuse-go (badSwap 4 c) 6 (firstPlace (noSwap 4) c) (Verdict.go c mid) (f₁ .1) in
+    let f₃ : Verdict.go c mid ≡ Verdict.go chain rest = f₂ .1 in
     let a : c ≡ chain = cc in
     let b : mid ≡ rest = cc in
     rw (← a, ← b)
@@ -113,7 +113,7 @@ chain-read bytes {chain} {rest} e =
       swaps = f₂ .0;
     }))
 
-read-chain : {bytes chain rest : List ℕ} → ChainRead bytes chain rest → chainLine bytes ≡ Step.go chain rest
+read-chain : {bytes chain rest : List ℕ} → ChainRead bytes chain rest → chainLine bytes ≡ Verdict.go chain rest
 unfolding chainLine
 read-chain {bytes} {chain} {rest} h =
     rw (text-line chainWord (h .held), le-ltb 32 (length chain) (h .few-swaps), h .swaps)
@@ -165,7 +165,7 @@ right-accepted {buffer} {bytes} {ds} {chain} {words} h =
     let first : ShapeRead buffer bytes ds (line chainWord chain ++ rows) =
     record {
       few-bytes = h .few-bytes;
-      held = record { bytes = h .text; long = h .axes; small = none-small outOfRange in-range ds (h .lengths) };
+      held = record { bytes = h .text; long = h .axes; small = none-small outOfRange a-length ds (h .lengths) };
       lengths = h .lengths;
       few-words = h .few-words;
       room = h .room;

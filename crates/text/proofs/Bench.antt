@@ -2,8 +2,9 @@
 use mathlib.Core.Path.{_≡_, refl}
 use mathlib.Core.List.{List, [], _∷_, _++_}
 use Prim.Native.Nat.{ℕ}
+use lib.ListN.{replicate}
 use Rattle.text.specs.Print.{digits, decimal, field, fields, line}
-use Rattle.text.specs.Read.{Found, readMore, readNumber, readField, readFields, closed, readLine, tabs}
+use Rattle.text.specs.Read.{Reading, readMore, readNumber, readField, readFields, closed, readLine, tabs}
 use Rattle.layout.specs.Layout.{volume}
 use Rattle.refusals.specs.Conditions.{firstPlace}
 use Rattle.text.specs.Sheet.{shapeWord, chainWord, rowWord, rowCount, rowWidth, rowsText, sheetText}
@@ -13,22 +14,22 @@ printed : decimal 4294967295 ≡ 52 ∷ 50 ∷ 57 ∷ 52 ∷ 57 ∷ 54 ∷ 55 �
 unfolding decimal digits
 printed = refl
 
-greatest : readNumber (decimal 4294967295) ≡ Found.found 4294967295 []
+greatest : readNumber (decimal 4294967295) ≡ Reading.found 4294967295 []
 unfolding decimal digits readNumber readMore
 greatest = refl
 
-too-great : readNumber (decimal 4294967296) ≡ Found.none
+too-great : readNumber (decimal 4294967296) ≡ Reading.none
 unfolding decimal digits readNumber readMore
 too-great = refl
 
 row : List ℕ
 row = 114 ∷ 111 ∷ 119 ∷ []
 
-read-back : readLine row 3 (line row (0 ∷ 10 ∷ 70 ∷ []) ++ (7 ∷ [])) ≡ Found.found (0 ∷ 10 ∷ 70 ∷ []) (7 ∷ [])
+read-back : readLine row 3 (line row (0 ∷ 10 ∷ 70 ∷ []) ++ (7 ∷ [])) ≡ Reading.found (0 ∷ 10 ∷ 70 ∷ []) (7 ∷ [])
 unfolding row line fields field decimal digits readLine readFields readField readNumber readMore closed
 read-back = refl
 
-leading-zeros : readLine row 1 (row ++ (9 ∷ 48 ∷ 48 ∷ 55 ∷ 10 ∷ [])) ≡ Found.none
+leading-zeros : readLine row 1 (row ++ (9 ∷ 48 ∷ 48 ∷ 55 ∷ 10 ∷ [])) ≡ Reading.none
 unfolding row readLine readFields readField readNumber readMore closed
 leading-zeros = refl
 
@@ -56,13 +57,14 @@ abbrev cases : List (List ℕ) → List Outcome
 cases [] = []
 cases (b ∷ bs) = said b ∷ cases bs
 
--- the example; an empty sheet; an LF more; no chain; swap 3; a row too short; a buffer too short; too many words; a length 0; an empty field
+-- the example; an empty sheet; an LF more; no chain; swap 3; 33 swaps with a 3 among them; a row too short; a buffer too short; too many words; a length 0; an empty field
 as-read : cases
     (example
     ∷ []
     ∷ (example ++ (10 ∷ []))
     ∷ sheetText (1 ∷ 1 ∷ 1 ∷ 3 ∷ []) [] (1 ∷ 2 ∷ 3 ∷ [])
     ∷ sheetText (1 ∷ 1 ∷ 2 ∷ 3 ∷ []) (2 ∷ 3 ∷ []) []
+    ∷ sheetText (1 ∷ 1 ∷ 2 ∷ 3 ∷ []) (3 ∷ replicate 32 0) []
     ∷ sheetText (1 ∷ 1 ∷ 2 ∷ 3 ∷ []) [] (1 ∷ 2 ∷ 3 ∷ 4 ∷ 5 ∷ [])
     ∷ sheetText (1 ∷ 1 ∷ 7 ∷ 1 ∷ []) [] []
     ∷ sheetText (1025 ∷ 1 ∷ 1 ∷ 1 ∷ []) [] []
@@ -74,6 +76,7 @@ as-read : cases
     ∷ Outcome.refused 10 5
     ∷ Outcome.accepted (1 ∷ 1 ∷ 1 ∷ 3 ∷ []) [] (1 ∷ 2 ∷ 3 ∷ [])
     ∷ Outcome.refused 6 1
+    ∷ Outcome.refused 5 0
     ∷ Outcome.refused 10 4
     ∷ Outcome.refused 3 0
     ∷ Outcome.refused 11 0

@@ -9,9 +9,9 @@ use lib.ListN.{length}
 use borrow.Author.Tests.{ltb-false}
 use Rattle.refusals.specs.Conditions.{badLength, shortBuffer, longChain, badSwap, noSwap, firstPlace}
 use Rattle.text.specs.Print.{limit}
-use Rattle.text.specs.Read.{Found, readLine, tabs}
+use Rattle.text.specs.Read.{Reading, readLine, tabs}
 use Rattle.text.specs.Sheet.{shapeWord, chainWord, rowWord, rowCount, rowWidth}
-use Rattle.text.specs.Meaning.{Step, Outcome, longSheet, bigSheet, refuseIf, onLine, onward, behind, conclude, ended, shapeLine, chainLine, rowLines, meaning}
+use Rattle.text.specs.Meaning.{Verdict, Outcome, longSheet, bigSheet, refuseIf, onLine, onward, behind, conclude, ended, shapeLine, chainLine, rowLines, meaning}
 use Rattle.text.proofs.Accepted.{shape-read}
 use Rattle.text.proofs.Length.{rows-le-words}
 
@@ -22,26 +22,26 @@ pub record Bounded (number place : ℕ) : Type 0 where
   pub near : place ≤ limit
 
 -- a step that goes on, or refuses within these bounds
-data Kept : Step → Type 0 where
-  refuses : {number place : ℕ} → Bounded number place → Kept (Step.refuse number place)
-  goes : {vs rest : List ℕ} → Kept (Step.go vs rest)
+data Kept : Verdict → Type 0 where
+  refuses : {number place : ℕ} → Bounded number place → Kept (Verdict.refuse number place)
+  goes : {vs rest : List ℕ} → Kept (Verdict.go vs rest)
 
 bounds : (number place : ℕ) → 0 < number → number ≤ 24 → place ≤ limit → Bounded number place
 bounds number place a b c = record { given = a; known = b; near = c }
 
-condition : (t : Bool) (number place : ℕ) {next : Step} → (t ≡ true → Bounded number place) → (t ≡ false → Kept next) → Kept (refuseIf t number place next)
+condition : (t : Bool) (number place : ℕ) {next : Verdict} → (t ≡ true → Bounded number place) → (t ≡ false → Kept next) → Kept (refuseIf t number place next)
 condition true number place h n = refuses (h refl)
 condition false number place h n = n refl
 
-form : (k : ℕ) (x : Found (List ℕ)) → k ≤ limit → Kept (onLine k x)
-form k Found.none h = refuses (bounds 10 k (omega arith) (omega arith) h)
-form k (Found.found vs rest) h = goes
+form : (k : ℕ) (x : Reading (List ℕ)) → k ≤ limit → Kept (onLine k x)
+form k Reading.none h = refuses (bounds 10 k (omega arith) (omega arith) h)
+form k (Reading.found vs rest) h = goes
 
-onwards : {s : Step} (f : List ℕ → List ℕ → Step) → Kept s → ((vs rest : List ℕ) → Kept (f vs rest)) → Kept (onward s f)
+onwards : {s : Verdict} (f : List ℕ → List ℕ → Verdict) → Kept s → ((vs rest : List ℕ) → Kept (f vs rest)) → Kept (onward s f)
 onwards f (refuses h) k = refuses h
 onwards f (goes {vs} {rest}) k = k vs rest
 
-before : (ws : List ℕ) {s : Step} → Kept s → Kept (behind ws s)
+before : (ws : List ℕ) {s : Verdict} → Kept s → Kept (behind ws s)
 before ws (refuses h) = refuses h
 before ws goes = goes
 
@@ -63,7 +63,7 @@ shape-kept : (buffer bytes : List ℕ) → Kept (shapeLine buffer bytes)
 unfolding shapeLine
 shape-kept buffer bytes =
     condition (longSheet bytes) 9 0 (λ _. bounds 9 0 (omega arith) (omega arith) (omega arith))
-    (λ _. onwards (λ (ds : List ℕ) (rest : List ℕ). refuseIf (badLength ds) 1 0 (refuseIf (bigSheet ds) 11 0 (refuseIf (shortBuffer ds buffer) 3 0 (Step.go ds rest))))
+    (λ _. onwards (λ (ds : List ℕ) (rest : List ℕ). refuseIf (badLength ds) 1 0 (refuseIf (bigSheet ds) 11 0 (refuseIf (shortBuffer ds buffer) 3 0 (Verdict.go ds rest))))
     (form 1 (readLine shapeWord 4 bytes) (omega arith))
     (λ ds rest. condition (badLength ds) 1 0 (λ _. bounds 1 0 (omega arith) (omega arith) (omega arith))
     (λ _. condition (bigSheet ds) 11 0 (λ _. bounds 11 0 (omega arith) (omega arith) (omega arith))
@@ -72,7 +72,7 @@ shape-kept buffer bytes =
 chain-kept : (bytes : List ℕ) → Kept (chainLine bytes)
 unfolding chainLine
 chain-kept bytes =
-    onwards (λ (chain : List ℕ) (rest : List ℕ). refuseIf (longChain chain) 5 0 (refuseIf (badSwap 4 chain) 6 (firstPlace (noSwap 4) chain) (Step.go chain rest)))
+    onwards (λ (chain : List ℕ) (rest : List ℕ). refuseIf (longChain chain) 5 0 (refuseIf (badSwap 4 chain) 6 (firstPlace (noSwap 4) chain) (Verdict.go chain rest)))
     (form 2 (readLine chainWord (tabs bytes) bytes) (omega arith))
     (λ chain rest. condition (longChain chain) 5 0 (λ _. bounds 5 0 (omega arith) (omega arith) (omega arith))
     (λ short. condition (badSwap 4 chain) 6 (firstPlace (noSwap 4) chain)
@@ -91,9 +91,9 @@ pub data Within : Outcome → Type 0 where
   refused : {number place : ℕ} → Bounded number place → Within (Outcome.refused number place)
   accepted : {ds chain words : List ℕ} → Within (Outcome.accepted ds chain words)
 
-concludes : (s : Step) (f : List ℕ → List ℕ → Outcome) → Kept s → ((vs rest : List ℕ) → s ≡ Step.go vs rest → Within (f vs rest)) → Within (conclude s f)
-concludes (Step.refuse number place) f (refuses h) k = refused h
-concludes (Step.go vs rest) f goes k = k vs rest refl
+concludes : (s : Verdict) (f : List ℕ → List ℕ → Outcome) → Kept s → ((vs rest : List ℕ) → s ≡ Verdict.go vs rest → Within (f vs rest)) → Within (conclude s f)
+concludes (Verdict.refuse number place) f (refuses h) k = refused h
+concludes (Verdict.go vs rest) f goes k = k vs rest refl
 
 pub meaning-within : (buffer bytes : List ℕ) → Within (meaning buffer bytes)
 unfolding meaning

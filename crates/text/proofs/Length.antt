@@ -1,21 +1,20 @@
 -- The result sheet of at most 1,024 words has at most 16,384 bytes: a number has at most ten digits, a row at least one word.
 -- By induction on the numbers and on the rows.
 use mathlib.Core.Path.{_≡_, refl, sym, ap, _∙_}
-use mathlib.Core.Bool.{Bool, true, false}
+use mathlib.Core.Bool.{false}
 use mathlib.Core.List.{List, [], _∷_, _++_}
 use mathlib.Core.Logic.{⊎-elim}
 use Prim.Native.Nat.{ℕ, zero, suc, _+_, _-_, _*_, _/_, _%_, _<_, _≤_}
 use native.Mathlib.Omega.{arith}
-use native.Mathlib.Nat.{mul-le-mul-left, le-of-suc-le-suc}
-use lib.Dec.{ltb, eqb}
-use lib.ListN.{length, take, drop, getD, length-append, length-take}
-use borrow.Author.Tests.{lt-ltb, le-ltb, eqb-false}
+use native.Mathlib.Nat.{mul-le-mul-left}
+use lib.ListN.{length, take, drop, length-append, length-take}
+use borrow.Author.Tests.{lt-ltb, le-ltb}
 use Rattle.lists.proofs.Decide.{lt-or-ge}
 use Rattle.layout.specs.Layout.{volume}
-use Rattle.refusals.specs.Conditions.{some, outOfRange, badLength}
+use Rattle.refusals.specs.Conditions.{badLength}
 use Rattle.text.specs.Print.{lineFeed, digits, decimal, field, fields, line}
 use Rattle.text.specs.Sheet.{shapeWord, orderWord, rowWord, rowCount, rowWidth, rowsText, resultText}
-use Rattle.refusals.proofs.Some.{either-false}
+use Rattle.refusals.proofs.Conditions.{length-at}
 use Rattle.text.proofs.Rows.{rows-volume}
 
 digits-few : (n v : ℕ) → length (digits n v) ≤ n
@@ -48,20 +47,11 @@ rows-few (suc count) n words =
     rw (length-append (line rowWord (take n words)) (rowsText count n (drop n words)), length-line rowWord (take n words))
     (omega (arith, length-take n words, fields-few (take n words), rows-few count n (drop n words)))
 
--- a test that holds at no entry holds at none of them
-pub none-at : (f : ℕ → Bool) (vs : List ℕ) (k : ℕ) → k < length vs → some f vs ≡ false → f (getD vs k 0) ≡ false
-none-at f [] k h e = absurd (omega arith)
-none-at f (v ∷ vs) zero h e = either-false (f v) (some f vs) e .0
-none-at f (v ∷ vs) (suc k) h e = none-at f vs k (le-of-suc-le-suc h) (either-false (f v) (some f vs) e .1)
-
-pub in-range-pos : (d : ℕ) → outOfRange d ≡ false → 1 ≤ d
-in-range-pos d e = omega (arith, eqb-false d 0 (either-false (eqb d 0) (ltb 4096 d) e .0))
-
 -- a block has no more rows than words
 pub rows-le-words : (ds : List ℕ) → 0 < length ds → badLength ds ≡ false → rowCount ds ≤ volume ds
 unfolding rowWidth
 rows-le-words ds axes lengths =
-    let wide : 1 ≤ rowWidth ds = in-range-pos (rowWidth ds) (none-at outOfRange ds (length ds - 1) (omega arith) lengths) in
+    let wide : 1 ≤ rowWidth ds = length-at ds lengths (length ds - 1) (omega arith) .0 in
     omega (arith, mul-le-mul-left (rowCount ds) wide, rows-volume ds axes)
 
 -- 16,384 bytes always suffice for 1,024 words

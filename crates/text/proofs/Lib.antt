@@ -1,8 +1,16 @@
+-- the definitions computed at small cases
 pub mod Bench
+-- a number is read exactly where its decimal stands
 pub mod Numbers
+-- a line is read exactly where its text stands
 pub mod Lines
+-- what a verdict that went on says of those it was made of
 pub mod Steps
+-- rows are read exactly where their text stands
 pub mod Rows
+-- a sheet is accepted exactly when it is the text of what it is answered with
 pub mod Accepted
+-- the result sheet of 1,024 words has at most 16,384 bytes
 pub mod Length
+-- a refusal's number and place fit a line of a sheet
 pub mod Bounds

@@ -13,29 +13,29 @@ use lib.Seq.{take-append-seam, drop-append-seam}
 use borrow.Author.Tests.{lt-ltb, le-ltb, eqb-true, eq-eqb, ne-eqb}
 use Rattle.lists.specs.Same.{same}
 use Rattle.lists.proofs.Test.{same→eq, eq→same}
-use Rattle.lists.proofs.Decide.{lt-or-ge}
+use Rattle.lists.proofs.Decide.{decided, lt-or-ge}
 use Rattle.text.specs.Print.{limit, tabByte, lineFeed, digits, decimal, field, fields, line}
-use Rattle.text.specs.Read.{Found, after, readNumber, readField, readFields, closed, readLine, tabs}
-use Rattle.text.proofs.Numbers.{Stops, decided, number-text, text-number}
+use Rattle.text.specs.Read.{Reading, after, readNumber, readField, readFields, closed, readLine, tabs}
+use Rattle.text.proofs.Numbers.{Stops, number-text, text-number}
 
 -- numbers that a sheet can hold
 pub data Small : List ℕ → Type 0 where
   none : Small []
   more : {v : ℕ} {vs : List ℕ} → v ≤ limit → Small vs → Small (v ∷ vs)
 
--- vs and the rest are what the bytes hold, printed by `text`
-pub record Held (text : List ℕ → List ℕ) (n : ℕ) (bs vs rest : List ℕ) : Type 0 where
+-- the text of vs stands at the bytes' start, and the rest follows it
+pub record Stands (text : List ℕ → List ℕ) (n : ℕ) (bs vs rest : List ℕ) : Type 0 where
   pub bytes : bs ≡ text vs ++ rest
   pub long : length vs ≡ n
   pub small : Small vs
 
 -- what was found by going on was found before, and gone on from
-pub after-found : {A B : Type 0} (x : Found A) (f : A → List ℕ → Found B) {b : B} {rest : List ℕ} {C : Type 0}
-    → after x f ≡ Found.found b rest → ((a : A) (mid : List ℕ) → x ≡ Found.found a mid → f a mid ≡ Found.found b rest → C) → C
-after-found Found.none f {b} {rest} {C} e k = let n : _≡_ {A = ℕ} 0 1 = cc in absurd (omega arith)
-after-found (Found.found a mid) f e k = k a mid refl e
+pub after-found : {A B : Type 0} (x : Reading A) (f : A → List ℕ → Reading B) {b : B} {rest : List ℕ} {C : Type 0}
+    → after x f ≡ Reading.found b rest → ((a : A) (mid : List ℕ) → x ≡ Reading.found a mid → f a mid ≡ Reading.found b rest → C) → C
+after-found Reading.none f {b} {rest} {C} e k = let n : _≡_ {A = ℕ} 0 1 = cc in absurd (omega arith)
+after-found (Reading.found a mid) f e k = k a mid refl e
 
-pub field-text : (bs : List ℕ) {v : ℕ} {rest : List ℕ} → readField bs ≡ Found.found v rest → (bs ≡ field v ++ rest) × (v ≤ limit)
+pub field-text : (bs : List ℕ) {v : ℕ} {rest : List ℕ} → readField bs ≡ Reading.found v rest → (bs ≡ field v ++ rest) × (v ≤ limit)
 unfolding readField field
 field-text [] {v} {rest} e = let n : _≡_ {A = ℕ} 0 1 = cc in absurd (omega arith)
 field-text (b ∷ bs) {v} {rest} e =
@@ -44,23 +44,23 @@ field-text (b ∷ bs) {v} {rest} e =
     let h = number-text bs (rw t at e) in
     (rw (eqb-true b tabByte t) (ap (λ (l : List ℕ). tabByte ∷ l) (h .0)), h .1))
     (λ (t : eqb b tabByte ≡ false).
-    let z : Found.none ≡ Found.found v rest = rw t at e in
+    let z : Reading.none ≡ Reading.found v rest = rw t at e in
     let n : _≡_ {A = ℕ} 0 1 = cc in
     absurd (omega arith))
 
-pub text-field : (v : ℕ) {rest : List ℕ} → v ≤ limit → Stops rest → readField (field v ++ rest) ≡ Found.found v rest
+pub text-field : (v : ℕ) {rest : List ℕ} → v ≤ limit → Stops rest → readField (field v ++ rest) ≡ Reading.found v rest
 unfolding readField field
 text-field v l s = text-number v l s
 
-pub fields-text : (n : ℕ) (bs : List ℕ) {vs rest : List ℕ} → readFields n bs ≡ Found.found vs rest → Held fields n bs vs rest
+pub fields-text : (n : ℕ) (bs : List ℕ) {vs rest : List ℕ} → readFields n bs ≡ Reading.found vs rest → Stands fields n bs vs rest
 unfolding readFields fields
 fields-text zero bs {vs} {rest} e =
     let ev : [] ≡ vs = cc in
     let er : bs ≡ rest = cc in
     rw (← ev, er) (record { bytes = refl; long = refl; small = Small.none })
 fields-text (suc n) bs {vs} {rest} e =
-    after-found (readField bs) (λ (v : ℕ) (mid : List ℕ). after (readFields n mid) (λ (ws : List ℕ) (end : List ℕ). Found.found (v ∷ ws) end)) e
-    (λ v mid e₁ e₂. after-found (readFields n mid) (λ (ws : List ℕ) (end : List ℕ). Found.found (v ∷ ws) end) e₂
+    after-found (readField bs) (λ (v : ℕ) (mid : List ℕ). after (readFields n mid) (λ (ws : List ℕ) (end : List ℕ). Reading.found (v ∷ ws) end)) e
+    (λ v mid e₁ e₂. after-found (readFields n mid) (λ (ws : List ℕ) (end : List ℕ). Reading.found (v ∷ ws) end) e₂
     (λ ws end e₃ e₄.
     let ev : v ∷ ws ≡ vs = cc in
     let er : end ≡ rest = cc in
@@ -79,24 +79,24 @@ unfolding fields field
 stops-fields [] s = s
 stops-fields (v ∷ vs) s = Stops.at-byte refl
 
-pub text-fields : {vs rest : List ℕ} → Small vs → Stops rest → readFields (length vs) (fields vs ++ rest) ≡ Found.found vs rest
+pub text-fields : {vs rest : List ℕ} → Small vs → Stops rest → readFields (length vs) (fields vs ++ rest) ≡ Reading.found vs rest
 unfolding readFields fields
 text-fields {rest = rest} none s = refl
 text-fields {rest = rest} (more {v} {vs} l m) s =
     rw (append-assoc (field v) (fields vs) rest, text-field v l (stops-fields vs s), text-fields m s)
 
-pub closed-found : (vs mid : List ℕ) {us rest : List ℕ} → closed vs mid ≡ Found.found us rest → (vs ≡ us) × (mid ≡ lineFeed ∷ rest)
+pub closed-found : (vs mid : List ℕ) {us rest : List ℕ} → closed vs mid ≡ Reading.found us rest → (vs ≡ us) × (mid ≡ lineFeed ∷ rest)
 unfolding closed
 closed-found vs [] {us} {rest} e = let n : _≡_ {A = ℕ} 0 1 = cc in absurd (omega arith)
 closed-found vs (b ∷ bs) {us} {rest} e =
     decided (eqb b lineFeed)
     (λ (t : eqb b lineFeed ≡ true).
-    let f : Found.found vs bs ≡ Found.found us rest = rw t at e in
+    let f : Reading.found vs bs ≡ Reading.found us rest = rw t at e in
     let ev : vs ≡ us = cc in
     let er : bs ≡ rest = cc in
     (ev, rw (eqb-true b lineFeed t, er)))
     (λ (t : eqb b lineFeed ≡ false).
-    let z : Found.none ≡ Found.found us rest = rw t at e in
+    let z : Reading.none ≡ Reading.found us rest = rw t at e in
     let n : _≡_ {A = ℕ} 0 1 = cc in
     absurd (omega arith))
 
@@ -114,13 +114,13 @@ true-T : (t : Bool) → T t → t ≡ true
 true-T true h = refl
 true-T false h = absurd h
 
-pub line-text : (word : List ℕ) (n : ℕ) (bs : List ℕ) {vs rest : List ℕ} → readLine word n bs ≡ Found.found vs rest → Held (line word) n bs vs rest
+pub line-text : (word : List ℕ) (n : ℕ) (bs : List ℕ) {vs rest : List ℕ} → readLine word n bs ≡ Reading.found vs rest → Stands (line word) n bs vs rest
 unfolding readLine
 line-text word n bs {vs} {rest} e =
     decided (same (take (length word) bs) word)
     (λ (t : same (take (length word) bs) word ≡ true).
     let front : take (length word) bs ≡ word = same→eq (take (length word) bs) word (T-true (same (take (length word) bs) word) t) in
-    let e₁ : after (readFields n (drop (length word) bs)) closed ≡ Found.found vs rest = rw t at e in
+    let e₁ : after (readFields n (drop (length word) bs)) closed ≡ Reading.found vs rest = rw t at e in
     after-found (readFields n (drop (length word) bs)) closed e₁
     (λ us mid e₂ e₃.
     let h = fields-text n (drop (length word) bs) e₂ in
@@ -136,11 +136,11 @@ line-text word n bs {vs} {rest} e =
       small = h .small;
     })))
     (λ (t : same (take (length word) bs) word ≡ false).
-    let z : Found.none ≡ Found.found vs rest = rw t at e in
+    let z : Reading.none ≡ Reading.found vs rest = rw t at e in
     let n : _≡_ {A = ℕ} 0 1 = cc in
     absurd (omega arith))
 
-pub text-line : (word : List ℕ) {n : ℕ} {bs vs rest : List ℕ} → Held (line word) n bs vs rest → readLine word n bs ≡ Found.found vs rest
+pub text-line : (word : List ℕ) {n : ℕ} {bs vs rest : List ℕ} → Stands (line word) n bs vs rest → readLine word n bs ≡ Reading.found vs rest
 unfolding readLine closed
 text-line word {n} {bs} {vs} {rest} h =
     rw (
@@ -153,7 +153,7 @@ text-line word {n} {bs} {vs} {rest} h =
     )
 
 -- a line reads as vs and the rest exactly when the bytes are the line of vs, of n small numbers, and the rest
-pub line-exactly : (word : List ℕ) (n : ℕ) (bs vs rest : List ℕ) → (readLine word n bs ≡ Found.found vs rest) ↔ Held (line word) n bs vs rest
+pub line-exactly : (word : List ℕ) (n : ℕ) (bs vs rest : List ℕ) → (readLine word n bs ≡ Reading.found vs rest) ↔ Stands (line word) n bs vs rest
 line-exactly word n bs vs rest = (line-text word n bs, text-line word)
 
 tabs-byte : (d : ℕ) (bs : List ℕ) → tabs ((48 + d) ∷ bs) ≡ tabs bs

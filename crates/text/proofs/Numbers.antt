@@ -9,19 +9,14 @@ use native.Mathlib.Omega.{arith}
 use lib.Dec.{ltb, leb, eqb}
 use lib.ListN.{length, length-append}
 use borrow.Author.Tests.{ltb-true, ltb-false, leb-true, leb-false, eqb-true, eqb-false, lt-ltb, le-ltb, le-leb, lt-leb, eq-eqb, ne-eqb}
-use Rattle.lists.proofs.Decide.{lt-or-ge}
+use Rattle.lists.proofs.Decide.{decided, lt-or-ge}
 use Rattle.text.specs.Print.{limit, digits, decimal}
-use Rattle.text.specs.Read.{Found, isDigit, readMore, readNumber, tabs}
+use Rattle.text.specs.Read.{Reading, isDigit, readMore, readNumber, tabs}
 
 -- what no digit begins: the end, or another byte
 pub data Stops : List ℕ → Type 0 where
   at-end : Stops []
   at-byte : {b : ℕ} {bs : List ℕ} → isDigit b ≡ false → Stops (b ∷ bs)
-
--- a test is decided one way or the other
-pub decided : {A : Type 0} (t : Bool) → (t ≡ true → A) → (t ≡ false → A) → A
-decided true held quiet = held refl
-decided false held quiet = quiet refl
 
 pub both-true : (a b : Bool) → a ≡ true → b ≡ true → (a && b) ≡ true
 both-true a b p q = rw p q
@@ -58,17 +53,17 @@ decimal-zero : (rest : List ℕ) → 48 ∷ rest ≡ decimal 0 ++ rest
 unfolding decimal digits
 decimal-zero rest = refl
 
-zero-read : (rest : List ℕ) → readNumber (decimal 0 ++ rest) ≡ Found.found 0 rest
+zero-read : (rest : List ℕ) → readNumber (decimal 0 ++ rest) ≡ Reading.found 0 rest
 unfolding decimal digits readNumber
 zero-read rest = refl
 
-stopped : (v : ℕ) {rest : List ℕ} → Stops rest → readMore v rest ≡ Found.found v rest
+stopped : (v : ℕ) {rest : List ℕ} → Stops rest → readMore v rest ≡ Reading.found v rest
 unfolding readMore
 stopped v at-end = refl
 stopped v (at-byte q) = rw q
 
 -- a number whose digits so far say v, read on to w: the decimal of w stands there
-pub more-text : (v : ℕ) (bs : List ℕ) {w : ℕ} {rest : List ℕ} → 1 ≤ v → v ≤ limit → readMore v bs ≡ Found.found w rest
+pub more-text : (v : ℕ) (bs : List ℕ) {w : ℕ} {rest : List ℕ} → 1 ≤ v → v ≤ limit → readMore v bs ≡ Reading.found w rest
     → (decimal v ++ bs ≡ decimal w ++ rest) × (w ≤ limit)
 unfolding readMore
 more-text v [] {w} {rest} p l e =
@@ -81,10 +76,10 @@ more-text v (b ∷ bs) {w} {rest} p l e =
     let d : ℕ = b - 48 in
     let from = digit-from b q in
     let to = digit-to b q in
-    let e₁ : cond (ltb limit (v * 10 + (b - 48))) Found.none (readMore (v * 10 + (b - 48)) bs) ≡ Found.found w rest = rw q at e in
+    let e₁ : cond (ltb limit (v * 10 + (b - 48))) Reading.none (readMore (v * 10 + (b - 48)) bs) ≡ Reading.found w rest = rw q at e in
     decided (ltb limit (v * 10 + (b - 48)))
     (λ (t : ltb limit (v * 10 + (b - 48)) ≡ true).
-    let z : Found.none ≡ Found.found w rest = rw t at e₁ in
+    let z : Reading.none ≡ Reading.found w rest = rw t at e₁ in
     let n : _≡_ {A = ℕ} 0 1 = cc in
     absurd (omega arith))
     (λ (t : ltb limit (v * 10 + (b - 48)) ≡ false).
@@ -95,13 +90,13 @@ more-text v (b ∷ bs) {w} {rest} p l e =
     rw byte at (decimal-digit v (b - 48) p (omega arith) small) in
     (sym (append-assoc (decimal v) (b ∷ []) bs) ∙ ap (λ (t : List ℕ). t ++ bs) (sym push) ∙ ih .0, ih .1)))
     (λ (q : isDigit b ≡ false).
-    let e₁ : Found.found v (b ∷ bs) ≡ Found.found w rest = rw q at e in
+    let e₁ : Reading.found v (b ∷ bs) ≡ Reading.found w rest = rw q at e in
     let ev : v ≡ w = cc in
     let er : b ∷ bs ≡ rest = cc in
     (rw (ev, er), rw (← ev) l))
 
 -- a number that was read stands there in decimal
-pub number-text : (bs : List ℕ) {w : ℕ} {rest : List ℕ} → readNumber bs ≡ Found.found w rest → (bs ≡ decimal w ++ rest) × (w ≤ limit)
+pub number-text : (bs : List ℕ) {w : ℕ} {rest : List ℕ} → readNumber bs ≡ Reading.found w rest → (bs ≡ decimal w ++ rest) × (w ≤ limit)
 unfolding readNumber
 number-text [] {w} {rest} e = let n : _≡_ {A = ℕ} 0 1 = cc in absurd (omega arith)
 number-text (b ∷ bs) {w} {rest} e =
@@ -109,10 +104,10 @@ number-text (b ∷ bs) {w} {rest} e =
     (λ (q : isDigit b ≡ true).
     let from = digit-from b q in
     let to = digit-to b q in
-    let e₁ : cond (eqb b 48) (Found.found 0 bs) (readMore (b - 48) bs) ≡ Found.found w rest = rw q at e in
+    let e₁ : cond (eqb b 48) (Reading.found 0 bs) (readMore (b - 48) bs) ≡ Reading.found w rest = rw q at e in
     decided (eqb b 48)
     (λ (t : eqb b 48 ≡ true).
-    let e₂ : Found.found 0 bs ≡ Found.found w rest = rw t at e₁ in
+    let e₂ : Reading.found 0 bs ≡ Reading.found w rest = rw t at e₁ in
     let ew : 0 ≡ w = cc in
     let er : bs ≡ rest = cc in
     (rw (eqb-true b 48 t, ← ew, er) (decimal-zero rest), rw (← ew) (omega arith)))
@@ -122,7 +117,7 @@ number-text (b ∷ bs) {w} {rest} e =
     let byte : 48 + (b - 48) ≡ b = omega arith in
     (ap (λ (z : ℕ). z ∷ bs) (sym byte) ∙ ap (λ (t : List ℕ). t ++ bs) (sym (decimal-one (b - 48) (omega arith))) ∙ ih .0, ih .1)))
     (λ (q : isDigit b ≡ false).
-    let e₁ : Found.none ≡ Found.found w rest = rw q at e in
+    let e₁ : Reading.none ≡ Reading.found w rest = rw q at e in
     let n : _≡_ {A = ℕ} 0 1 = cc in
     absurd (omega arith))
 
@@ -148,7 +143,7 @@ along (suc n) v bs h p l =
     (lt-or-ge v 10)
 
 -- a number is read where it stands in decimal and no digit follows
-pub text-number : (v : ℕ) {rest : List ℕ} → v ≤ limit → Stops rest → readNumber (decimal v ++ rest) ≡ Found.found v rest
+pub text-number : (v : ℕ) {rest : List ℕ} → v ≤ limit → Stops rest → readNumber (decimal v ++ rest) ≡ Reading.found v rest
 unfolding decimal readMore
 text-number zero {rest} l s = zero-read rest
 text-number (suc v) {rest} l s = along 9 (suc v) rest (omega arith) (omega arith) l ∙ stopped (suc v) s

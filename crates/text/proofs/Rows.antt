@@ -9,10 +9,10 @@ use lib.ListN.{length, take, drop, getD, length-append, length-take, length-drop
 use lib.Seq.{take-at, drop-at, length-take-le}
 use Rattle.layout.specs.Layout.{volume}
 use Rattle.text.specs.Print.{limit, line}
-use Rattle.text.specs.Read.{Found, readLine}
+use Rattle.text.specs.Read.{Reading, readLine}
 use Rattle.text.specs.Sheet.{rowWord, rowCount, rowWidth, rowsText}
-use Rattle.text.specs.Meaning.{Step, onLine, onward, behind, ended, rowLines}
-use Rattle.text.proofs.Lines.{Small, Held, line-text, text-line}
+use Rattle.text.specs.Meaning.{Verdict, onLine, onward, behind, ended, rowLines}
+use Rattle.text.proofs.Lines.{Small, Stands, line-text, text-line}
 use Rattle.text.proofs.Steps.{on-line-go, onward-go, behind-go, ended-go}
 
 pub small-append : {us ws : List ℕ} → Small us → Small ws → Small (us ++ ws)
@@ -36,7 +36,7 @@ pub record AreRows (count n : ℕ) (bs ws rest : List ℕ) : Type 0 where
   pub small : Small ws
   pub nothing : rest ≡ []
 
-pub rows-text : (k count n : ℕ) (bs : List ℕ) {ws rest : List ℕ} → rowLines k count n bs ≡ Step.go ws rest → AreRows count n bs ws rest
+pub rows-text : (k count n : ℕ) (bs : List ℕ) {ws rest : List ℕ} → rowLines k count n bs ≡ Verdict.go ws rest → AreRows count n bs ws rest
 unfolding rowLines rowsText
 rows-text k zero n bs {ws} {rest} e =
     let h = ended-go k bs e in
@@ -57,16 +57,16 @@ rows-text k (suc count) n bs {ws} {rest} e =
       nothing = ih .nothing;
     })))
 
-pub text-rows : (k count n : ℕ) (ws : List ℕ) → length ws ≡ count * n → Small ws → rowLines k count n (rowsText count n ws) ≡ Step.go ws []
+pub text-rows : (k count n : ℕ) (ws : List ℕ) → length ws ≡ count * n → Small ws → rowLines k count n (rowsText count n ws) ≡ Verdict.go ws []
 unfolding rowLines rowsText ended
 text-rows k zero n [] l s = refl
 text-rows k zero n (w ∷ ws) l s = absurd (omega arith)
 text-rows k (suc count) n ws l s =
     let few : n ≤ length ws = omega arith in
-    let held : Held (line rowWord) n (line rowWord (take n ws) ++ rowsText count n (drop n ws)) (take n ws) (rowsText count n (drop n ws)) =
+    let held : Stands (line rowWord) n (line rowWord (take n ws) ++ rowsText count n (drop n ws)) (take n ws) (rowsText count n (drop n ws)) =
     record { bytes = refl; long = length-take-le n ws few; small = small-take n s } in
     rw (text-line rowWord held, text-rows (suc k) count n (drop n ws) (omega (arith, length-drop n ws)) (small-drop n s))
-    (ap (λ (l : List ℕ). Step.go l []) (take-append-drop n ws))
+    (ap (λ (l : List ℕ). Verdict.go l []) (take-append-drop n ws))
 
 -- the rows hold the words of the block
 rows-of : (d : ℕ) (ds : List ℕ) → volume (take (length ds) (d ∷ ds)) * getD (d ∷ ds) (length ds) 0 ≡ volume (d ∷ ds)

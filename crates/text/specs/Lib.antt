@@ -1,4 +1,8 @@
+-- a number, a field and a line printed
 pub mod Print
+-- what bytes read as
 pub mod Read
+-- the text of a sheet, of a result sheet and of a refusal
 pub mod Sheet
+-- what a sheet means, line by line
 pub mod Meaning

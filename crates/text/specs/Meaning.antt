@@ -6,7 +6,7 @@ use lib.Dec.{ltb}
 use lib.ListN.{length}
 use Rattle.layout.specs.Layout.{volume}
 use Rattle.refusals.specs.Conditions.{badLength, shortBuffer, longChain, badSwap, noSwap, firstPlace}
-use Rattle.text.specs.Read.{Found, readLine, tabs}
+use Rattle.text.specs.Read.{Reading, readLine, tabs}
 use Rattle.text.specs.Sheet.{shapeWord, chainWord, rowWord, rowCount, rowWidth}
 
 -- 9: a sheet has more than 16,384 bytes
@@ -17,10 +17,10 @@ longSheet bytes = ltb 16384 (length bytes)
 abbrev pub bigSheet : List ℕ → Bool
 bigSheet ds = ltb 1024 (volume ds)
 
--- one step of reading: a refusal with its number and place, or the numbers that were read and the bytes that follow them
-pub data Step : Type 0 where
-  refuse : ℕ → ℕ → Step
-  go : List ℕ → List ℕ → Step
+-- a line or rows judged: a refusal with its number and place, or the numbers that were read and the bytes that follow them
+pub data Verdict : Type 0 where
+  refuse : ℕ → ℕ → Verdict
+  go : List ℕ → List ℕ → Verdict
 
 -- a sheet is refused with a number and a place, or accepted with its lengths, its chain and its words
 pub data Outcome : Type 0 where
@@ -28,51 +28,51 @@ pub data Outcome : Type 0 where
   accepted : List ℕ → List ℕ → List ℕ → Outcome
 
 -- where the condition holds, the number is given with the place; else go on
-abbrev pub refuseIf : Bool → ℕ → ℕ → Step → Step
-refuseIf t number place next = cond t (Step.refuse number place) next
+abbrev pub refuseIf : Bool → ℕ → ℕ → Verdict → Verdict
+refuseIf t number place next = cond t (Verdict.refuse number place) next
 
 -- 10: line k is malformed, missing or left over
-abbrev pub onLine : ℕ → Found (List ℕ) → Step
-onLine k Found.none = Step.refuse 10 k
-onLine k (Found.found vs rest) = Step.go vs rest
+abbrev pub onLine : ℕ → Reading (List ℕ) → Verdict
+onLine k Reading.none = Verdict.refuse 10 k
+onLine k (Reading.found vs rest) = Verdict.go vs rest
 
--- a refusal stands; else the next step goes on with the numbers and the bytes that follow them
-abbrev pub onward : Step → (List ℕ → List ℕ → Step) → Step
-onward (Step.refuse number place) f = Step.refuse number place
-onward (Step.go vs rest) f = f vs rest
+-- a refusal stands; else the next verdict goes on with the numbers and the bytes that follow them
+abbrev pub onward : Verdict → (List ℕ → List ℕ → Verdict) → Verdict
+onward (Verdict.refuse number place) f = Verdict.refuse number place
+onward (Verdict.go vs rest) f = f vs rest
 
--- these words stand before those of the next step
-abbrev pub behind : List ℕ → Step → Step
-behind ws (Step.refuse number place) = Step.refuse number place
-behind ws (Step.go vs rest) = Step.go (ws ++ vs) rest
+-- these words stand before those of the next verdict
+abbrev pub behind : List ℕ → Verdict → Verdict
+behind ws (Verdict.refuse number place) = Verdict.refuse number place
+behind ws (Verdict.go vs rest) = Verdict.go (ws ++ vs) rest
 
 -- a refusal is the outcome; else what is made of the numbers and the bytes that follow them
-abbrev pub conclude : Step → (List ℕ → List ℕ → Outcome) → Outcome
-conclude (Step.refuse number place) f = Outcome.refused number place
-conclude (Step.go vs rest) f = f vs rest
+abbrev pub conclude : Verdict → (List ℕ → List ℕ → Outcome) → Outcome
+conclude (Verdict.refuse number place) f = Outcome.refused number place
+conclude (Verdict.go vs rest) f = f vs rest
 
 -- 9; form of line 1 (10); 1; 11; 3 for the lent word buffer
-unfoldable pub shapeLine : List ℕ → List ℕ → Step
+unfoldable pub shapeLine : List ℕ → List ℕ → Verdict
 shapeLine buffer bytes =
     refuseIf (longSheet bytes) 9 0
     (onward (onLine 1 (readLine shapeWord 4 bytes))
     (λ (ds : List ℕ) (rest : List ℕ).
-    refuseIf (badLength ds) 1 0 (refuseIf (bigSheet ds) 11 0 (refuseIf (shortBuffer ds buffer) 3 0 (Step.go ds rest)))))
+    refuseIf (badLength ds) 1 0 (refuseIf (bigSheet ds) 11 0 (refuseIf (shortBuffer ds buffer) 3 0 (Verdict.go ds rest)))))
 
 -- form of line 2 (10); 5; 6, whose place is that of the first swap above 2
-unfoldable pub chainLine : List ℕ → Step
+unfoldable pub chainLine : List ℕ → Verdict
 chainLine bytes =
     onward (onLine 2 (readLine chainWord (tabs bytes) bytes))
     (λ (chain : List ℕ) (rest : List ℕ).
-    refuseIf (longChain chain) 5 0 (refuseIf (badSwap 4 chain) 6 (firstPlace (noSwap 4) chain) (Step.go chain rest)))
+    refuseIf (longChain chain) 5 0 (refuseIf (badSwap 4 chain) 6 (firstPlace (noSwap 4) chain) (Verdict.go chain rest)))
 
 -- nothing follows the last row: line k is left over where something does
-unfoldable pub ended : ℕ → List ℕ → Step
-ended k [] = Step.go [] []
-ended k (b ∷ bs) = Step.refuse 10 k
+unfoldable pub ended : ℕ → List ℕ → Verdict
+ended k [] = Verdict.go [] []
+ended k (b ∷ bs) = Verdict.refuse 10 k
 
 -- so many rows of n words from line k on, and nothing after them
-unfoldable pub rowLines : ℕ → ℕ → ℕ → List ℕ → Step
+unfoldable pub rowLines : ℕ → ℕ → ℕ → List ℕ → Verdict
 rowLines k zero n bytes = ended k bytes
 rowLines k (suc count) n bytes =
     onward (onLine k (readLine rowWord n bytes)) (λ (ws : List ℕ) (rest : List ℕ). behind ws (rowLines (suc k) count n rest))

@@ -1,82 +1,58 @@
 -- `axes::chain` meets its promise: a refusal changes nothing, and what is accepted runs.
-use mathlib.Core.Path.{_≡_, sym, _∙_}
+use mathlib.Core.Path.{_≡_, sym}
+use Prim.Native.Nat.{ℕ}
 use native.Mathlib.Omega.{arith}
-use denote.Ref.{now}
+use lib.ListN.{length}
+use borrow.Author.Needs.{needs}
 use borrow.Author.Tests.{ne-eqb}
+use Rattle.lists.proofs.Via.{via}
+use Rattle.refusals.specs.FirstOf.{firstOf}
+use Rattle.refusals.specs.Calls.{chainChecks}
 use Rattle.axes.specs.Answers.{refusedPlace}
 use Rattle.axes.proofs.Calls.{chain-refused}
-use borrow.Author.Needs.{needs}
 use Rattle.axes.proofs.chain.Statement.{statement}
 use Rattle.axes.proofs.chain.Tie as tie
 
-chain-number-requires : tie.Need-chain-number-requires
-chain-number-requires c κs = tt
+axes : (x : tie.Start) → length (x .args .shape .lens) ≡ 4
+axes x = search needs
 
-first-bad-requires : tie.Need-first-bad-requires
-first-bad-requires c κs = tt
-
-refusal-requires : tie.Need-refusal-requires
-refusal-requires c κs = tt
-
-same-length : tie.Need-same-length
-same-length c = search needs
-
-same-length-2 : tie.Need-same-length-2
-same-length-2 c = search needs
+-- the number that a test found is that of the checks
+first : (x : tie.Start) {n m : ℕ} → n ≡ firstOf (chainChecks 4 (x .args .shape .lens) (x .args .buf .now) (x .args .scratch .now) (x .args .swaps .now)) → n ≡ m
+    → m ≡ firstOf (chainChecks 4 (x .args .shape .lens) (x .args .buf .now) (x .args .scratch .now) (x .args .swaps .now))
+first x e d = via d e
 
 returns : tie.Need-returns
 returns c =
-    let x = c .before .before .before .before .before .before .before .before .before .before in
-    chain-refused (c .refusal .ensures) (λ e. omega arith) (x .args .shape .lens) (now (x .args .swaps)) (now (x .args .buf)) (now (x .args .scratch))
-    (sym (c .before .before .if1 .taken) ∙ c .before .before .before .chain-number .ensures)
-    (c .before .first-bad .ensures)
-
-refusal-requires-2 : tie.Need-refusal-requires-2
-refusal-requires-2 c κs = tt
-
-same-length-3 : tie.Need-same-length-3
-same-length-3 c = search needs
-
-same-length-4 : tie.Need-same-length-4
-same-length-4 c = search needs
+    let f : tie.After-first-above = search in
+    let n : tie.After-chain-number = search in
+    chain-refused 4 (c .refusal .ensures) (λ e. omega arith) (first (search) (n .chain-number .ensures) (search)) (f .first-above .ensures)
 
 returns-2 : tie.Need-returns-2
 returns-2 c =
-    let x = c .before .before .before .before .before .before .before .before .before .before in
-    let number = c .before .before .before .chain-number .result in
-    let swaps = now (x .args .swaps) in
-    let nowhere : 0 ≡ refusedPlace number swaps = rw (ne-eqb number 6 (c .before .before .if1 .left)) in
-    chain-refused (c .refusal2 .ensures) (c .before .if2 .taken) (x .args .shape .lens) swaps (now (x .args .buf)) (now (x .args .scratch))
-    (c .before .before .before .chain-number .ensures)
-    nowhere
-
-run-requires : tie.Need-run-requires
-run-requires c κs = sym (c .before .before .before .before .chain-number .ensures) ∙ c .before .before .if2 .left
-
-same-length-5 : tie.Need-same-length-5
-same-length-5 c = search needs
-
-same-length-6 : tie.Need-same-length-6
-same-length-6 c = search needs
-
-returns-3 : tie.Need-returns-3
-returns-3 c = c .before .before .before .before .run .ensures
+    let t : tie.Then2 = search in
+    let l : tie.Else1 = search in
+    let n : tie.After-chain-number = search in
+    let x : tie.Start = search in
+    let number = n .chain-number .result in
+    let nowhere : 0 ≡ refusedPlace 4 number (x .args .swaps .now) = rw (ne-eqb number 6 (l .if1 .left)) in
+    chain-refused 4 (c .refusal2 .ensures) (t .if2 .taken) (n .chain-number .ensures) nowhere
 
 pub chain-spec : {M : Type 1} → statement M
 chain-spec =
     tie.close
     (tie.spec
-    chain-number-requires
-    first-bad-requires
-    refusal-requires
-    same-length
-    same-length-2
+    (λ c. omega (arith, axes (search)))
+    (search needs)
+    (search needs)
+    (search needs)
+    (search needs)
+    (search needs)
     returns
-    refusal-requires-2
-    same-length-3
-    same-length-4
+    (search needs)
+    (search needs)
+    (search needs)
     returns-2
-    run-requires
-    same-length-5
-    same-length-6
-    returns-3)
+    (λ c κs. let n : tie.After-chain-number = search in sym (first (search) (n .chain-number .ensures) (search)))
+    (search needs)
+    (search needs)
+    (λ c. let r : tie.After-run = search in r .run .ensures))

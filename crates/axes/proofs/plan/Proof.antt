@@ -1,55 +1,47 @@
 -- `axes::plan` meets its promise: its tests are the checks 7 and 8, and the swaps computed are the plan's. That 8 is never given is what
--- `falling-4` says.
+-- `falling-places` says at four axes.
 use mathlib.Core.Path.{_≡_, refl, sym, ap, ap₂, _∙_}
 use mathlib.Core.List.{List, _++_}
-use Prim.Native.Nat.{ℕ, _-_, _≤_}
+use Prim.Native.Nat.{ℕ, _-_}
 use native.Mathlib.Omega.{arith}
 use lib.ListN.{length, replicate}
+use borrow.Author.Needs.{needs}
 use borrow.Author.Tests.{lt-ltb, le-ltb}
 use Rattle.orders.specs.Numbers.{orderOf}
 use Rattle.orders.specs.Plans.{falling, planned, planOf}
-use Rattle.orders.proofs.Plans.{length-plan}
-use Rattle.orders.proofs.FourAxes.{falling-4}
+use Rattle.orders.proofs.Plans.{length-plan, falling-places}
 use Rattle.refusals.specs.Calls.{planChecks}
 use Rattle.refusals.proofs.FirstOf.{First, Silent, first-is, silent-zero}
 use Rattle.axes.specs.declared.Planned.{Planned}
-use borrow.Author.Needs.{needs}
 use Rattle.axes.proofs.plan.Statement.{statement}
 use Rattle.axes.proofs.plan.Tie as tie
 
 returns : tie.Need-returns
 returns c =
-    let above : First 7 (planChecks 4 (c .before .args .order)) = First.here (lt-ltb 23 (c .before .args .order) (c .if1 .taken)) refl in
+    let x : tie.Start = search in
+    let above : First 7 (planChecks 4 (x .args .order)) = First.here (lt-ltb 23 (x .args .order) (c .if1 .taken)) refl in
     record { number-is = sym (first-is above); given = λ e. absurd (omega arith); refusal = λ _. refl }
-
-order-of-requires : tie.Need-order-of-requires
-order-of-requires c κs = search needs
-
-falling-pairs-requires : tie.Need-falling-pairs-requires
-falling-pairs-requires c κs = search needs
 
 returns-2 : tie.Need-returns-2
 returns-2 c =
-    let x = c .before .before .before .before in
-    let few : falling (orderOf 4 (x .args .order)) ≤ 6 = falling-4 (x .args .order) (omega arith) in
-    let pairs : c .before .falling-pairs .result ≡ falling (orderOf 4 (x .args .order)) =
-    c .before .falling-pairs .ensures ∙ ap falling (c .before .before .order-of .ensures) in
-    absurd (omega arith)
-
-planned-swaps-requires : tie.Need-planned-swaps-requires
-planned-swaps-requires c κs = search needs
+    let f : tie.After-falling-pairs = search in
+    let s : tie.After-order-of = search in
+    let x : tie.Start = search in
+    let pairs = f .falling-pairs .ensures ∙ ap falling (s .order-of .ensures) in
+    absurd (omega (arith, falling-places 4 (x .args .order) (omega arith)))
 
 returns-3 : tie.Need-returns-3
 returns-3 c =
-    let x = c .before .before .before .before .before in
+    let f : tie.After-falling-pairs = search in
+    let s : tie.After-order-of = search in
+    let x : tie.Start = search in
     let k = x .args .order in
     let o = orderOf 4 k in
-    let n = c .before .before .falling-pairs .result in
-    let few : falling o ≤ 6 = falling-4 k (omega arith) in
-    let axes : c .before .before .before .order-of .result .axes ≡ o = c .before .before .before .order-of .ensures in
-    let long : n ≡ length (planOf o) = c .before .before .falling-pairs .ensures ∙ ap falling axes ∙ sym (length-plan o) in
-    let swaps : planned n (c .before .before .before .order-of .result .axes) ≡ planOf o =
-    ap₂ planned (long ∙ length-plan o) axes ∙ unfold planOf in refl in
+    let few = falling-places 4 k (omega arith) in
+    let pairs = f .falling-pairs .ensures ∙ ap falling (s .order-of .ensures) in
+    let long : f .falling-pairs .result ≡ length (planOf o) = pairs ∙ sym (length-plan o) in
+    let swaps : planned (f .falling-pairs .result) (s .order-of .result .axes) ≡ planOf o =
+    ap₂ planned pairs (s .order-of .ensures) ∙ unfold planOf in refl in
     let silent : Silent (planChecks 4 k) =
     Silent.more (le-ltb 23 k (omega arith)) (Silent.more (le-ltb 6 (length (planOf o)) (omega (arith, length-plan o))) Silent.none) in
     record {
@@ -62,12 +54,4 @@ returns-3 c =
     }
 
 pub plan-spec : {M : Type 1} → statement M
-plan-spec =
-    tie.close
-    (tie.spec
-    returns
-    order-of-requires
-    falling-pairs-requires
-    returns-2
-    planned-swaps-requires
-    returns-3)
+plan-spec = tie.close (tie.spec returns (search needs) (search needs) returns-2 (search needs) returns-3)

@@ -1,5 +1,5 @@
 -- `first_above` meets its contract. The loop's invariant: the entries passed and the first place from there on are the first place.
-use mathlib.Core.Path.{_≡_, sym, _∙_}
+use mathlib.Core.Path.{_≡_}
 use Prim.Native.Nat.{_+_, _≤_, _-_}
 use native.Mathlib.Omega.{arith}
 use lib.Dec.{ltb}

@@ -1,5 +1,5 @@
 -- `longest_of` meets its contract. The loop's invariant: the longest so far and the longest of the rest give the longest.
-use mathlib.Core.Path.{_≡_, refl, sym, ap, _∙_}
+use mathlib.Core.Path.{_≡_}
 use mathlib.Core.List.{List}
 use Prim.Native.Nat.{ℕ, _+_, _<_, _≤_, _-_, max}
 use native.Mathlib.Omega.{arith}

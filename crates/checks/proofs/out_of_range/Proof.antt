@@ -1,5 +1,5 @@
 -- `out_of_range` meets its contract: its two tests are those of the definition.
-use mathlib.Core.Path.{_≡_, sym}
+use mathlib.Core.Path.{sym}
 use borrow.Author.Tests.{ne-eqb}
 use Rattle.refusals.proofs.Conditions.{range-zero}
 use Rattle.checks.proofs.out_of_range.Statement.{statement}

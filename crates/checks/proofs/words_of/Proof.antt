@@ -1,5 +1,5 @@
 -- `words_of` meets its contract. The loop's invariant: the words so far times the rest, cut, are the words of the block, cut.
-use mathlib.Core.Path.{_≡_, refl, sym, ap, _∙_}
+use mathlib.Core.Path.{_≡_, sym, ap, _∙_}
 use mathlib.Core.List.{List}
 use Prim.Native.Nat.{ℕ, _+_, _<_, _≤_, _-_, _*_}
 use native.Mathlib.Nat.{mul-assoc, mul-one, one-mul}

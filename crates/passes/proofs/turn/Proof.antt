@@ -1,13 +1,13 @@
 -- `turn` meets its contract: refused by the checks, or the block at the buffer's start is turned and scratch cleared.
-use mathlib.Core.Path.{_≡_, _∙_}
+use mathlib.Core.Path.{_≡_}
 use native.Mathlib.Omega.{arith}
 use borrow.Author.Needs.{needs}
 use Rattle.lists.proofs.Via.{via}
 use Rattle.refusals.specs.FirstOf.{firstOf}
 use Rattle.refusals.specs.Calls.{passesChecks}
-use Rattle.refusals.proofs.Promise.{refused, accepted}
+use Rattle.refusals.proofs.Promise.{refused}
 use Rattle.flat.specs.Turn.{sides}
-use Rattle.passes.proofs.Accepted.{Accepted, flat-accepted, flat-lies, flat-turned, past-cleared}
+use Rattle.passes.proofs.Accepted.{Accepted, flat-accepted, flat-asked, turn-outcome}
 use Rattle.passes.proofs.turn.Statement.{statement}
 use Rattle.passes.proofs.turn.Tie as tie
 
@@ -16,19 +16,12 @@ checked : (x : tie.Start) → let a = x .args in firstOf (passesChecks (sides (a
     → Accepted (a .m) (a .n) (a .buf .now) (a .scratch .now)
 checked x = flat-accepted _ _ _ _
 
-turn-at-requires : tie.Need-turn-at-requires
-turn-at-requires c κs =
-    let s : tie.After-group-sides = search in
-    let is = s .group-sides .ensures in
-    (is .2, rw (is .0, is .1) (flat-lies (checked (search) (search via))))
-
 returns-2 : tie.Need-returns-2
 returns-2 c =
     let z : tie.After-clear-longest = search in
     let t : tie.After-turn-at = search in
     let s : tie.After-group-sides = search in
-    let turned = rw (s .group-sides .ensures .0, s .group-sides .ensures .1) at (t .turn-at .ensures) in
-    accepted (search via) (flat-turned _ _ _ _ (turned .0)) (z .clear-longest .ensures ∙ past-cleared (turned .1))
+    turn-outcome (s .group-sides .ensures) (search via) (z .clear-longest .ensures) (t .turn-at .ensures)
 
 pub turn-spec : {M : Type 1} → statement M
 turn-spec =
@@ -37,9 +30,10 @@ turn-spec =
     (search needs)
     (search needs)
     (search needs)
+    (search needs)
     (λ c. search refused)
     (λ c κs. omega (arith, checked (search) (search via)))
-    turn-at-requires
+    (λ c κs. let s : tie.After-group-sides = search in flat-asked (s .group-sides .ensures) (checked (search) (search via)))
     (λ c κs. omega (arith, checked (search) (search via)))
     (search needs)
     (search needs)

@@ -1,14 +1,13 @@
 -- `turn_back` meets its contract: as `turn`, with the passes undone; a turn of the block at exit gives the block at entry.
-use mathlib.Core.Path.{_≡_, _∙_}
+use mathlib.Core.Path.{_≡_}
 use native.Mathlib.Omega.{arith}
 use borrow.Author.Needs.{needs}
 use Rattle.lists.proofs.Via.{via}
 use Rattle.refusals.specs.FirstOf.{firstOf}
 use Rattle.refusals.specs.Calls.{passesChecks}
-use Rattle.refusals.proofs.Promise.{refused, accepted}
+use Rattle.refusals.proofs.Promise.{refused}
 use Rattle.flat.specs.Turn.{sides}
-use Rattle.flat.proofs.Turn.{turn-home}
-use Rattle.passes.proofs.Accepted.{Accepted, flat-accepted, flat-lies, flat-turned, past-cleared}
+use Rattle.passes.proofs.Accepted.{Accepted, flat-accepted, flat-asked, turn-back-outcome}
 use Rattle.passes.proofs.turn_back.Statement.{statement}
 use Rattle.passes.proofs.turn_back.Tie as tie
 
@@ -17,19 +16,12 @@ checked : (x : tie.Start) → let a = x .args in firstOf (passesChecks (sides (a
     → Accepted (a .m) (a .n) (a .buf .now) (a .scratch .now)
 checked x = flat-accepted _ _ _ _
 
-turn-home-at-requires : tie.Need-turn-home-at-requires
-turn-home-at-requires c κs =
-    let s : tie.After-group-sides = search in
-    let is = s .group-sides .ensures in
-    (is .2, rw (is .0, is .1) (flat-lies (checked (search) (search via))))
-
 returns-2 : tie.Need-returns-2
 returns-2 c =
     let z : tie.After-clear-longest = search in
     let t : tie.After-turn-home-at = search in
     let s : tie.After-group-sides = search in
-    let turned = rw (s .group-sides .ensures .0, s .group-sides .ensures .1) at (t .turn-home-at .ensures) in
-    accepted (search via) (turn-home (flat-turned _ _ _ _ (turned .0))) (z .clear-longest .ensures ∙ past-cleared (turned .1))
+    turn-back-outcome (s .group-sides .ensures) (search via) (z .clear-longest .ensures) (t .turn-home-at .ensures)
 
 pub turn-back-spec : {M : Type 1} → statement M
 turn-back-spec =
@@ -38,9 +30,10 @@ turn-back-spec =
     (search needs)
     (search needs)
     (search needs)
+    (search needs)
     (λ c. search refused)
     (λ c κs. omega (arith, checked (search) (search via)))
-    turn-home-at-requires
+    (λ c κs. let s : tie.After-group-sides = search in flat-asked (s .group-sides .ensures) (checked (search) (search via)))
     (λ c κs. omega (arith, checked (search) (search via)))
     (search needs)
     (search needs)

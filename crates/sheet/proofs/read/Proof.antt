@@ -1,171 +1,58 @@
 -- `read` meets its contract: the first step that refuses is the answer; where none does, the rows judged right are stored.
+use mathlib.Core.Path.{_≡_, refl}
 use native.Mathlib.Omega.{arith}
-use mathlib.Core.Path.{_≡_, refl, sym, ap, _∙_}
-use mathlib.Core.Bool.{true, false}
-use mathlib.Core.List.{List, [], _∷_, _++_}
-use Prim.Native.Nat.{ℕ, _*_, _≤_, _<_}
-use lib.ListN.{length, drop, getD}
-use lib.Seq.{length-sets}
 use borrow.Author.Needs.{needs}
-use borrow.Author.Tests.{not-true, not-false}
-use Rattle.text.specs.Sheet.{rowCount, rowWidth}
-use Rattle.text.specs.Meaning.{Step, shapeLine, chainLine, rowLines}
-use Rattle.text.proofs.Accepted.{ShapeRead, shape-read}
-use Rattle.text.proofs.Rows.{rows-text, rows-volume}
-use Rattle.text.proofs.Length.{rows-le-words}
-use Rattle.sheet.specs.Place.{wordsOf}
-use Rattle.sheet.proofs.Checks.{width-four}
-use Rattle.sheet.proofs.Whole.{first-refuses, second-refuses, rows-refuse, all-right, read-refused, read-accepted}
+use Rattle.sheet.proofs.Whole.{first-refused, shape-on-sheet, second-refused, rows-refused, all-read}
 use Rattle.sheet.proofs.read.Statement.{statement}
 use Rattle.sheet.proofs.read.Tie as tie
 
-abbrev lens : tie.Else1 → List ℕ
-lens c = c .before .before .shape-at .result .lens
-
-first : (c : tie.Else1)
-    → shapeLine (c .before .before .before .before .before .args .words .now) (c .before .before .before .before .before .args .bytes .now)
-    ≡ Step.go (lens c) (drop (c .before .before .shape-at .result .next) (c .before .before .before .before .before .args .bytes .now))
-first c = c .before .before .shape-at .ensures (c .before .before .before .before .before .args .words .now) refl .right (c .if1 .left)
-
-shape : (c : tie.Else1)
-    → ShapeRead (c .before .before .before .before .before .args .words .now) (c .before .before .before .before .before .args .bytes .now) (lens c) (drop (c .before .before .shape-at .result .next) (c .before .before .before .before .before .args .bytes .now))
-shape c = shape-read (c .before .before .before .before .before .args .words .now) (c .before .before .before .before .before .args .bytes .now) (first c)
-
--- what follows line 1
-abbrev from-chain : tie.Else2 → List ℕ
-from-chain c = drop (c .before .before .before .before .before .shape-at .result .next) (c .before .before .before .before .before .before .before .before .args .bytes .now)
-
-second : (c : tie.Else2)
-    → chainLine (from-chain c) ≡ Step.go (wordsOf (chainLine (from-chain c))) (drop (c .before .before .chain-at .result .next) (c .before .before .before .before .before .before .before .before .args .bytes .now))
-second c = c .before .before .chain-at .ensures .step .right (c .if2 .left)
-
--- the rows are those of the lengths
-sized : (c : tie.After-row-count)
-    → rowLines 3 (c .row-count .result) (getD (lens (c .before .before .before .before .before)) 3 0) (drop (c .before .before .before .before .chain-at .result .next) (c .before .before .before .before .before .before .before .before .before .before .args .bytes .now))
-    ≡ rowLines 3 (rowCount (lens (c .before .before .before .before .before))) (rowWidth (lens (c .before .before .before .before .before))) (drop (c .before .before .before .before .chain-at .result .next) (c .before .before .before .before .before .before .before .before .before .before .args .bytes .now))
-sized c = rw (c .row-count .ensures, width-four (lens (c .before .before .before .before .before)) (shape (c .before .before .before .before .before) .held .long))
-
-judged : (c : tie.Else3)
-    → rowLines 3 (c .before .before .before .row-count .result) (getD (lens (c .before .before .before .before .before .before .before .before)) 3 0) (drop (c .before .before .before .before .before .before .before .chain-at .result .next) (c .before .before .before .before .before .before .before .before .before .before .before .before .before .args .bytes .now))
-    ≡ Step.go (wordsOf (rowLines 3 (c .before .before .before .row-count .result) (getD (lens (c .before .before .before .before .before .before .before .before)) 3 0) (drop (c .before .before .before .before .before .before .before .chain-at .result .next) (c .before .before .before .before .before .before .before .before .before .before .before .before .before .args .bytes .now)))) []
-judged c = let j = c .before .before .rows-at in j .ensures .right (not-false (j .result .ok) (c .if3 .left))
-
-shape-at-requires : tie.Need-shape-at-requires
-shape-at-requires c κs = search needs
-
-refused-requires : tie.Need-refused-requires
-refused-requires c κs = search needs
-
 returns : tie.Need-returns
-returns c =
-    let h = c .before .before .before .shape-at in
-    let a = c .before .before .before .before .before .before .args in
-    read-refused (a .words .now) (a .bytes .now)
-    (first-refuses (a .words .now) (a .bytes .now) (h .ensures (a .words .now) refl .wrong (c .before .if1 .taken)))
-    (c .refused .ensures)
+returns c = let f : tie.After-shape-at = search in first-refused (f .shape-at .ensures) (search) (search)
 
 chain-at-requires : tie.Need-chain-at-requires
-chain-at-requires c κs = let s = c .before .before .before .before .before in c .before .before .shape-at .ensures (s .args .words .now) refl .inside
-
-refused-requires-2 : tie.Need-refused-requires-2
-refused-requires-2 c κs = search needs
+chain-at-requires c κs = let f : tie.After-shape-at = search in f .shape-at .ensures .inside
 
 returns-2 : tie.Need-returns-2
 returns-2 c =
-    let h = c .before .before .before in
-    let d = h .before in
-    let a = d .before .before .before .before .before .args in
-    read-refused (a .words .now) (a .bytes .now)
-    (second-refuses (a .words .now) (a .bytes .now) (first d) (h .chain-at .ensures .step .wrong (c .before .if2 .taken)))
-    (c .refused2 .ensures)
+    let s : tie.After-chain-at = search in
+    let f : tie.After-shape-at = search in
+    second-refused (f .shape-at .ensures) (search) (s .chain-at .ensures) (search) (search)
 
-row-count-requires : tie.Need-row-count-requires
-row-count-requires c κs = shape (c .before .before .before .before) .lengths
-
-array-read-n : tie.Need-array-read-n
-array-read-n c = search needs
-
-rows-at-requires : tie.Need-rows-at-requires
-rows-at-requires c κs =
-    let d = c .before .before .before .before .before in
-    let s = shape d in (
-      c .before .before .before .before .chain-at .ensures .step .inside,
-      omega (arith, c .row-count .ensures, s .few-words, rows-le-words (lens d) (omega (arith, s .held .long)) (s .lengths)),
-    )
-
-refused-requires-3 : tie.Need-refused-requires-3
-refused-requires-3 c κs = search needs
+rows-into-requires : tie.Need-rows-into-requires
+rows-into-requires c κs =
+    let s : tie.After-chain-at = search in
+    let f : tie.After-shape-at = search in
+    (s .chain-at .ensures .step .inside, shape-on-sheet (f .shape-at .ensures) (search))
 
 returns-3 : tie.Need-returns-3
 returns-3 c =
-    let j = c .before .before .before in
-    let k = j .before in
-    let d = k .before .before .before .before .before in
-    let a = d .before .before .before .before .before .args in
-    let bad = j .rows-at .ensures .wrong (not-true (j .rows-at .result .ok) (c .before .if3 .taken)) in
-    read-refused (a .words .now) (a .bytes .now)
-    (rows-refuse (a .words .now) (a .bytes .now) (first d) (second (k .before .before)) (rw (sized k) at bad))
-    (c .refused3 .ensures)
-
-store-rows-requires : tie.Need-store-rows-requires
-store-rows-requires c κs =
-    let e = c .before in
-    let k = e .before .before .before in
-    let d = k .before .before .before .before .before in
-    let s = shape d in (
-      k .before .before .before .before .chain-at .ensures .step .inside,
-      omega (
-        arith,
-        ap (λ (n : ℕ). n * getD (lens d) 3 0) (k .row-count .ensures),
-        ap (λ (n : ℕ). rowCount (lens d) * n) (width-four (lens d) (s .held .long)),
-        rows-volume (lens d) (omega (arith, s .held .long)),
-        s .room,
-      ),
-      record { rows = judged e },
-    )
-
-same-length : tie.Need-same-length
-same-length c =
-    let e = c .before .before .before .before .before in
-    let k = e .before .before .before in
-    ap length (c .before .before .before .store-rows .ensures) ∙ length-sets (c .before .before .before .before .before .before .before .before .before .before .before .before .before .before .before .before .before .before .args .words .now) 0
-    (wordsOf (rowLines 3 (k .row-count .result) (getD (lens (k .before .before .before .before .before)) 3 0) (drop (k .before .before .before .before .chain-at .result .next) (c .before .before .before .before .before .before .before .before .before .before .before .before .before .before .before .before .before .before .args .bytes .now))))
+    let r : tie.After-rows-into = search in
+    let s : tie.After-chain-at = search in
+    let f : tie.After-shape-at = search in
+    rows-refused (f .shape-at .ensures) (search) (s .chain-at .ensures) (search) (r .rows-into .ensures) (search) (search)
 
 returns-4 : tie.Need-returns-4
 returns-4 c =
-    let e = c .before .before .before .before .before in
-    let k = e .before .before .before in
-    let q = k .before .before in
-    let d = q .before .before .before in
-    let a = d .before .before .before .before .before .args in
-    let s = shape d in
-    let t = q .before .before .chain-at .ensures in
-    let rows = sym (sized k) ∙ judged e in
-    read-accepted (a .words .now) (a .bytes .now) (all-right (a .words .now) (a .bytes .now) (first d) (second q) rows)
-    (rw (t .padded (q .if2 .left), t .counted (q .if2 .left)))
-    (omega (
-      arith,
-      rows-text 3 (rowCount (lens d)) (rowWidth (lens d)) (drop (q .before .before .chain-at .result .next) (a .bytes .now)) rows .long,
-      rows-volume (lens d) (omega (arith, s .held .long)),
-      s .room,
-    ))
-    (c .before .before .before .store-rows .ensures)
+    let r : tie.After-rows-into = search in
+    let s : tie.After-chain-at = search in
+    let f : tie.After-shape-at = search in
+    all-read (f .shape-at .ensures) (search) (s .chain-at .ensures) (search) (r .rows-into .ensures) (search)
 
 pub read-spec : {M : Type 1} → statement M
 read-spec =
     tie.close
     (tie.spec
-    shape-at-requires
-    refused-requires
+    (search needs)
+    (search needs)
+    (search needs)
     returns
     chain-at-requires
-    refused-requires-2
+    (search needs)
+    (search needs)
     returns-2
-    row-count-requires
-    array-read-n
-    rows-at-requires
-    refused-requires-3
+    rows-into-requires
+    (search needs)
+    (search needs)
     returns-3
-    store-rows-requires
-    same-length
+    (search needs)
     returns-4)

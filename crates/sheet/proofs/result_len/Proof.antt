@@ -1,80 +1,88 @@
--- `result_len` meets its contract: the result sheet has 13 bytes beside its fields in lines 1 and 2, and 4 in each row.
-use mathlib.Core.Path.{_≡_, refl, sym, ap, _∙_}
-use Prim.Native.Nat.{ℕ, _+_, _≤_}
-use mathlib.Core.List.{List}
+-- `result_len` meets its contract: the bytes of the two lines, of the words' fields, and four more in each row.
+use mathlib.Core.Path.{_≡_, sym, ap, _∙_}
+use Prim.Native.Nat.{ℕ, _≤_}
+use native.Mathlib.Omega.{arith}
 use lib.ListN.{length, take}
 use lib.Seq.{length-take-le}
+use borrow.Author.Needs.{needs}
+use Rattle.layout.specs.Layout.{volume}
+use Rattle.checks.specs.Words.{capped}
 use Rattle.text.specs.Print.{fields}
-use Rattle.text.proofs.Length.{decimal-few, fields-few, rows-le-words}
+use Rattle.sheet.specs.Thin.{lineOf}
+use Rattle.sheet.specs.declared.page.Line.{Line}
+use Rattle.sheet.proofs.Block.{Counts, counts, first-three}
 use Rattle.sheet.proofs.Pages.{length-measured}
-use native.Mathlib.Omega.{arith}
 use Rattle.sheet.proofs.result_len.Statement.{statement}
 use Rattle.sheet.proofs.result_len.Tie as tie
 
-lens-len-requires : tie.Need-lens-len-requires
-lens-len-requires c κs = c .before .pre .lengths
+module _ (x : tie.Start) where
+  four : length (x .args .t1) ≡ 4
+  four = search needs
 
-add-head : tie.Need-add-head
-add-head c =
-    let s = c .before .before in
-    let four : length (s .args .lens) ≡ 4 = omega arith in
-    omega (arith, four, c .lens-len .ensures, fields-few (c .before .before .args .lens))
+  known : Counts (x .args .t1) (x .args .words .now)
+  known = counts _ _ four (x .pre .0)
 
-digits-of-requires : tie.Need-digits-of-requires
-digits-of-requires c κs = omega (arith, c .before .before .pre .ordered)
+three : tie.Need-slice-aggregate-words-of-2
+three c = let x : tie.Start = search in first-three (x .args .t1) (four x)
 
-add-head-2 : tie.Need-add-head-2
-add-head-2 c =
-    let s = c .before .before .before in
-    let four : length (s .args .lens) ≡ 4 = omega arith in
-    omega (arith, four, c .before .lens-len .ensures, fields-few (c .before .before .before .args .lens), c .digits-of .ensures, decimal-few (c .before .before .before .args .order))
+shape-line-requires : tie.Need-shape-line-requires
+shape-line-requires c κs = let x : tie.Start = search in x .pre .0 .lengths
 
-mul-result : tie.Need-mul-result
-mul-result c =
-    let s = c .before .before .before in
-    let four : length (s .args .lens) ≡ 4 = omega arith in
-    omega (arith, four, s .pre .counted, s .pre .sized, s .pre .few, rows-le-words (s .args .lens) (omega (arith, four)) (s .pre .lengths))
+head-len-requires : tie.Need-head-len-requires
+head-len-requires c κs = let s : tie.After-shape-line = search in rw (s .shape-line .ensures) (omega arith)
 
-add-result : tie.Need-add-result
-add-result c =
-    let s = c .before .before .before in
-    let four : length (s .args .lens) ≡ 4 = omega arith in
-    omega (arith, four, c .before .lens-len .ensures, fields-few (c .before .before .before .args .lens), c .digits-of .ensures, decimal-few (c .before .before .before .args .order), s .pre .counted, s .pre .sized, s .pre .few, rows-le-words (s .args .lens) (omega (arith, four)) (s .pre .lengths))
+order-line-requires : tie.Need-order-line-requires
+order-line-requires c κs = let x : tie.Start = search in x .pre .1
+
+head-len-requires-2 : tie.Need-head-len-requires-2
+head-len-requires-2 c κs = let o : tie.After-order-line = search in rw (o .order-line .ensures) (omega arith)
+
+-- as many words as the block has
+part-long : (x : tie.Start) {size : ℕ} → size ≡ capped (volume (x .args .t1)) → (length (take size (x .args .words .now)) ≡ size) × (size ≤ 1024)
+part-long x {size} e =
+    let few : size ≤ 1024 = omega (arith, known x, x .pre) in
+    (length-take-le size (x .args .words .now) (omega (arith, known x, x .pre)), few)
+
+part : tie.Need-slice-aggregate-words-len
+part c =
+    let s : tie.After-words-of = search in
+    let x : tie.Start = search in
+    sym (part-long x (s .words-of .ensures) .0)
 
 words-len-requires : tie.Need-words-len-requires
-words-len-requires c κs = let p = c .before .before .before .pre in (p .room, p .few)
-
-add-result-2 : tie.Need-add-result-2
-add-result-2 c =
-    let s = c .before .before .before .before in
-    let four : length (s .args .lens) ≡ 4 = omega arith in
-    omega (arith, four, c .before .before .lens-len .ensures, fields-few (c .before .before .before .before .args .lens), c .before .digits-of .ensures, decimal-few (c .before .before .before .before .args .order), s .pre .counted, s .pre .sized, s .pre .few, rows-le-words (s .args .lens) (omega (arith, four)) (s .pre .lengths), c .words-len .ensures, fields-few (take (s .args .size) (s .args .words .now)), length-take-le (s .args .size) (s .args .words .now) (s .pre .room))
+words-len-requires c κs =
+    let s : tie.After-words-of = search in
+    let x : tie.Start = search in
+    omega (arith, part-long x (s .words-of .ensures))
 
 returns : tie.Need-returns
 returns c =
-    let s = c .before .before .before .before in
-    let four : length (s .args .lens) ≡ 4 = omega arith in
-    let ws = ap (λ (n : ℕ). length (fields (take n (s .args .words .now)))) (s .pre .sized) in
-    omega (
-      arith,
-      c .before .before .lens-len .ensures,
-      c .before .digits-of .ensures,
-      c .words-len .ensures,
-      ws,
-      s .pre .counted,
-      length-measured (s .args .lens) (s .args .order) (s .args .words .now) (omega (arith, four)),
-    )
+    let o : tie.After-order-line = search in
+    let s : tie.After-shape-line = search in
+    let w : tie.After-words-of = search in
+    let x : tie.Start = search in
+    let first = ap (λ (k : Line). length (lineOf k)) (s .shape-line .ensures) in
+    let second = ap (λ (k : Line). length (lineOf k)) (o .order-line .ensures) in
+    let ws = ap (λ (n : ℕ). length (fields (take n (x .args .words .now)))) (w .words-of .ensures ∙ known x .size) in
+    omega (arith, known x, length-measured (x .args .t1) (x .args .order) (x .args .words .now) (four x))
 
 pub result-len-spec : {M : Type 1} → statement M
 result-len-spec =
     tie.close
     (tie.spec
-    lens-len-requires
-    add-head
-    digits-of-requires
-    add-head-2
-    mul-result
-    add-result
+    (search needs)
+    (search needs)
+    (search needs)
+    three
+    (search needs)
+    shape-line-requires
+    head-len-requires
+    order-line-requires
+    head-len-requires-2
+    (search needs)
+    (λ c. omega (arith, known (search)))
+    (λ c. omega (arith, known (search)))
+    part
     words-len-requires
-    add-result-2
+    (λ c. omega (arith, known (search)))
     returns)

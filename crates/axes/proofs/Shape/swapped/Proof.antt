@@ -2,67 +2,33 @@
 use mathlib.Core.Path.{_≡_, sym}
 use native.Mathlib.Omega.{arith}
 use lib.ListN.{length}
-use Rattle.orders.proofs.Swaps.{exchange-set, exchange-past}
-use Rattle.axes.proofs.Front.{held}
 use borrow.Author.Needs.{needs}
+use Rattle.orders.proofs.Swaps.{exchange-set, exchange-past}
 use Rattle.axes.proofs.Shape.swapped.Statement.{statement}
 use Rattle.axes.proofs.Shape.swapped.Tie as tie
 
+axes : (x : tie.Start) → length (x .args .self .lens) ≡ 4
+axes x = search needs
+
 returns : tie.Need-returns
-returns c =
-    let l = c .before .args .self .lens in
-    let axes : length l ≡ 4 = held l (c .before .good .0 .1 .1 .0 .1 .0 .1) in
-    sym (exchange-past (c .before .args .k) l (omega arith))
-
-mul-first : tie.Need-mul-first
-mul-first c = search needs
-
-array-read-first : tie.Need-array-read-first
-array-read-first c = search needs
-
-add-second : tie.Need-add-second
-add-second c = search needs
-
-mul-second : tie.Need-mul-second
-mul-second c = search needs
-
-array-read-second : tie.Need-array-read-second
-array-read-second c = search needs
-
-mul-lens : tie.Need-mul-lens
-mul-lens c = search needs
-
-array-write-lens : tie.Need-array-write-lens
-array-write-lens c = search needs
-
-add-lens : tie.Need-add-lens
-add-lens c = search needs
-
-mul-lens-2 : tie.Need-mul-lens-2
-mul-lens-2 c = search needs
-
-array-write-lens-2 : tie.Need-array-write-lens-2
-array-write-lens-2 c = search needs
+returns c = let x : tie.Start = search in sym (exchange-past (x .args .k) (x .args .self .lens) (omega (arith, axes x)))
 
 returns-2 : tie.Need-returns-2
-returns-2 c =
-    let l = c .before .before .args .self .lens in
-    let axes : length l ≡ 4 = held l (c .before .before .good .0 .1 .1 .0 .1 .0 .1) in
-    sym (exchange-set (c .before .before .args .k) l (omega arith))
+returns-2 c = let x : tie.Start = search in sym (exchange-set (x .args .k) (x .args .self .lens) (omega (arith, axes x)))
 
 pub swapped-spec : {M : Type 1} → statement M
 swapped-spec =
     tie.close
     (tie.spec
     returns
-    mul-first
-    array-read-first
-    add-second
-    mul-second
-    array-read-second
-    mul-lens
-    array-write-lens
-    add-lens
-    mul-lens-2
-    array-write-lens-2
+    (search needs)
+    (search needs)
+    (search needs)
+    (search needs)
+    (search needs)
+    (search needs)
+    (search needs)
+    (search needs)
+    (search needs)
+    (search needs)
     returns-2)

@@ -1,121 +1,79 @@
 -- `axes::chains::run` meets its promise. The loop's invariant: i swaps of the chain are made.
 use mathlib.Core.Path.{_≡_, refl, ap, _∙_}
-use Prim.Native.Nat.{_<_, _≤_, _-_}
+use Prim.Native.Nat.{ℕ, _<_, _≤_, _-_}
 use native.Mathlib.Nat.{le-refl}
 use native.Mathlib.Omega.{arith}
-use borrow.Author.Tests.{ltb-false}
-use Rattle.refusals.specs.Conditions.{longest}
-use Rattle.axes.proofs.Steps.{cleared-length}
-use denote.Ref.{now}
-use lib.ListN.{length, take}
-use Rattle.orders.proofs.FourAxes.{number-below-4}
-use Rattle.axes.proofs.Front.{held}
-use Rattle.axes.proofs.Ranges.{good-swap}
-use Rattle.axes.proofs.Checks.{runs}
-use Rattle.axes.proofs.Progress.{Progress, begin, still-sound, one-swap, finished}
+use lib.ListN.{length, getD}
 use borrow.Author.Needs.{needs}
+use Rattle.orders.proofs.Numbers.{number-below}
+use Rattle.refusals.proofs.Scratch.{cleared-length}
+use Rattle.axes.proofs.Accepted.{ChainAccepted, accepts-chain, good-swap, block-room}
+use Rattle.axes.proofs.Progress.{Progress, begin, still-accepted, one-swap, finished}
 use Rattle.axes.proofs.chains.run.Statement.{statement}
 use Rattle.axes.proofs.chains.run.Tie as tie
 
 abbrev Inv-loop : tie.InvT-loop
-Inv-loop buf₀ scratch₀ swaps lens stands₀ order₀ i₀ i-end buf scratch stands order i = (i-end ≡ length swaps) × (i ≤ length swaps) × Progress lens swaps buf₀ scratch₀ i buf scratch (stands .lens) order
+Inv-loop buf₀ scratch₀ swaps lens stands₀ order₀ i₀ i-end buf scratch stands order i =
+    (i-end ≡ length swaps) × (i ≤ length swaps) × Progress 4 lens swaps buf₀ scratch₀ i buf scratch (stands .lens) order
 
 abbrev μ-loop : tie.MeasureT-loop
 μ-loop buf₀ scratch₀ swaps lens stands₀ order₀ i₀ i-end buf scratch stands order i = length swaps - i
 
+-- the places that the answers look back to
+abbrev Start : Type 0
+Start = tie.Start Inv-loop μ-loop
+
+abbrev Loop : Type 0
+Loop = tie.At-loop Inv-loop μ-loop
+
+module _ (x : Start) where
+  axes : length (x .args .shape .lens) ≡ 4
+  axes = search needs
+
+  accepts : ChainAccepted 4 (x .args .shape .lens) (x .args .buf .now) (x .args .scratch .now) (x .args .swaps .now)
+  accepts = accepts-chain 4 _ _ _ _ (x .pre)
+
+  good : (i : ℕ) → i < length (x .args .swaps .now) → getD (x .args .swaps .now) i 0 < 3
+  good i h = omega (arith, good-swap 4 (x .args .swaps .now) (accepts .swaps) i h)
+
 loop-holds : tie.Need-loop-holds Inv-loop μ-loop
-loop-holds c =
-    let x = c .before .before .before .before in
-    let ds = x .args .shape .lens in
-    let axes : length ds ≡ 4 = held ds (x .good .1 .1 .0 .1 .1 .0 .1 .0 .1) in
-    (refl, omega arith, begin ds axes (now (x .args .swaps)) (now (x .args .buf)) (now (x .args .scratch)))
-
-mul-k : tie.Need-mul-k Inv-loop μ-loop
-mul-k c = search needs
-
-shared-slice-read-k : tie.Need-shared-slice-read-k Inv-loop μ-loop
-shared-slice-read-k c = search needs
+loop-holds c = let x : Start = search in (refl, omega arith, begin _ (axes x) _ _ _)
 
 swap-at-requires : tie.Need-swap-at-requires Inv-loop μ-loop
 swap-at-requires c κs =
-    let x = c .before .before .before .before .before .before .before .before .before in
-    let l = c .before .before .before .before .loop in
-    let ds = x .args .shape .lens in
-    let swaps = now (x .args .swaps) in
-    let xs = now (x .args .buf) in
-    let ss = now (x .args .scratch) in
-    let axes : length ds ≡ 4 = held ds (x .good .1 .1 .0 .1 .1 .0 .1 .0 .1) in
-    let accepts = runs ds xs ss swaps (x .pre) in
-    (good-swap swaps (accepts .swaps) (l .i) (omega arith), still-sound ds axes swaps xs ss (l .inv .2) accepts)
-
-swapped-requires : tie.Need-swapped-requires Inv-loop μ-loop
-swapped-requires c κs = search needs
+    let l : Loop = search in
+    let x : Start = search in
+    (good x (l .loop .i) (omega arith), still-accepted _ (axes x) _ _ _ (l .loop .inv .2) (accepts x))
 
 next-order-requires : tie.Need-next-order-requires Inv-loop μ-loop
 next-order-requires c κs =
-    let x = c .before .before .before .before .before .before .before .before .before .before .before .before .before .before .before in
-    let l = c .before .before .before .before .before .before .before .before .before .before .loop in
-    let ds = x .args .shape .lens in
-    let swaps = now (x .args .swaps) in
-    let xs = now (x .args .buf) in
-    let ss = now (x .args .scratch) in
-    let axes : length ds ≡ 4 = held ds (x .good .1 .1 .0 .1 .1 .0 .1 .0 .1) in
-    let accepts = runs ds xs ss swaps (x .pre) in
-    let low : l .order < 24 = rw (l .inv .2 .number) (number-below-4 (take (l .i) swaps)) in
-    (low, good-swap swaps (accepts .swaps) (l .i) (omega arith))
-
-add-i : tie.Need-add-i Inv-loop μ-loop
-add-i c = search needs
-
-loop-less : tie.Need-loop-less Inv-loop μ-loop
-loop-less c = search needs
+    let l : Loop = search in
+    let x : Start = search in
+    (rw (l .loop .inv .2 .number) (number-below 4 _), good x (l .loop .i) (omega arith))
 
 loop-again : tie.Need-loop-again Inv-loop μ-loop
 loop-again c =
-    let x = c .before .before .before .before .before .before .before .before .before .before .before .before .before .before .before .before in
-    let l = c .before .before .before .before .before .before .before .before .before .before .before .loop in
-    let ds = x .args .shape .lens in
-    let swaps = now (x .args .swaps) in
-    let xs = now (x .args .buf) in
-    let ss = now (x .args .scratch) in
-    let axes : length ds ≡ 4 = held ds (x .good .1 .1 .0 .1 .1 .0 .1 .0 .1) in
-    let accepts = runs ds xs ss swaps (x .pre) in
-    let made = c .before .before .before .before .before .before .swap-at .ensures in
-    (refl, omega arith, one-swap ds axes swaps xs ss (l .inv .2) (omega arith) (made .0) (made .1 .0) (made .1 .1) (c .before .swapped .ensures) (c .next-order .ensures))
-
-longest-axis-requires : tie.Need-longest-axis-requires Inv-loop μ-loop
-longest-axis-requires c κs = search needs
-
-clear-requires : tie.Need-clear-requires Inv-loop μ-loop
-clear-requires c κs = search needs
+    let n : tie.After-swapped Inv-loop μ-loop = search in
+    let s : tie.After-swap-at Inv-loop μ-loop = search in
+    let l : Loop = search in
+    let made = s .swap-at .ensures in
+    (refl, omega arith, one-swap _ (axes (search)) _ _ _ (l .loop .inv .2) (omega arith) (made .0) (made .1 .0) (made .1 .1) (n .swapped .ensures) (c .next-order .ensures))
 
 same-length : tie.Need-same-length Inv-loop μ-loop
-same-length c = c .before .before .before .before .before .before .before .loop .inv .2 .words .same
-
-same-length-2 : tie.Need-same-length-2 Inv-loop μ-loop
-same-length-2 c =
-    let x = c .before .before .before .before .before .before .before .before .before .before .before .before in
-    let l = c .before .before .before .before .before .before .before .loop in
-    let ds = x .args .shape .lens in
-    let swaps = now (x .args .swaps) in
-    let xs = now (x .args .buf) in
-    let ss = now (x .args .scratch) in
-    let axes : length ds ≡ 4 = held ds (x .good .1 .1 .0 .1 .1 .0 .1 .0 .1) in
-    let accepts = runs ds xs ss swaps (x .pre) in
-    let promise = finished ds axes swaps xs ss (l .inv .2) (omega arith) accepts (c .before .before .before .before .before .longest-axis .ensures) (c .before .before .before .clear .ensures) in
-    ap length (promise .block .zeroed refl) ∙ cleared-length ss (le-refl (longest ds)) (ltb-false (length ss) (longest ds) (accepts .block .scratch))
+same-length c = let l : Loop = search in l .loop .inv .2 .words .same
 
 returns : tie.Need-returns Inv-loop μ-loop
 returns c =
-    let x = c .before .before .before .before .before .before .before .before .before .before .before .before in
-    let l = c .before .before .before .before .before .before .before .loop in
-    let ds = x .args .shape .lens in
-    let swaps = now (x .args .swaps) in
-    let xs = now (x .args .buf) in
-    let ss = now (x .args .scratch) in
-    let axes : length ds ≡ 4 = held ds (x .good .1 .1 .0 .1 .1 .0 .1 .0 .1) in
-    let accepts = runs ds xs ss swaps (x .pre) in
-    finished ds axes swaps xs ss (l .inv .2) (omega arith) accepts (c .before .before .before .before .before .longest-axis .ensures) (c .before .before .before .clear .ensures)
+    let z : tie.After-clear Inv-loop μ-loop = search in
+    let n : tie.After-longest-of Inv-loop μ-loop = search in
+    let l : Loop = search in
+    let x : Start = search in
+    finished _ (axes x) _ _ _ (l .loop .inv .2) (omega arith) (accepts x) (n .longest-of .ensures) (z .clear .ensures)
+
+same-length-2 : tie.Need-same-length-2 Inv-loop μ-loop
+same-length-2 c =
+    let x : Start = search in
+    ap length (returns (search) .block .zeroed refl) ∙ cleared-length _ (le-refl _) (block-room (accepts x .block))
 
 pub run-spec : {M : Type 1} → statement M
 run-spec =
@@ -124,16 +82,17 @@ run-spec =
     Inv-loop
     μ-loop
     loop-holds
-    mul-k
-    shared-slice-read-k
+    (search needs)
+    (search needs)
     swap-at-requires
-    swapped-requires
+    (search needs)
     next-order-requires
-    add-i
-    loop-less
+    (search needs)
+    (search needs)
     loop-again
-    longest-axis-requires
-    clear-requires
+    (λ c. let x : Start = search in omega (arith, axes x))
+    (search needs)
+    (search needs)
     same-length
     same-length-2
     returns)

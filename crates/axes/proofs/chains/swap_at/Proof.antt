@@ -1,83 +1,63 @@
 -- `axes::chains::swap_at` meets its contract: the axes before place k, the two axes and the axes after are a block for the adjacent swap.
-use mathlib.Core.Path.{_≡_}
+use mathlib.Core.Path.{_≡_, sym, ap, _∙_}
+use mathlib.Core.List.{List}
+use Prim.Native.Nat.{ℕ, _+_, _-_}
 use native.Mathlib.Omega.{arith}
-use denote.Ref.{now}
-use lib.ListN.{length}
-use Rattle.axes.proofs.Front.{held}
-use Rattle.axes.proofs.Ranges.{in-range}
-use Rattle.axes.proofs.Checks.{sound}
+use lib.ListN.{length, drop, length-drop}
+use lib.Seq.{take-all, length-take-le}
+use Rattle.layout.specs.Layout.{volume}
+use Rattle.checks.specs.Words.{capped}
+use Rattle.axes.proofs.Accepted.{BlockAccepted, block-accepted}
 use Rattle.axes.proofs.Steps.{swap-leaves}
 use borrow.Author.Needs.{needs}
 use Rattle.axes.proofs.chains.swap_at.Statement.{statement}
 use Rattle.axes.proofs.chains.swap_at.Tie as tie
 
-product-requires : tie.Need-product-requires
-product-requires c κs =
-    let x = c .before .before .before in
-    let l = x .args .shape .lens in
-    let axes : length l ≡ 4 = held l (x .good .1 .1 .0 .1 .1 .0 .1 .0 .1) in
-    let block = sound l (now (x .args .buf)) (now (x .args .scratch)) (x .pre .1) in
-    (omega arith, omega arith, λ k h. in-range l (block .lengths) k (omega arith) .1)
+module _ (x : tie.Start) where
+  axes : length (x .args .shape .lens) ≡ 4
+  axes = search needs
 
-add-product : tie.Need-add-product
-add-product c = search needs
+  block : BlockAccepted (x .args .shape .lens) (x .args .buf .now) (x .args .scratch .now)
+  block = block-accepted _ _ _ (x .pre .1)
 
-product-requires-2 : tie.Need-product-requires-2
-product-requires-2 c κs =
-    let x = c .before .before .before .before in
-    let l = x .args .shape .lens in
-    let axes : length l ≡ 4 = held l (x .good .1 .1 .0 .1 .1 .0 .1 .0 .1) in
-    let block = sound l (now (x .args .buf)) (now (x .args .scratch)) (x .pre .1) in
-    (omega arith, omega arith, λ k h. in-range l (block .lengths) k (omega arith) .1)
+array-share-prefix-lens : tie.Need-array-share-prefix-lens
+array-share-prefix-lens c = let x : tie.Start = search in omega (arith, axes x)
 
-mul-m : tie.Need-mul-m
-mul-m c = search needs
-
-array-read-m : tie.Need-array-read-m
-array-read-m c = search needs
-
-add-n : tie.Need-add-n
-add-n c = search needs
-
-mul-n : tie.Need-mul-n
-mul-n c = search needs
-
-array-read-n : tie.Need-array-read-n
-array-read-n c = search needs
-
-swap-requires : tie.Need-swap-requires
-swap-requires c κs = search needs
-
-same-length : tie.Need-same-length
-same-length c = search needs
-
-same-length-2 : tie.Need-same-length-2
-same-length-2 c = search needs
+slice-aggregate-words-of : tie.Need-slice-aggregate-words-of
+slice-aggregate-words-of c = let x : tie.Start = search in sym (length-take-le (x .args .k) (x .args .shape .lens) (omega (arith, axes x)))
 
 returns : tie.Need-returns
 returns c =
-    let x = c .before .before .before .before .before .before .before .before .before .before .before .before in
+    let w : tie.After-swap = search in
+    let after : tie.After-words-of2 = search in
+    let before : tie.After-words-of = search in
+    let x : tie.Start = search in
     let l = x .args .shape .lens in
-    let axes : length l ≡ 4 = held l (x .good .1 .1 .0 .1 .1 .0 .1 .0 .1) in
-    let block = sound l (now (x .args .buf)) (now (x .args .scratch)) (x .pre .1) in
-    swap-leaves l axes (x .args .k) (omega arith) block
-    (c .before .before .before .before .before .before .before .before .product .ensures)
-    (c .before .before .before .before .before .before .before .product2 .ensures)
-    (c .before .before .before .before .swap .ensures)
+    let k = x .args .k in
+    let four = axes x in
+    let end = take-all (4 - (k + 2)) (drop (k + 2) l) (omega (arith, length-drop (k + 2) l)) in
+    let chunk = after .words-of2 .ensures ∙ ap (λ (t : List ℕ). capped (volume t)) end in
+    swap-leaves l four k (omega arith) (block x) (before .words-of .ensures) chunk (w .swap .ensures)
 
 pub swap-at-spec : {M : Type 1} → statement M
 swap-at-spec =
     tie.close
     (tie.spec
-    product-requires
-    add-product
-    product-requires-2
-    mul-m
-    array-read-m
-    add-n
-    mul-n
-    array-read-n
-    swap-requires
-    same-length
-    same-length-2
+    array-share-prefix-lens
+    slice-aggregate-words-of
+    (search needs)
+    (search needs)
+    (search needs)
+    (search needs)
+    (search needs)
+    (λ c. let x : tie.Start = search in omega (arith, axes x))
+    (search needs)
+    (search needs)
+    (search needs)
+    (search needs)
+    (search needs)
+    (search needs)
+    (search needs)
+    (search needs)
+    (search needs)
     returns)

@@ -1,19 +1,13 @@
 -- `axes::tables::order_of` meets its contract: the table is the list of the orders in dictionary order, entry by entry.
 use mathlib.Core.Path.{refl}
-use Rattle.orders.specs.Numbers.{orderOf, orders, arrangements}
 use borrow.Author.Needs.{needs}
+use Rattle.orders.specs.Numbers.{orderOf, orders, arrangements}
 use Rattle.axes.proofs.tables.order_of.Statement.{statement}
 use Rattle.axes.proofs.tables.order_of.Tie as tie
-
-mul-axes : tie.Need-mul-axes
-mul-axes c = search needs
-
-array-copy-out-axes : tie.Need-array-copy-out-axes
-array-copy-out-axes c = search needs
 
 returns : tie.Need-returns
 unfolding orderOf orders arrangements
 returns c = refl
 
 pub order-of-spec : {M : Type 1} → statement M
-order-of-spec = tie.close (tie.spec mul-axes array-copy-out-axes returns)
+order-of-spec = tie.close (tie.spec (search needs) (search needs) returns)

@@ -1,10 +1,12 @@
 -- The proof of the cycle of calls {tall, wide}. The measure is the number of words in the block. The two halves of a block come back turned
 -- by whichever of the two functions was called; the laws of Cuts and Turns do not ask which.
 use mathlib.Core.Path.{refl}
+use mathlib.Core.List.{List}
 use mathlib.Core.Logic.{⊎-elim}
 use native.Mathlib.Omega.{arith}
 use borrow.Author.Needs.{needs}
-use Rattle.halves.proofs.Cuts.{Parted, Front, Both, rows-cut, columns-cut, cut-within, low-block, low-long, low-falls, cut-after, high-block, high-falls, both-back}
+use Rattle.flat.specs.Turn.{Turn}
+use Rattle.halves.proofs.Cuts.{Parted, Front, Back, Both, rows-cut, columns-cut, cut-within, low-block, low-long, low-falls, cut-after, high-block, high-falls, both-back}
 use Rattle.halves.proofs.Turns.{square-fill, square-turned, merge-runs, tall-turned, split-runs, split-parts, wide-turned}
 use Prim.Native.Nat.{ℕ, _-_, _*_, _/_, _<_}
 use lib.ListN.{length}
@@ -119,21 +121,21 @@ module _ (t : ℕ) where
   wide-split-requires : Wide wide-lts.Need-split-requires t
   wide-split-requires c κs = let x : Wide wide-lts.Start t = search in split-runs (x .pre .1 .0) (omega arith)
 
-  wide-returns-2 : Wide wide-lts.Need-returns-2 t
-  wide-returns-2 c =
-      let w : Wide wide-lts.After-wide2 t = search in
+  -- the second is back too
+  wide-whole : {z : List ℕ} (x : Wide wide-lts.Joined2 t)
+      → let s = x .before .before .before in
+      let a = s .before .before .before .before .args in
+      Back (a .m * (a .n / 2)) (a .m) (a .n - a .n / 2) (x .if2 .s) z → Turn (a .m) (a .n) (a .s .now) z
+  wide-whole x b =
       let s : Wide wide-lts.After-split t = search in
-      let x : Wide wide-lts.Start t = search in
-      wide-turned (x .pre .1 .0) (omega arith) (s .split .ensures)
-      (both-back (wide-parts s) (wide-front (search)) (record { part = w .wide2 .last .0; turn = w .wide2 .ensures; back = refl }))
+      let e : Wide wide-lts.Start t = search in
+      wide-turned (e .pre .1 .0) (omega arith) (s .split .ensures) (both-back (wide-parts s) (wide-front x) b)
+
+  wide-returns-2 : Wide wide-lts.Need-returns-2 t
+  wide-returns-2 c = let w : Wide wide-lts.After-wide2 t = search in wide-whole (search) (record { part = w .wide2 .last .0; turn = w .wide2 .ensures; back = refl })
 
   wide-returns-3 : Wide wide-lts.Need-returns-3 t
-  wide-returns-3 c =
-      let w : Wide wide-lts.After-tall2 t = search in
-      let s : Wide wide-lts.After-split t = search in
-      let x : Wide wide-lts.Start t = search in
-      wide-turned (x .pre .1 .0) (omega arith) (s .split .ensures)
-      (both-back (wide-parts s) (wide-front (search)) (record { part = w .tall2 .last .0; turn = w .tall2 .ensures; back = refl }))
+  wide-returns-3 c = let w : Wide wide-lts.After-tall2 t = search in wide-whole (search) (record { part = w .tall2 .last .0; turn = w .tall2 .ensures; back = refl })
 
 pub +tall+wide-spec : {M : Type 1} → statement M
 +tall+wide-spec = close μ-tall μ-wide (λ t. tall-lts.spec (tall-calls t)

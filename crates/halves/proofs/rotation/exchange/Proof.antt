@@ -18,24 +18,17 @@ abbrev μ-loop : tie.MeasureT-loop
 loop-holds : tie.Need-loop-holds Inv-loop μ-loop
 loop-holds c = (omega arith, refl, exchange-none (c .args .k) (c .args .s .now))
 
-slice-write-s-2 : tie.Need-slice-write-s-2 Inv-loop μ-loop
-slice-write-s-2 c = rw length-set (omega arith)
-
 loop-again : tie.Need-loop-again Inv-loop μ-loop
 loop-again c =
-    let at-loop : tie.At-loop Inv-loop μ-loop = search in
-    let start : tie.Start Inv-loop μ-loop = search in
-    let x = start .args in
-    let l = at-loop .loop in
-    (omega arith, simp length-set (omega arith), rw (l .inv .2) (exchange-more (x .k) (l .i) (x .s .now) (omega arith) (omega arith)))
+    let l : tie.At-loop Inv-loop μ-loop = search in
+    let x : tie.Start Inv-loop μ-loop = search in
+    (omega arith, simp length-set (omega arith), rw (l .loop .inv .2) (exchange-more (x .args .k) (l .loop .i) (x .args .s .now) (omega arith) (omega arith)))
 
 returns : tie.Need-returns Inv-loop μ-loop
 returns c =
-    let at-loop : tie.At-loop Inv-loop μ-loop = search in
-    let start : tie.Start Inv-loop μ-loop = search in
-    let x = start .args in
-    let l = at-loop .loop in
-    l .inv .2 ∙ ap (λ (w : ℕ). exchanged (x .k) w (x .s .now)) (omega arith)
+    let l : tie.At-loop Inv-loop μ-loop = search in
+    let x : tie.Start Inv-loop μ-loop = search in
+    l .loop .inv .2 ∙ ap (λ (w : ℕ). exchanged (x .args .k) w (x .args .s .now)) (omega arith)
 
 pub exchange-spec : {M : Type 1} → statement M
 exchange-spec =
@@ -53,7 +46,7 @@ exchange-spec =
     (search needs)
     (search needs)
     (search needs)
-    slice-write-s-2
+    (λ c. rw length-set (omega arith))
     (search needs)
     (search needs)
     loop-again

@@ -12,7 +12,8 @@ use Rattle.halves.proofs.rotation.rotate.Statement.{statement}
 use Rattle.halves.proofs.rotation.rotate.Tie as tie
 
 abbrev Inv-loop : tie.InvT-loop
-Inv-loop s₀ k n at₀ left₀ s at left = (n ≡ length s₀) × (length s ≡ length s₀) × (0 < left) × (at + left ≤ n) × (rotated k s₀ ≡ take at s ++ rotated left (drop at s))
+Inv-loop s₀ k n at₀ left₀ s at left =
+    (n ≡ length s₀) × (length s ≡ length s₀) × (0 < left) × (at + left ≤ n) × (rotated k s₀ ≡ take at s ++ rotated left (drop at s))
 
 abbrev μ-loop : tie.MeasureT-loop
 μ-loop s₀ k n at₀ left₀ s at left = n - at
@@ -51,7 +52,10 @@ loop-again-2 c = (
 returns-2 : tie.Need-returns-2 Inv-loop μ-loop
 returns-2 c =
     let l : tie.At-loop Inv-loop μ-loop = search in
-    sym (l .loop .inv .4 ∙ ap (λ (r : List ℕ). take (l .loop .at) (l .loop .s) ++ r) (rotated-all (l .loop .left) _ (rw length-drop (omega arith))) ∙ take-append-drop (l .loop .at) (l .loop .s))
+    sym
+    (l .loop .inv .4
+    ∙ ap (λ (r : List ℕ). take (l .loop .at) (l .loop .s) ++ r) (rotated-all (l .loop .left) _ (rw length-drop (omega arith)))
+    ∙ take-append-drop (l .loop .at) (l .loop .s))
 
 pub rotate-spec : {M : Type 1} → statement M
 rotate-spec =

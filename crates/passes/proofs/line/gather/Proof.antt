@@ -9,13 +9,17 @@ use Rattle.passes.proofs.line.gather.Statement.{statement}
 use Rattle.passes.proofs.line.gather.Tie as tie
 
 abbrev Inv-loop : tie.InvT-loop
-Inv-loop buf scratch₀ s l start stride k₀ k-end scratch k = (k ≤ l .count) × Filling (λ j. j) (λ j. getD buf (posOn l (paired (s .m) (s .n) (l .pass) (l .index) j)) 0) (l .count) k scratch₀ scratch
+Inv-loop buf scratch₀ s l start stride k₀ k-end scratch k =
+    (k ≤ l .count) × Filling (λ j. j) (λ j. getD buf (posOn l (paired (s .m) (s .n) (l .pass) (l .index) j)) 0) (l .count) k scratch₀ scratch
 
 abbrev μ-loop : tie.MeasureT-loop
 μ-loop buf scratch₀ s l start stride k₀ k-end scratch k = l .count - k
 
 -- the place that is read lies in the buffer
-inside : (p : tie.After-paired-place Inv-loop μ-loop) → let l = p .before .before in let a = l .before .before .before .args in posOn (a .l) (p .paired-place .result) < length (a .buf .now)
+inside : (p : tie.After-paired-place Inv-loop μ-loop)
+    → let l = p .before .before in
+    let a = l .before .before .before .args in
+    posOn (a .l) (p .paired-place .result) < length (a .buf .now)
 inside p = let x : tie.Start Inv-loop μ-loop = search in rw (p .paired-place .ensures) (x .pre .1 .inside _ (x .pre .1 .within _ (omega arith)))
 
 loop-again : tie.Need-loop-again Inv-loop μ-loop

@@ -1,5 +1,6 @@
 -- `paired_place` meets its contract: each pass's formula as it stands, sides and places of at most 4,096 keep every product small.
-use Prim.Native.Nat.{_+_, _*_, _/_, _%_, _<_, _≤_}
+use mathlib.Core.Path.{_≡_}
+use Prim.Native.Nat.{_+_, _*_, _-_, _/_, _%_, _<_, _≤_}
 use native.Mathlib.Nat.{mul-le-mul, div-le-self, mod-lt, le-mul-of-pos-right}
 use native.Mathlib.Omega.{arith}
 use borrow.Author.Needs.{needs}
@@ -29,28 +30,35 @@ module _ (x : tie.Start) where
   row : (x .args .index + x .args .k / x .args .s .b) % x .args .s .m < x .args .s .m
   row = mod-lt _ (x .pre .0 .m-pos)
 
+  -- each formula is that of its pass
+  formula-1 : (x .args .k + x .args .index / x .args .s .b) % x .args .s .m ≡ row1 (x .args .s .m) (x .args .s .n) (x .args .k) (x .args .index)
+  unfolding row1
+  formula-1 = rw (x .pre .0 .b-is)
+
+  formula-2 : ((x .args .index + x .args .k / x .args .s .b) % x .args .s .m + x .args .k * x .args .s .m) % x .args .s .n
+      ≡ column2 (x .args .s .m) (x .args .s .n) (x .args .index) (x .args .k)
+  unfolding column2
+  formula-2 = rw (x .pre .0 .b-is)
+
+  formula-3 : (x .args .index + x .args .k * x .args .s .n - x .args .k / x .args .s .a) % x .args .s .m
+      ≡ row3 (x .args .s .m) (x .args .s .n) (x .args .k) (x .args .index)
+  unfolding row3
+  formula-3 = rw (x .pre .0 .a-is)
+
 returns : tie.Need-returns
-unfolding row1
-returns c =
-    let t : tie.Then1 = search in
-    let x : tie.Start = search in
-    simp (eq-eqb _ _ (t .if1 .taken)) (rw (x .pre .0 .b-is))
+returns c = let t : tie.Then1 = search in simp (eq-eqb _ _ (t .if1 .taken)) (formula-1 (search))
 
 returns-2 : tie.Need-returns-2
-unfolding column2
 returns-2 c =
     let t : tie.Then2 = search in
     let e : tie.Else1 = search in
-    let x : tie.Start = search in
-    simp (ne-eqb _ _ (e .if1 .left), eq-eqb _ _ (t .if2 .taken)) (rw (x .pre .0 .b-is))
+    simp (ne-eqb _ _ (e .if1 .left), eq-eqb _ _ (t .if2 .taken)) (formula-2 (search))
 
 returns-3 : tie.Need-returns-3
-unfolding row3
 returns-3 c =
     let f : tie.Else2 = search in
     let e : tie.Else1 = search in
-    let x : tie.Start = search in
-    simp (ne-eqb _ _ (e .if1 .left), ne-eqb _ _ (f .if2 .left)) (rw (x .pre .0 .a-is))
+    simp (ne-eqb _ _ (e .if1 .left), ne-eqb _ _ (f .if2 .left)) (formula-3 (search))
 
 pub paired-place-spec : {M : Type 1} → statement M
 paired-place-spec =

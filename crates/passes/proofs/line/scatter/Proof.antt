@@ -9,13 +9,17 @@ use Rattle.passes.proofs.line.scatter.Statement.{statement}
 use Rattle.passes.proofs.line.scatter.Tie as tie
 
 abbrev Inv-loop : tie.InvT-loop
-Inv-loop buf scratch₀ s l start stride k₀ k-end scratch k = (k ≤ l .count) × Filling (paired (s .m) (s .n) (l .pass) (l .index)) (λ j. getD buf (posOn l j) 0) (l .count) k scratch₀ scratch
+Inv-loop buf scratch₀ s l start stride k₀ k-end scratch k =
+    (k ≤ l .count) × Filling (paired (s .m) (s .n) (l .pass) (l .index)) (λ j. getD buf (posOn l j) 0) (l .count) k scratch₀ scratch
 
 abbrev μ-loop : tie.MeasureT-loop
 μ-loop buf scratch₀ s l start stride k₀ k-end scratch k = l .count - k
 
 -- the place that is read lies in the buffer, and the place that is written on the line
-inside : (p : tie.After-paired-place Inv-loop μ-loop) → let l = p .before .before in let a = l .before .before .before .args in (posOn (a .l) (l .loop .k) < length (a .buf .now)) × (p .paired-place .result < a .l .count)
+inside : (p : tie.After-paired-place Inv-loop μ-loop)
+    → let l = p .before .before in
+    let a = l .before .before .before .args in
+    (posOn (a .l) (l .loop .k) < length (a .buf .now)) × (p .paired-place .result < a .l .count)
 inside p =
     let l : tie.At-loop Inv-loop μ-loop = search in
     let x : tie.Start Inv-loop μ-loop = search in

@@ -14,7 +14,10 @@ use Rattle.passes.proofs.turning.turn_all.Statement.{statement}
 use Rattle.passes.proofs.turning.turn_all.Tie as tie
 
 abbrev Inv-loop : tie.InvT-loop
-Inv-loop buf₀ scratch₀ s outer chunk words count t₀ buf scratch t = (t ≤ outer * chunk) × Some (outer * chunk) (s .m * s .n) (posOf (s .m) (s .n) chunk) (toOf (s .m) (s .n)) fromOf t buf₀ buf × Past (need (sides (s .m) (s .n))) scratch₀ scratch
+Inv-loop buf₀ scratch₀ s outer chunk words count t₀ buf scratch t =
+    (t ≤ outer * chunk)
+    × Some (outer * chunk) (s .m * s .n) (posOf (s .m) (s .n) chunk) (toOf (s .m) (s .n)) fromOf t buf₀ buf
+    × Past (need (sides (s .m) (s .n))) scratch₀ scratch
 
 abbrev μ-loop : tie.MeasureT-loop
 μ-loop buf₀ scratch₀ s outer chunk words count t₀ buf scratch t = outer * chunk - t
@@ -39,14 +42,16 @@ turn-at-requires : tie.Need-turn-at-requires Inv-loop μ-loop
 turn-at-requires c κs =
     let l : Loop = search in
     let x : Start = search in
-    (x .pre .0, block-lies (x .pre .0 .m-pos) (x .pre .0 .n-pos) (x .pre .1) (l .loop .t) (l .loop .buf) (l .loop .scratch) (omega arith) (l .loop .inv .1 .same) (l .loop .inv .2 .same))
+    let g = x .pre .0 in
+    (g, block-lies (g .m-pos) (g .n-pos) (x .pre .1) (l .loop .t) (l .loop .buf) (l .loop .scratch) (omega arith) (l .loop .inv .1 .same) (l .loop .inv .2 .same))
 
 loop-again : tie.Need-loop-again Inv-loop μ-loop
 loop-again c =
     let t : tie.After-turn-at Inv-loop μ-loop = search in
     let l : Loop = search in
     let x : Start = search in
-    let family = blocks (x .args .outer) (x .args .s .m) (x .args .s .n) (x .args .chunk) (x .pre .0 .m-pos) (x .pre .0 .n-pos) (x .pre .1 .words) in
+    let g = x .pre .0 in
+    let family = blocks (x .args .outer) (x .args .s .m) (x .args .s .n) (x .args .chunk) (g .m-pos) (g .n-pos) (x .pre .1 .words) in
     (omega arith, some-more family (omega arith) (l .loop .inv .1) (t .turn-at .ensures .0), past-more (le-refl _) (l .loop .inv .2) (t .turn-at .ensures .1))
 
 returns : tie.Need-returns Inv-loop μ-loop
@@ -54,7 +59,8 @@ returns c =
     let l : Loop = search in
     let x : Start = search in
     let e : l .loop .t ≡ x .args .outer * x .args .chunk = omega arith in
-    (swapped (x .args .outer) (x .args .s .m) (x .args .s .n) (x .args .chunk) (x .pre .0 .m-pos) (x .pre .0 .n-pos) (x .pre .1 .words) _ _ (rw e at (l .loop .inv .1)), l .loop .inv .2)
+    let g = x .pre .0 in
+    (swapped (x .args .outer) (x .args .s .m) (x .args .s .n) (x .args .chunk) (g .m-pos) (g .n-pos) (x .pre .1 .words) _ _ (rw e at (l .loop .inv .1)), l .loop .inv .2)
 
 pub turn-all-spec : {M : Type 1} → statement M
 turn-all-spec =

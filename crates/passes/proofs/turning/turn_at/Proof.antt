@@ -32,7 +32,8 @@ forth-requires c κs =
     let i : Line = search in
     let l : Loop = search in
     let x : Start = search in
-    (x .pre .0, rw (i .line-of .ensures) (going-fits (x .pre .0) (x .pre .1) (l .loop .l) (l .loop .buf) (l .loop .scratch) (omega arith) (l .loop .inv .1 .same) (l .loop .inv .1 .past)))
+    let f = l .loop .inv .1 in
+    (x .pre .0, rw (i .line-of .ensures) (going-fits (x .pre .0) (x .pre .1) (l .loop .l) (l .loop .buf) (l .loop .scratch) (omega arith) (f .same) (f .past)))
 
 loop-again : tie.Need-loop-again Inv-loop μ-loop
 loop-again c =

@@ -31,7 +31,8 @@ back-requires c κs =
     let i : Line = search in
     let l : Loop = search in
     let x : Start = search in
-    (x .pre .0, rw (i .line-of .ensures) (going-fits (x .pre .0) (x .pre .1) (l .loop .l - 1) (l .loop .buf) (l .loop .scratch) (omega arith) (l .loop .inv .same) (l .loop .inv .past)))
+    let f = l .loop .inv in
+    (x .pre .0, rw (i .line-of .ensures) (going-fits (x .pre .0) (x .pre .1) (l .loop .l - 1) (l .loop .buf) (l .loop .scratch) (omega arith) (f .same) (f .past)))
 
 loop-again : tie.Need-loop-again Inv-loop μ-loop
 loop-again c =

@@ -1,35 +1,17 @@
 -- `field_at` meets its contract: a tab, and what `number_at` says of what follows it.
-use mathlib.Core.Path.{_≡_, refl, sym, ap, _∙_}
-use Rattle.sheet.proofs.Places.{at-none, at-same, field-end, field-other, field-step}
 use borrow.Author.Needs.{needs}
+use Rattle.sheet.proofs.Places.{at-none, at-same, field-end, field-other, field-step}
 use Rattle.sheet.proofs.field.field_at.Statement.{statement}
 use Rattle.sheet.proofs.field.field_at.Tie as tie
 
 returns : tie.Need-returns
-returns c = let a = c .before .before .args in at-none (field-end (a .bytes .now) (a .at) (c .if1 .taken))
-
-shared-slice-read-if2 : tie.Need-shared-slice-read-if2
-shared-slice-read-if2 c = search needs
+returns c = let x : tie.Start = search in at-none (field-end (x .args .bytes .now) (x .args .at) (search))
 
 returns-2 : tie.Need-returns-2
-returns-2 c =
-    let e = c .before .before in
-    let a = e .before .before .args in
-    at-none (field-other (a .bytes .now) (a .at) (e .if1 .left) (c .if2 .taken))
-
-add-number-at : tie.Need-add-number-at
-add-number-at c = search needs
-
-number-at-requires : tie.Need-number-at-requires
-number-at-requires c κs = search needs
+returns-2 c = let x : tie.Start = search in at-none (field-other (x .args .bytes .now) (x .args .at) (search) (search))
 
 returns-3 : tie.Need-returns-3
-returns-3 c =
-    let e = c .before .before .before in
-    let a = e .before .before .args in
-    at-same (field-step (a .bytes .now) (a .at) (e .if1 .left) (c .before .if2 .left)) (c .number-at .ensures)
+returns-3 c = let x : tie.Start = search in at-same (field-step (x .args .bytes .now) (x .args .at) (search) (search)) (c .number-at .ensures)
 
 pub field-at-spec : {M : Type 1} → statement M
-field-at-spec =
-    tie.close
-    (tie.spec returns shared-slice-read-if2 returns-2 add-number-at number-at-requires returns-3)
+field-at-spec = tie.close (tie.spec returns (search needs) returns-2 (search needs) (search needs) returns-3)

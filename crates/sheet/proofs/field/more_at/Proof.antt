@@ -1,12 +1,12 @@
 -- `more_at` meets its contract. The loop's invariant: reading on from the value so far at the place reached is reading on
 -- from the start. Each way out is what the byte there says.
-use mathlib.Core.Path.{_≡_, refl, sym, ap, _∙_}
-use Prim.Native.Nat.{ℕ, _+_, _-_, _*_, _<_, _≤_}
+use mathlib.Core.Path.{_≡_, refl, _∙_}
+use Prim.Native.Nat.{ℕ, _-_, _≤_}
 use native.Mathlib.Omega.{arith}
-use lib.ListN.{length, drop, getD}
+use lib.ListN.{length, drop}
 use Rattle.text.specs.Print.{limit}
 use Rattle.text.specs.Read.{readMore}
-use Rattle.sheet.proofs.Places.{at-found, at-none, at-same, more-end, more-below, more-above, more-over, more-step}
+use Rattle.sheet.proofs.Places.{at-found, at-none, more-end, more-below, more-above, more-over, more-step}
 use borrow.Author.Needs.{needs}
 use Rattle.sheet.proofs.field.more_at.Statement.{statement}
 use Rattle.sheet.proofs.field.more_at.Tie as tie
@@ -18,67 +18,47 @@ Inv-loop bytes at start value₀ p₀ value p =
 abbrev μ-loop : tie.MeasureT-loop
 μ-loop bytes at start value₀ p₀ value p = length bytes - p
 
-loop-holds : tie.Need-loop-holds Inv-loop μ-loop
-loop-holds c = search needs
+abbrev Start : Type 0
+Start = tie.Start Inv-loop μ-loop
 
-shared-slice-read-b : tie.Need-shared-slice-read-b Inv-loop μ-loop
-shared-slice-read-b c = search needs
+abbrev Loop : Type 0
+Loop = tie.At-loop Inv-loop μ-loop
+
+loop-holds : tie.Need-loop-holds Inv-loop μ-loop
+loop-holds c = (c .pre .0, c .pre .1, refl)
 
 cast-b : tie.Need-cast-b Inv-loop μ-loop
-cast-b c = omega (arith, c .shared-slice-known .given (c .before .before .loop .p))
+cast-b c = let l : Loop = search in omega (arith, c .shared-slice-known .given (l .loop .p))
 
 returns : tie.Need-returns Inv-loop μ-loop
 returns c =
-    let w = c .before .before in
-    let l = w .before .loop in
-    at-found (l .p)
-    (l .inv .2 ∙ more-below (w .before .before .args .bytes .now) (l .p) (w .loop-test .taken) (l .value) (c .if1 .taken))
-    (l .inv .0)
+    let l : Loop = search in
+    let x : Start = search in
+    at-found (l .loop .p) (l .loop .inv .2 ∙ more-below (x .args .bytes .now) (l .loop .p) (search) (l .loop .value) (search)) (l .loop .inv .0)
 
 returns-2 : tie.Need-returns-2 Inv-loop μ-loop
 returns-2 c =
-    let w = c .before .before .before in
-    let l = w .before .loop in
-    at-found (l .p)
-    (l .inv .2 ∙ more-above (w .before .before .args .bytes .now) (l .p) (w .loop-test .taken) (l .value) (c .if2 .taken))
-    (l .inv .0)
-
-mul-w : tie.Need-mul-w Inv-loop μ-loop
-mul-w c = search needs
-
-add-w : tie.Need-add-w Inv-loop μ-loop
-add-w c = search needs
+    let l : Loop = search in
+    let x : Start = search in
+    at-found (l .loop .p) (l .loop .inv .2 ∙ more-above (x .args .bytes .now) (l .loop .p) (search) (l .loop .value) (search)) (l .loop .inv .0)
 
 returns-3 : tie.Need-returns-3 Inv-loop μ-loop
 returns-3 c =
-    let w = c .before .before .before .before in
-    let l = w .before .loop in
-    at-none
-    (l .inv .2
-    ∙ more-over (w .before .before .args .bytes .now) (l .p) (w .loop-test .taken) (l .value) (c .before .before .if1 .left)
-    (c .before .if2 .left) (c .if3 .taken))
-
-add-p : tie.Need-add-p Inv-loop μ-loop
-add-p c = search needs
-
-loop-less : tie.Need-loop-less Inv-loop μ-loop
-loop-less c = search needs
+    let l : Loop = search in
+    let x : Start = search in
+    at-none (l .loop .inv .2 ∙ more-over (x .args .bytes .now) (l .loop .p) (search) (l .loop .value) (search) (search) (search))
 
 loop-again : tie.Need-loop-again Inv-loop μ-loop
 loop-again c =
-    let w = c .before .before .before .before in
-    let l = w .before .loop in (
-      omega arith,
-      c .if3 .left,
-      l .inv .2
-          ∙ more-step (w .before .before .args .bytes .now) (l .p) (w .loop-test .taken) (l .value) (c .before .before .if1 .left)
-          (c .before .if2 .left) (c .if3 .left),
-    )
+    let l : Loop = search in
+    let x : Start = search in
+    (omega arith, search, l .loop .inv .2 ∙ more-step (x .args .bytes .now) (l .loop .p) (search) (l .loop .value) (search) (search) (search))
 
 returns-4 : tie.Need-returns-4 Inv-loop μ-loop
 returns-4 c =
-    let l = c .before .loop in
-    at-found (l .p) (l .inv .2 ∙ more-end (c .before .before .args .bytes .now) (l .p) (l .value) (c .loop-test .left)) (l .inv .0)
+    let l : Loop = search in
+    let x : Start = search in
+    at-found (l .loop .p) (l .loop .inv .2 ∙ more-end (x .args .bytes .now) (l .loop .p) (l .loop .value) (search)) (l .loop .inv .0)
 
 pub more-at-spec : {M : Type 1} → statement M
 more-at-spec =
@@ -87,14 +67,14 @@ more-at-spec =
     Inv-loop
     μ-loop
     loop-holds
-    shared-slice-read-b
+    (search needs)
     cast-b
     returns
     returns-2
-    mul-w
-    add-w
+    (search needs)
+    (search needs)
     returns-3
-    add-p
-    loop-less
+    (search needs)
+    (search needs)
     loop-again
     returns-4)

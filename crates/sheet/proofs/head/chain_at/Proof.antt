@@ -1,150 +1,85 @@
 -- `chain_at` meets its contract: each way out is the first check that holds.
-use mathlib.Core.Path.{_≡_, refl, sym, ap, _∙_}
-use mathlib.Core.Bool.{true, false}
-use mathlib.Core.List.{List, [], _∷_, _++_}
-use Prim.Native.Nat.{ℕ, _+_, _-_, _≤_, _<_}
-use lib.ListN.{length, take, drop, replicate}
-use lib.Seq.{take-at}
-use borrow.Author.Tests.{not-true, not-false, lt-ltb, le-ltb}
-use Rattle.refusals.specs.Conditions.{noSwap, badSwap, firstPlace}
-use Rattle.text.specs.Print.{lineFeed}
-use Rattle.text.specs.Read.{Found, readFields, readLine, tabs}
-use Rattle.text.specs.Sheet.{chainWord}
-use Rattle.text.specs.Meaning.{Step, chainLine}
-use Rattle.text.proofs.Lines.{line-text}
-use Rattle.sheet.specs.Place.{numbersOf, wordsOf}
-use Rattle.sheet.proofs.LinesAt.{line-fields}
-use Rattle.sheet.proofs.Checks.{some-place}
-use Rattle.sheet.proofs.HeadLines.{chain-no, step-go, chain-form, chain-long, chain-bad, chain-right}
+use mathlib.Core.Path.{_≡_, sym}
 use native.Mathlib.Omega.{arith}
+use lib.ListN.{length}
+use lib.Seq.{length-take-le}
 use borrow.Author.Needs.{needs}
+use Rattle.sheet.proofs.HeadLines.{chain-form, chain-long, chain-inside, chain-there, chain-bad, chain-go}
 use Rattle.sheet.proofs.head.chain_at.Statement.{statement}
 use Rattle.sheet.proofs.head.chain_at.Tie as tie
 
--- the bytes from line 2 on
-abbrev bs : tie.Else1 → List ℕ
-bs c = let a = c .before .before .before .before .before .before .args in drop (a .at) (a .bytes .now)
-
--- the numbers of line 2
-abbrev swaps : tie.Else1 → List ℕ
-swaps c = numbersOf (readLine chainWord (tabs (bs c)) (bs c))
-
-found-line : (c : tie.Else1)
-    → readLine chainWord (tabs (bs c)) (bs c) ≡ Found.found (swaps c) (drop (c .before .before .line-at .result .next) (c .before .before .before .before .before .before .args .bytes .now))
-found-line c =
-    let l = c .before .before .line-at in
-    let t = c .before .before .before .before .tabs-at in
-    rw (t .ensures) at (l .ensures .right (not-false (l .result .ok) (c .if1 .left)))
-
-counted : (c : tie.Else1) → length (swaps c) ≡ c .before .before .before .before .tabs-at .result
-counted c = line-text chainWord (tabs (bs c)) (bs c) (found-line c) .long ∙ sym (c .before .before .before .before .tabs-at .ensures)
-
-fields : (c : tie.Else1)
-    → (c .before .before .before .before .before .before .args .at + 5 ≤ length (c .before .before .before .before .before .before .args .bytes .now))
-    × (readFields (c .before .before .before .before .tabs-at .result) (drop (c .before .before .before .before .before .before .args .at + 5) (c .before .before .before .before .before .before .args .bytes .now))
-    ≡ Found.found (swaps c) (lineFeed ∷ drop (c .before .before .line-at .result .next) (c .before .before .before .before .before .before .args .bytes .now)))
-fields c =
-    let s = c .before .before .before .before .before .before in
-    let f = line-fields (s .args .bytes .now) (s .args .at) chainWord (tabs (bs c)) (s .pre) (found-line c) in
-    (f .0, rw (c .before .before .before .before .tabs-at .ensures) (f .1))
-
--- the swaps that were fetched are those numbers, then zeros
-fetched : (c : tie.After-values-at)
-    → c .values-at .result ≡ swaps (c .before .before) ++ replicate (32 - c .before .before .before .before .before .before .tabs-at .result) 0
-fetched c =
-    c .values-at .ensures
-    ∙ ap (λ (x : Found (List ℕ)). numbersOf x ++ replicate (32 - c .before .before .before .before .before .before .tabs-at .result) 0) (fields (c .before .before) .1)
-
-first : (c : tie.After-first-bad) → c .first-bad .result ≡ firstPlace (noSwap 4) (swaps (c .before .before .before))
-first c =
-    let v = c .before in
-    let d = v .before .before in
-    let n = d .before .before .before .before .tabs-at .result in
-    c .first-bad .ensures ∙ ap (λ (l : List ℕ). firstPlace (noSwap 4) (take n l)) (fetched v)
-    ∙ ap (firstPlace (noSwap 4)) (take-at (swaps d) (replicate (32 - n) 0) n (counted d))
-
-tabs-at-requires : tie.Need-tabs-at-requires
-tabs-at-requires c κs = search needs
-
-slice-aggregate-line-at : tie.Need-slice-aggregate-line-at
-slice-aggregate-line-at c = search needs
-
-line-at-requires : tie.Need-line-at-requires
-line-at-requires c κs = search needs
-
-no-chain-requires : tie.Need-no-chain-requires
-no-chain-requires c κs = search needs
-
 returns : tie.Need-returns
 returns c =
-    let d = c .before .before .before in
-    let t = d .before .before in
-    let s = t .before .before in
-    let bs = drop (s .args .at) (s .args .bytes .now) in
-    let bad : readLine chainWord (t .tabs-at .result) bs ≡ Found.none = d .line-at .ensures .wrong (not-true (d .line-at .result .ok) (c .before .if1 .taken)) in
-    chain-no 10 2 (c .no-chain .ensures) (λ z. omega arith) (chain-form bs (rw (t .tabs-at .ensures) at bad))
-
-no-chain-requires-2 : tie.Need-no-chain-requires-2
-no-chain-requires-2 c κs = search needs
+    let l : tie.After-line-at = search in
+    let t : tie.After-tabs-at = search in
+    let x : tie.Start = search in
+    chain-form (x .args .at) (t .tabs-at .ensures) (l .line-at .ensures) (search) (search)
 
 returns-2 : tie.Need-returns-2
 returns-2 c =
-    let d = c .before .before in
-    chain-no 5 0 (c .no-chain2 .ensures) (λ z. omega arith) (chain-long (bs d) (found-line d) (omega (arith, counted d, c .before .if2 .taken)))
+    let l : tie.After-line-at = search in
+    let t : tie.After-tabs-at = search in
+    let x : tie.Start = search in
+    chain-long (x .args .at) (t .tabs-at .ensures) (l .line-at .ensures) (search) (search) (search)
 
 add-values-at : tie.Need-add-values-at
-add-values-at c = omega (arith, fields (c .before) .0)
+add-values-at c =
+    let l : tie.After-line-at = search in
+    let t : tie.After-tabs-at = search in
+    let x : tie.Start = search in
+    omega (arith, chain-inside (x .args .at) (t .tabs-at .ensures) (l .line-at .ensures) (search) (x .pre))
 
 values-at-requires : tie.Need-values-at-requires
-values-at-requires c κs = (omega (arith, c .if2 .left), record { found = rw (fields (c .before) .1) })
+values-at-requires c κs =
+    let l : tie.After-line-at = search in
+    let t : tie.After-tabs-at = search in
+    let x : tie.Start = search in
+    (search, chain-there (x .args .at) (t .tabs-at .ensures) (l .line-at .ensures) (search) (x .pre))
 
-first-bad-requires : tie.Need-first-bad-requires
-first-bad-requires c κs = search needs
+swaps-there : tie.Need-array-share-prefix-swaps
+swaps-there c =
+    let long : length (c .values-at .result) ≡ 32 = search needs in
+    omega arith
 
-no-chain-requires-3 : tie.Need-no-chain-requires-3
-no-chain-requires-3 c κs = search needs
+swaps-counted : tie.Need-slice-aggregate-first-above
+swaps-counted c =
+    let v : tie.After-values-at = search in
+    sym (length-take-le _ _ (swaps-there v))
 
 returns-3 : tie.Need-returns-3
 returns-3 c =
-    let k = c .before .before in
-    let v = k .before in
-    let d = v .before .before in
-    let bad : badSwap 4 (swaps d) ≡ true =
-    some-place (noSwap 4) (swaps d) ∙ lt-ltb (firstPlace (noSwap 4) (swaps d)) (length (swaps d)) (omega (arith, counted d, first k, c .before .if3 .taken)) in
-    chain-no 6 (k .first-bad .result) (c .no-chain3 .ensures) (λ z. omega arith)
-    (chain-bad (bs d) (found-line d) (omega (arith, counted d, v .before .if2 .left)) bad ∙ ap (Step.refuse 6) (sym (first k)))
+    let b : tie.After-first-above = search in
+    let v : tie.After-values-at = search in
+    let l : tie.After-line-at = search in
+    let t : tie.After-tabs-at = search in
+    let x : tie.Start = search in
+    chain-bad (x .args .at) (t .tabs-at .ensures) (l .line-at .ensures) (search) (x .pre) (search) (v .values-at .ensures) (b .first-above .ensures) (search) (search)
 
 returns-4 : tie.Need-returns-4
 returns-4 c =
-    let k = c .before in
-    let v = k .before in
-    let d = v .before .before in
-    let next = d .before .before .line-at .result .next in
-    let none : badSwap 4 (swaps d) ≡ false =
-    some-place (noSwap 4) (swaps d) ∙ le-ltb (firstPlace (noSwap 4) (swaps d)) (length (swaps d)) (omega (arith, counted d, first k, c .if3 .left)) in
-    let e : chainLine (bs d) ≡ Step.go (swaps d) (drop next (d .before .before .before .before .before .before .args .bytes .now)) =
-    chain-right (bs d) (found-line d) (omega (arith, counted d, v .before .if2 .left)) none in
-    let w : wordsOf (chainLine (bs d)) ≡ swaps d = rw e in
-    record {
-      step = step-go next (rw e) (d .before .before .line-at .ensures .inside);
-      padded = λ z. rw w (fetched v ∙ ap (λ (n : ℕ). swaps d ++ replicate (32 - n) 0) (sym (counted d)));
-      counted = λ z. rw w (sym (counted d));
-    }
+    let b : tie.After-first-above = search in
+    let v : tie.After-values-at = search in
+    let l : tie.After-line-at = search in
+    let t : tie.After-tabs-at = search in
+    let x : tie.Start = search in
+    chain-go (x .args .at) (t .tabs-at .ensures) (l .line-at .ensures) (search) (x .pre) (search) (v .values-at .ensures) (b .first-above .ensures) (search)
 
 pub chain-at-spec : {M : Type 1} → statement M
 chain-at-spec =
     tie.close
     (tie.spec
-    tabs-at-requires
-    slice-aggregate-line-at
-    line-at-requires
-    no-chain-requires
+    (search needs)
+    (search needs)
+    (search needs)
+    (search needs)
     returns
-    no-chain-requires-2
+    (search needs)
     returns-2
     add-values-at
     values-at-requires
-    first-bad-requires
-    no-chain-requires-3
+    swaps-there
+    swaps-counted
+    (search needs)
+    (search needs)
     returns-3
     returns-4)

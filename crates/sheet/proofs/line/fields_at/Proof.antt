@@ -1,13 +1,12 @@
 -- `fields_at` meets its contract. The loop's invariant: the fields passed were read, and the bytes from the place reached on follow them.
-use borrow.Author.Tests.{not-true, not-false}
 use native.Mathlib.Omega.{arith}
-use mathlib.Core.Path.{_≡_, refl, sym, ap, _∙_}
-use Prim.Native.Nat.{ℕ, _-_, _<_, _≤_}
+use mathlib.Core.Path.{_≡_}
+use Prim.Native.Nat.{ℕ, _-_, _≤_}
 use lib.ListN.{length, drop}
-use Rattle.text.specs.Read.{Found, readFields}
+use Rattle.text.specs.Read.{Reading, readFields}
 use Rattle.sheet.specs.Place.{numbersOf}
-use Rattle.sheet.proofs.Places.{at-found, at-none}
-use Rattle.sheet.proofs.Runs.{got, no-field, fields-more, fields-stop}
+use Rattle.sheet.proofs.Places.{at-found}
+use Rattle.sheet.proofs.Runs.{got, no-field, next-field, no-next-field}
 use borrow.Author.Needs.{needs}
 use Rattle.sheet.proofs.line.fields_at.Statement.{statement}
 use Rattle.sheet.proofs.line.fields_at.Tie as tie
@@ -15,46 +14,41 @@ use Rattle.sheet.proofs.line.fields_at.Tie as tie
 abbrev Inv-loop : tie.InvT-loop
 Inv-loop bytes at n p₀ i₀ p i =
     (i ≤ n) × (p ≤ length bytes)
-    × (readFields i (drop at bytes) ≡ Found.found (numbersOf (readFields i (drop at bytes))) (drop p bytes))
+    × (readFields i (drop at bytes) ≡ Reading.found (numbersOf (readFields i (drop at bytes))) (drop p bytes))
 
 abbrev μ-loop : tie.MeasureT-loop
 μ-loop bytes at n p₀ i₀ p i =
     n - i
 
-loop-holds : tie.Need-loop-holds Inv-loop μ-loop
-loop-holds c = let a = c .before .args in (omega arith, c .before .pre, got (no-field (drop (a .at) (a .bytes .now))))
+abbrev Start : Type 0
+Start = tie.Start Inv-loop μ-loop
 
-field-at-requires : tie.Need-field-at-requires Inv-loop μ-loop
-field-at-requires c κs = search needs
+abbrev Loop : Type 0
+Loop = tie.At-loop Inv-loop μ-loop
+
+loop-holds : tie.Need-loop-holds Inv-loop μ-loop
+loop-holds c = let x : Start = search in (omega arith, x .pre, got (no-field _))
 
 returns : tie.Need-returns Inv-loop μ-loop
 returns c =
-    let f = c .before .before in
-    let l = f .before .before .loop in
-    let a = f .before .before .before .before .args in
-    let bad = f .field-at .ensures .wrong (not-true (f .field-at .result .ok) (c .if1 .taken)) in
-    at-none (fields-stop (l .i) (a .n) (drop (a .at) (a .bytes .now)) (l .inv .2) bad (omega arith))
-
-add-i : tie.Need-add-i Inv-loop μ-loop
-add-i c = search needs
-
-loop-less : tie.Need-loop-less Inv-loop μ-loop
-loop-less c = search needs
+    let f : tie.After-field-at Inv-loop μ-loop = search in
+    let l : Loop = search in
+    let x : Start = search in
+    no-next-field (l .loop .i) (x .args .n) (drop (x .args .at) (x .args .bytes .now)) (l .loop .inv .2) (f .field-at .ensures) (search) (omega arith)
 
 loop-again : tie.Need-loop-again Inv-loop μ-loop
 loop-again c =
-    let f = c .before .before in
-    let l = f .before .before .loop in
-    let a = f .before .before .before .before .args in
-    let good = f .field-at .ensures .right (not-false (f .field-at .result .ok) (c .if1 .left)) in
-    (omega arith, f .field-at .ensures .inside, got (fields-more (l .i) (drop (a .at) (a .bytes .now)) (l .inv .2) good))
+    let f : tie.After-field-at Inv-loop μ-loop = search in
+    let l : Loop = search in
+    let x : Start = search in
+    (omega arith, f .field-at .ensures .inside, next-field (l .loop .i) (drop (x .args .at) (x .args .bytes .now)) (l .loop .inv .2) (f .field-at .ensures) (search))
 
 returns-2 : tie.Need-returns-2 Inv-loop μ-loop
 returns-2 c =
-    let l = c .before .loop in
-    let a = c .before .before .before .args in
-    let e : l .i ≡ a .n = omega arith in
-    at-found (l .p) (rw (← e) (l .inv .2)) (l .inv .1)
+    let l : Loop = search in
+    let x : Start = search in
+    let e : l .loop .i ≡ x .args .n = omega arith in
+    at-found (l .loop .p) (rw (← e) (l .loop .inv .2)) (l .loop .inv .1)
 
 pub fields-at-spec : {M : Type 1} → statement M
 fields-at-spec =
@@ -63,9 +57,9 @@ fields-at-spec =
     Inv-loop
     μ-loop
     loop-holds
-    field-at-requires
+    (search needs)
     returns
-    add-i
-    loop-less
+    (search needs)
+    (search needs)
     loop-again
     returns-2)

@@ -1,9 +1,9 @@
 -- `tabs_at` meets its contract. The loop's invariant: the tabs counted and those still to come are all.
 use native.Mathlib.Omega.{arith}
-use mathlib.Core.Path.{_≡_, refl, sym, ap, _∙_}
-use Prim.Native.Nat.{ℕ, suc, _+_, _-_, _<_, _≤_}
+use mathlib.Core.Path.{_≡_}
+use Prim.Native.Nat.{ℕ, _+_, _-_, _≤_}
 use mathlib.Core.Logic.{⊎-elim}
-use lib.ListN.{length, drop, getD}
+use lib.ListN.{length, drop}
 use Rattle.text.specs.Read.{tabs}
 use Rattle.sheet.proofs.LinesAt.{tabs-end, tabs-feed, tabs-tab, tabs-other}
 use borrow.Author.Needs.{needs}
@@ -18,41 +18,32 @@ abbrev μ-loop : tie.MeasureT-loop
 μ-loop bytes at count₀ p₀ count p =
     length bytes - p
 
-loop-holds : tie.Need-loop-holds Inv-loop μ-loop
-loop-holds c = (c .pre, omega arith, omega arith)
+abbrev Start : Type 0
+Start = tie.Start Inv-loop μ-loop
 
-shared-slice-read-b : tie.Need-shared-slice-read-b Inv-loop μ-loop
-shared-slice-read-b c = search needs
+abbrev Loop : Type 0
+Loop = tie.At-loop Inv-loop μ-loop
 
 returns : tie.Need-returns Inv-loop μ-loop
 returns c =
-    let w = c .before .before in
-    let l = w .before .loop in
-    omega (arith, l .inv .2, tabs-feed (w .before .before .args .bytes .now) (l .p) (w .loop-test .taken) (c .if1 .taken))
-
-add-count : tie.Need-add-count Inv-loop μ-loop
-add-count c = search needs
-
-add-p : tie.Need-add-p Inv-loop μ-loop
-add-p c = search needs
-
-loop-less : tie.Need-loop-less Inv-loop μ-loop
-loop-less c = search needs
+    let l : Loop = search in
+    let x : Start = search in
+    omega (arith, tabs-feed (x .args .bytes .now) (l .loop .p) (search) (search))
 
 loop-again : tie.Need-loop-again Inv-loop μ-loop
 loop-again c =
-    let w = c .before .before .before in
-    let l = w .before .loop in
-    let bytes = w .before .before .args .bytes .now in
+    let l : Loop = search in
+    let x : Start = search in
     ⊎-elim
-    (λ h. (omega arith, omega arith, omega (arith, h, l .inv .2, tabs-tab bytes (l .p) (w .loop-test .taken) (h .0 .taken))))
-    (λ h. (omega arith, omega arith, omega (arith, h, l .inv .2, tabs-other bytes (l .p) (w .loop-test .taken) (c .before .if1 .left) (h .0 .left))))
+    (λ h. (omega arith, omega arith, omega (arith, h, tabs-tab (x .args .bytes .now) (l .loop .p) (search) (h .0 .taken))))
+    (λ h. (omega arith, omega arith, omega (arith, h, tabs-other (x .args .bytes .now) (l .loop .p) (search) (search) (h .0 .left))))
     (c .if2 .came)
 
 returns-2 : tie.Need-returns-2 Inv-loop μ-loop
 returns-2 c =
-    let l = c .before .loop in
-    omega (arith, l .inv .2, tabs-end (c .before .before .args .bytes .now) (l .p) (c .loop-test .left))
+    let l : Loop = search in
+    let x : Start = search in
+    omega (arith, tabs-end (x .args .bytes .now) (l .loop .p) (search))
 
 pub tabs-at-spec : {M : Type 1} → statement M
 tabs-at-spec =
@@ -60,11 +51,11 @@ tabs-at-spec =
     (tie.spec
     Inv-loop
     μ-loop
-    loop-holds
-    shared-slice-read-b
+    (search needs)
+    (search needs)
     returns
-    add-count
-    add-p
-    loop-less
+    (search needs)
+    (search needs)
+    (search needs)
     loop-again
     returns-2)

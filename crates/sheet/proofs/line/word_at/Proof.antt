@@ -1,7 +1,7 @@
 -- `word_at` meets its contract. The loop's invariant: the word stands there exactly where what is left of it stands further on.
-use mathlib.Core.Path.{_≡_, refl, sym, ap, _∙_}
-use Prim.Native.Nat.{ℕ, _+_, _-_, _<_, _≤_}
-use lib.ListN.{length, take, drop, getD}
+use mathlib.Core.Path.{_≡_, sym, _∙_}
+use Prim.Native.Nat.{ℕ, _+_, _-_, _≤_}
+use lib.ListN.{length, take, drop}
 use Rattle.lists.specs.Same.{same}
 use Rattle.sheet.proofs.LinesAt.{agrees, word-start, word-end, word-step, word-other, word-short}
 use native.Mathlib.Omega.{arith}
@@ -15,53 +15,38 @@ Inv-loop bytes at word i₀ i-end i =
     × (same (take (length word) (drop at bytes)) word ≡ agrees bytes at word i)
 
 abbrev μ-loop : tie.MeasureT-loop
-μ-loop bytes at word i₀ i-end i =
-    i-end - i
+μ-loop bytes at word i₀ i-end i = i-end - i
 
-sub-if1 : tie.Need-sub-if1 Inv-loop μ-loop
-sub-if1 c = search needs
+abbrev Start : Type 0
+Start = tie.Start Inv-loop μ-loop
+
+abbrev Loop : Type 0
+Loop = tie.At-loop Inv-loop μ-loop
 
 returns : tie.Need-returns Inv-loop μ-loop
-returns c = let a = c .before .args in sym (word-short (a .bytes .now) (a .at) (a .word .now) (c .before .pre) (c .if1 .taken))
+returns c = let x : Start = search in sym (word-short (x .args .bytes .now) (x .args .at) (x .args .word .now) (x .pre) (search))
 
 loop-holds : tie.Need-loop-holds Inv-loop μ-loop
-loop-holds c = let a = c .before .args in (omega arith, refl, omega arith, word-start (a .bytes .now) (a .at) (a .word .now))
-
-add-if2 : tie.Need-add-if2 Inv-loop μ-loop
-add-if2 c = search needs
-
-shared-slice-read-if2 : tie.Need-shared-slice-read-if2 Inv-loop μ-loop
-shared-slice-read-if2 c = search needs
-
-shared-slice-read-if2-2 : tie.Need-shared-slice-read-if2-2 Inv-loop μ-loop
-shared-slice-read-if2-2 c = search needs
+loop-holds c = let x : Start = search in (omega arith, omega arith, omega arith, word-start (x .args .bytes .now) (x .args .at) (x .args .word .now))
 
 returns-2 : tie.Need-returns-2 Inv-loop μ-loop
 returns-2 c =
-    let w = c .before .before .before in
-    let l = w .before .loop in
-    let a = w .before .before .before .args in
-    sym (l .inv .3 ∙ word-other (a .bytes .now) (a .at) (a .word .now) (l .i) (omega arith) (omega arith) (c .if2 .taken))
-
-add-i : tie.Need-add-i Inv-loop μ-loop
-add-i c = search needs
-
-loop-less : tie.Need-loop-less Inv-loop μ-loop
-loop-less c = search needs
+    let l : Loop = search in
+    let x : Start = search in
+    sym (l .loop .inv .3 ∙ word-other (x .args .bytes .now) (x .args .at) (x .args .word .now) (l .loop .i) (omega arith) (omega arith) (search))
 
 loop-again : tie.Need-loop-again Inv-loop μ-loop
 loop-again c =
-    let w = c .before .before .before in
-    let l = w .before .loop in
-    let a = w .before .before .before .args in
-    (omega arith, l .inv .1, l .inv .2, l .inv .3 ∙ word-step (a .bytes .now) (a .at) (a .word .now) (l .i) (omega arith) (omega arith) (c .if2 .left))
+    let l : Loop = search in
+    let x : Start = search in
+    let on = word-step (x .args .bytes .now) (x .args .at) (x .args .word .now) (l .loop .i) (omega arith) (omega arith) (search) in
+    (omega arith, l .loop .inv .1, l .loop .inv .2, l .loop .inv .3 ∙ on)
 
 returns-3 : tie.Need-returns-3 Inv-loop μ-loop
 returns-3 c =
-    let l = c .before .loop in
-    let a = c .before .before .before .args in
-    let e : l .i ≡ length (a .word .now) = omega arith in
-    sym (l .inv .3 ∙ ap (agrees (a .bytes .now) (a .at) (a .word .now)) e ∙ word-end (a .bytes .now) (a .at) (a .word .now))
+    let l : Loop = search in
+    let x : Start = search in
+    sym (l .loop .inv .3 ∙ word-end (x .args .bytes .now) (x .args .at) (x .args .word .now) (l .loop .i) (omega arith))
 
 pub word-at-spec : {M : Type 1} → statement M
 word-at-spec =
@@ -69,14 +54,14 @@ word-at-spec =
     (tie.spec
     Inv-loop
     μ-loop
-    sub-if1
+    (search needs)
     returns
     loop-holds
-    add-if2
-    shared-slice-read-if2
-    shared-slice-read-if2-2
+    (search needs)
+    (search needs)
+    (search needs)
     returns-2
-    add-i
-    loop-less
+    (search needs)
+    (search needs)
     loop-again
     returns-3)

@@ -1,79 +1,74 @@
 -- `put_rows` meets its contract. The loop's invariant: the rows left lead to all rows.
 use native.Mathlib.Omega.{arith}
-use mathlib.Core.Path.{_≡_, refl, sym, ap, _∙_}
-use mathlib.Core.List.{List, [], _∷_, _++_}
-use Prim.Native.Nat.{ℕ, suc, _+_, _-_, _*_, _<_, _≤_}
-use lib.ListN.{length, take, drop, getD}
-use Rattle.text.specs.Print.{line}
-use Rattle.text.specs.Sheet.{rowWord, rowsText}
+use mathlib.Core.Path.{_≡_}
+use Prim.Native.Nat.{ℕ, _+_, _-_, _*_, _<_, _≤_}
+use lib.ListN.{length, drop}
+use Rattle.text.specs.Sheet.{rowsText}
 use Rattle.sheet.proofs.RowsFrom.{room-left}
-use Rattle.sheet.proofs.Puts.{Leads, leads-start, leads-room, leads-step, leads-end, leads-same}
-use Rattle.sheet.proofs.Pages.{rows-next, no-rows}
+use Rattle.sheet.proofs.Puts.{Leads, leads-start}
+use Rattle.sheet.proofs.Pages.{next-row-room, next-row-put, all-rows-put}
 use borrow.Author.Needs.{needs}
 use Rattle.sheet.proofs.page.put_rows.Statement.{statement}
 use Rattle.sheet.proofs.page.put_rows.Tie as tie
 
 abbrev Inv-loop : tie.InvT-loop
-Inv-loop out₀ at words count n p₀ from₀ i₀ out p from i =
+Inv-loop out₀ at words count n p₀ from₀ i₀ word out p from i =
     (i ≤ count) × (from + (count - i) * n ≤ length words)
     × Leads out₀ at (rowsText count n words) out p (rowsText (count - i) n (drop from words))
 
 abbrev μ-loop : tie.MeasureT-loop
-μ-loop out₀ at words count n p₀ from₀ i₀ out p from i =
-    count - i
+μ-loop out₀ at words count n p₀ from₀ i₀ word out p from i = count - i
+
+abbrev Start : Type 0
+Start = tie.Start Inv-loop μ-loop
+
+abbrev Loop : Type 0
+Loop = tie.At-loop Inv-loop μ-loop
 
 loop-holds : tie.Need-loop-holds Inv-loop μ-loop
 loop-holds c =
-    let s = c .before .before in
-    let z : s .args .count - 0 ≡ s .args .count = omega arith in
-    (omega arith, rw z (omega (arith, s .pre .0)), rw z (leads-start (s .pre .1)))
+    let x : Start = search in
+    let z : x .args .count - 0 ≡ x .args .count = omega arith in
+    (omega arith, rw z (omega arith), rw z (leads-start (x .pre .1)))
 
-put-row-requires : tie.Need-put-row-requires Inv-loop μ-loop
-put-row-requires c κs =
-    let l = c .before .before .loop in
-    let a = c .before .before .before .before .before .args in
-    let room = room-left (a .count) (a .n) (l .i) (c .before .loop-test .taken) in (
-      omega (arith, room, l .inv .1),
-      leads-room (line rowWord (take (a .n) (drop (l .from) (a .words .now)))) (rowsText (a .count - (l .i + 1)) (a .n) (drop (l .from + a .n) (a .words .now)))
-          (leads-same (rows-next (a .count) (a .n) (l .i) (l .from) (a .words .now) (c .before .loop-test .taken)) (l .inv .2)),
-    )
+-- the words of the next row, and those of the rows after it, are there
+module _ (c : tie.In-loop Inv-loop μ-loop) where
+  abbrev start : Start
+  start = search
 
-add-from : tie.Need-add-from Inv-loop μ-loop
-add-from c =
-    let w = c .before .before .before .before in
-    let l = w .before .loop in
-    let a = w .before .before .before .before .args in
-    omega (arith, room-left (a .count) (a .n) (l .i) (w .loop-test .taken), l .inv .1)
+  abbrev at-loop : Loop
+  at-loop = search
 
-add-i : tie.Need-add-i Inv-loop μ-loop
-add-i c = search needs
+  inside : at-loop .loop .from + start .args .n + (start .args .count - (at-loop .loop .i + 1)) * start .args .n ≤ length (start .args .words .now)
+  inside = omega (arith, room-left (start .args .count) (start .args .n) (at-loop .loop .i) (c .loop-test .taken))
 
-loop-less : tie.Need-loop-less Inv-loop μ-loop
-loop-less c = search needs
+put-line-requires : tie.Need-put-line-requires Inv-loop μ-loop
+put-line-requires c κs =
+    let l : Loop = search in
+    let x : Start = search in
+    let e : l .loop .from + x .args .n - l .loop .from ≡ x .args .n = omega arith in
+    rw e (next-row-room (x .args .count) (x .args .n) (l .loop .i) (l .loop .from) (x .args .words .now) (l .loop .inv .2) (omega arith))
 
 loop-again : tie.Need-loop-again Inv-loop μ-loop
 loop-again c =
-    let w = c .before .before .before .before in
-    let l = w .before .loop in
-    let a = w .before .before .before .before .args in
-    let room = room-left (a .count) (a .n) (l .i) (w .loop-test .taken) in (
+    let r : tie.After-put-line Inv-loop μ-loop = search in
+    let l : Loop = search in
+    let x : Start = search in
+    let e : l .loop .from + x .args .n - l .loop .from ≡ x .args .n = omega arith in (
       omega arith,
-      omega (arith, room, l .inv .1),
-      leads-step (line rowWord (take (a .n) (drop (l .from) (a .words .now)))) (rowsText (a .count - (l .i + 1)) (a .n) (drop (l .from + a .n) (a .words .now)))
-          (leads-same (rows-next (a .count) (a .n) (l .i) (l .from) (a .words .now) (w .loop-test .taken)) (l .inv .2))
-          (c .before .before .put-row .ensures),
+      inside (search),
+      next-row-put (x .args .count) (x .args .n) (l .loop .i) (l .loop .from) (x .args .words .now) (l .loop .inv .2) (omega arith)
+          (rw e at (r .put-line .ensures)),
     )
 
 same-length : tie.Need-same-length Inv-loop μ-loop
-same-length c = c .before .loop .inv .2 .same
+same-length c = let l : Loop = search in l .loop .inv .2 .same
 
 returns : tie.Need-returns Inv-loop μ-loop
 returns c =
-    let l = c .before .loop in
-    let a = c .before .before .before .before .args in
-    let e : l .i ≡ a .count = omega arith in
-    let none : rowsText (a .count - l .i) (a .n) (drop (l .from) (a .words .now)) ≡ [] = rw e (no-rows (a .count) (a .n) (drop (l .from) (a .words .now))) in
-    leads-end (leads-same none (l .inv .2))
+    let l : Loop = search in
+    let x : Start = search in
+    all-rows-put (x .args .count) (x .args .n) (l .loop .i) (l .loop .from) (x .args .words .now) (l .loop .inv .2) (omega arith)
 
 pub put-rows-spec : {M : Type 1} → statement M
 put-rows-spec =
@@ -82,10 +77,16 @@ put-rows-spec =
     Inv-loop
     μ-loop
     loop-holds
-    put-row-requires
-    add-from
-    add-i
-    loop-less
+    (search needs)
+    (λ c. omega (arith, inside (search)))
+    (search needs)
+    (search needs)
+    (search needs)
+    (λ c. omega (arith, inside (search)))
+    put-line-requires
+    (λ c. omega (arith, inside (search)))
+    (search needs)
+    (search needs)
     loop-again
     same-length
     returns)

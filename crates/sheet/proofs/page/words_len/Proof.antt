@@ -1,81 +1,52 @@
 -- `words_len` meets its contract. The loop's invariant: the bytes counted and those of the fields left are all.
+use mathlib.Core.Path.{_≡_}
+use Prim.Native.Nat.{ℕ, _+_, _-_, _≤_}
 use native.Mathlib.Omega.{arith}
-use lib.Seq.{getD-take, length-take-le}
-use Rattle.text.proofs.Length.{decimal-few, fields-few}
-use Rattle.sheet.proofs.Puts.{no-fields}
-use Rattle.sheet.proofs.Pages.{measure-next}
-use mathlib.Core.Path.{_≡_, refl, sym, ap, _∙_}
-use mathlib.Core.List.{List, [], _∷_, _++_}
-use Prim.Native.Nat.{ℕ, suc, _+_, _-_, _*_, _<_, _≤_}
-use lib.ListN.{length, take, drop, getD}
-use Rattle.text.specs.Print.{decimal, fields}
+use lib.ListN.{length, drop, getD}
 use borrow.Author.Needs.{needs}
+use Rattle.text.specs.Print.{fields}
+use Rattle.text.proofs.Length.{decimal-few, fields-few}
+use Rattle.sheet.proofs.Pages.{measure-next, measure-all}
 use Rattle.sheet.proofs.page.words_len.Statement.{statement}
 use Rattle.sheet.proofs.page.words_len.Tie as tie
 
 abbrev Inv-loop : tie.InvT-loop
-Inv-loop words n total₀ i₀ total i =
-    (i ≤ n) × (length (fields (take n words)) ≡ total + length (fields (drop i (take n words))))
+Inv-loop words total₀ i₀ i-end total i =
+    (i-end ≡ length words) × (i ≤ length words) × (length (fields words) ≡ total + length (fields (drop i words)))
 
 abbrev μ-loop : tie.MeasureT-loop
-μ-loop words n total₀ i₀ total i =
-    n - i
+μ-loop words total₀ i₀ i-end total i = length words - i
 
-loop-holds : tie.Need-loop-holds Inv-loop μ-loop
-loop-holds c = (omega arith, omega arith)
+abbrev Start : Type 0
+Start = tie.Start Inv-loop μ-loop
 
-mul-digits-of : tie.Need-mul-digits-of Inv-loop μ-loop
-mul-digits-of c = search needs
-
-shared-slice-read-digits-of : tie.Need-shared-slice-read-digits-of Inv-loop μ-loop
-shared-slice-read-digits-of c = search needs
-
-cast-digits-of : tie.Need-cast-digits-of Inv-loop μ-loop
-cast-digits-of c = omega (arith, c .shared-slice-known2 .given (c .before .before .loop .i))
-
-digits-of-requires : tie.Need-digits-of-requires Inv-loop μ-loop
-digits-of-requires c κs = omega (arith, c .shared-slice-known2 .given (c .before .before .loop .i))
+abbrev Loop : Type 0
+Loop = tie.At-loop Inv-loop μ-loop
 
 add-total : tie.Need-add-total Inv-loop μ-loop
-add-total c = omega (arith, c .digits-of .ensures, decimal-few (getD (c .before .before .before .before .before .args .words .now) (c .before .before .before .loop .i) 0))
+add-total c =
+    let l : Loop = search in
+    let x : Start = search in
+    omega (arith, decimal-few (getD (x .args .words .now) (l .loop .i) 0))
 
 add-total-2 : tie.Need-add-total-2 Inv-loop μ-loop
 add-total-2 c =
-    let s = c .before .before .before .before .before in
-    let l = c .before .before .before .loop in
-    let ws = take (s .args .n) (s .args .words .now) in
-    omega (
-      arith,
-      c .digits-of .ensures,
-      decimal-few (getD (s .args .words .now) (l .i) 0),
-      l .inv .1,
-      fields-few ws,
-      s .pre .1,
-      length-take-le (s .args .n) (s .args .words .now) (s .pre .0),
-    )
-
-add-i : tie.Need-add-i Inv-loop μ-loop
-add-i c = search needs
-
-loop-less : tie.Need-loop-less Inv-loop μ-loop
-loop-less c = search needs
+    let l : Loop = search in
+    let x : Start = search in
+    omega (arith, decimal-few (getD (x .args .words .now) (l .loop .i) 0), fields-few (x .args .words .now))
 
 loop-again : tie.Need-loop-again Inv-loop μ-loop
 loop-again c =
-    let s = c .before .before .before .before .before in
-    let l = c .before .before .before .loop in
-    let ws = take (s .args .n) (s .args .words .now) in
-    let long = length-take-le (s .args .n) (s .args .words .now) (s .pre .0) in
-    let v : length (decimal (getD ws (l .i) 0)) ≡ length (decimal (getD (s .args .words .now) (l .i) 0)) =
-    ap (λ (x : ℕ). length (decimal x)) (getD-take (s .args .n) (s .args .words .now) (l .i) 0 (c .before .before .loop-test .taken)) in
-    (omega arith, omega (arith, v, c .digits-of .ensures, l .inv .1, measure-next ws (l .i) (omega (arith, long))))
+    let l : Loop = search in
+    let x : Start = search in
+    (omega arith, omega arith, omega (arith, measure-next (x .args .words .now) (l .loop .i) (omega arith)))
 
 returns : tie.Need-returns Inv-loop μ-loop
 returns c =
-    let l = c .before .loop in
-    let s = c .before .before .before in
-    let long = length-take-le (s .args .n) (s .args .words .now) (s .pre .0) in
-    omega (arith, l .inv .1, ap length (no-fields (take (s .args .n) (s .args .words .now)) (l .i) (omega (arith, long))))
+    let l : Loop = search in
+    let x : Start = search in
+    let none = measure-all (x .args .words .now) (l .loop .i) (omega arith) in
+    (omega arith, omega (arith, fields-few (x .args .words .now)))
 
 pub words-len-spec : {M : Type 1} → statement M
 words-len-spec =
@@ -83,14 +54,13 @@ words-len-spec =
     (tie.spec
     Inv-loop
     μ-loop
-    loop-holds
-    mul-digits-of
-    shared-slice-read-digits-of
-    cast-digits-of
-    digits-of-requires
+    (search needs)
+    (search needs)
+    (search needs)
+    (search needs)
     add-total
     add-total-2
-    add-i
-    loop-less
+    (search needs)
+    (search needs)
     loop-again
     returns)

@@ -1,10 +1,9 @@
 -- `digits_of` meets its contract. The loop's invariant: the digits counted and those of what is left are all, and one.
-use mathlib.Core.Path.{_≡_, refl, sym, ap, _∙_}
-use mathlib.Core.List.{List, [], _∷_, _++_}
-use Prim.Native.Nat.{ℕ, _+_, _-_, _<_, _≤_}
-use lib.ListN.{length, drop, getD}
+use mathlib.Core.Path.{_≡_}
+use Prim.Native.Nat.{ℕ, _+_, _≤_}
+use lib.ListN.{length}
 use borrow.Author.Needs.{needs}
-use Rattle.text.specs.Print.{limit, decimal}
+use Rattle.text.specs.Print.{decimal}
 use Rattle.text.proofs.Length.{decimal-few}
 use Rattle.sheet.proofs.Spelling.{length-last, length-one}
 use native.Mathlib.Omega.{arith}
@@ -19,23 +18,17 @@ abbrev μ-loop : tie.MeasureT-loop
 μ-loop v count₀ left₀ count left =
     left
 
-loop-holds : tie.Need-loop-holds Inv-loop μ-loop
-loop-holds c = (omega arith, omega arith)
+abbrev Loop : Type 0
+Loop = tie.At-loop Inv-loop μ-loop
 
 add-count : tie.Need-add-count Inv-loop μ-loop
-add-count c = omega (arith, c .before .loop .inv .1, decimal-few (c .before .before .args .v))
-
-loop-less : tie.Need-loop-less Inv-loop μ-loop
-loop-less c = search needs
+add-count c = let x : tie.Start Inv-loop μ-loop = search in omega (arith, decimal-few (x .args .v))
 
 loop-again : tie.Need-loop-again Inv-loop μ-loop
-loop-again c =
-    let l = c .before .loop in
-    (omega arith, omega (arith, l .inv .1, length-last (l .left) (c .loop-test .taken) (omega arith)))
+loop-again c = let l : Loop = search in (omega arith, omega (arith, length-last (l .loop .left) (search) (omega arith)))
 
 returns : tie.Need-returns Inv-loop μ-loop
-returns c = let l = c .before .loop in omega (arith, l .inv .1, length-one (l .left) (c .loop-test .left))
+returns c = let l : Loop = search in omega (arith, length-one (l .loop .left) (search))
 
 pub digits-of-spec : {M : Type 1} → statement M
-digits-of-spec =
-    tie.close (tie.spec Inv-loop μ-loop loop-holds add-count loop-less loop-again returns)
+digits-of-spec = tie.close (tie.spec Inv-loop μ-loop (search needs) add-count (search needs) loop-again returns)

@@ -1,11 +1,10 @@
 -- `put_number` meets its contract. The loop's invariant: the digits of what is left, put before those that stand, are the number.
 use native.Mathlib.Omega.{arith}
 use mathlib.Core.Path.{_≡_, refl, sym, ap, _∙_}
-use mathlib.Core.List.{List, [], _∷_, _++_}
-use Prim.Native.Nat.{ℕ, suc, _+_, _-_, _/_, _%_, _<_, _≤_}
+use Prim.Native.Nat.{ℕ, suc, _+_, _-_, _/_, _%_, _≤_}
 use lib.ListN.{length, set, length-set}
 use lib.Seq.{sets}
-use Rattle.text.specs.Print.{limit, decimal}
+use Rattle.text.specs.Print.{decimal}
 use Rattle.sheet.proofs.Spelling.{spell, no-digits, spell-decimal, spell-back}
 use borrow.Author.Needs.{needs}
 use Rattle.sheet.proofs.put.put_number.Statement.{statement}
@@ -20,64 +19,42 @@ abbrev μ-loop : tie.MeasureT-loop
 μ-loop out₀ at v next left₀ p₀ out left p =
     p - at
 
-digits-of-requires : tie.Need-digits-of-requires Inv-loop μ-loop
-digits-of-requires c κs = search needs
+abbrev Start : Type 0
+Start = tie.Start Inv-loop μ-loop
+
+abbrev Loop : Type 0
+Loop = tie.At-loop Inv-loop μ-loop
 
 add-next : tie.Need-add-next Inv-loop μ-loop
-add-next c = let s = c .before .before in omega (arith, c .digits-of .ensures, s .pre .1 .fits)
+add-next c = let x : Start = search in omega (arith, x .pre)
 
 loop-holds : tie.Need-loop-holds Inv-loop μ-loop
 loop-holds c =
-    let s = c .before .before in
-    let e : s .args .at + c .digits-of .result - s .args .at ≡ length (decimal (s .args .v)) = omega (arith, c .digits-of .ensures) in (
-      omega arith,
-      omega arith,
-      ap (λ (n : ℕ). s .args .at + n) (c .digits-of .ensures),
-      omega (arith, c .digits-of .ensures, s .pre .1 .fits),
-      refl,
-      rw (e, spell-decimal (s .args .v) (s .pre .0)),
-    )
-
-sub-p : tie.Need-sub-p Inv-loop μ-loop
-sub-p c = search needs
-
-add-out : tie.Need-add-out Inv-loop μ-loop
-add-out c = search needs
-
-cast-out : tie.Need-cast-out Inv-loop μ-loop
-cast-out c = omega arith
-
-slice-write-out : tie.Need-slice-write-out Inv-loop μ-loop
-slice-write-out c = omega arith
-
-loop-less : tie.Need-loop-less Inv-loop μ-loop
-loop-less c = search needs
+    let x : Start = search in
+    let e : x .args .at + c .digits-of .result - x .args .at ≡ length (decimal (x .args .v)) = omega arith in
+    (omega arith, omega arith, omega arith, omega (arith, x .pre), refl, rw (e, spell-decimal (x .args .v) (omega arith)))
 
 loop-again : tie.Need-loop-again Inv-loop μ-loop
 loop-again c =
-    let l = c .before .loop in
-    let at = c .before .before .before .before .args .at in
+    let at-loop : Loop = search in
+    let x : Start = search in
+    let l = at-loop .loop in
+    let at = x .args .at in
     let k : l .p - at ≡ suc (l .p - 1 - at) = omega arith in
     let q : at + (l .p - 1 - at) ≡ l .p - 1 = omega arith in
     let back : sets (l .out) at (spell (l .p - at) (l .left)) ≡ sets (set (l .out) (l .p - 1) (48 + l .left % 10)) at (spell (l .p - 1 - at) (l .left / 10)) =
-    rw k (rw q at (spell-back (l .out) at (l .p - 1 - at) (l .left))) in (
-      omega arith,
-      omega arith,
-      l .inv .2,
-      l .inv .3,
-      length-set (l .out) (l .p - 1) (48 + l .left % 10) ∙ l .inv .4,
-      sym back ∙ l .inv .5,
-    )
+    rw k (rw q at (spell-back (l .out) at (l .p - 1 - at) (l .left))) in
+    (omega arith, omega arith, l .inv .2, l .inv .3, length-set (l .out) (l .p - 1) (48 + l .left % 10) ∙ l .inv .4, sym back ∙ l .inv .5)
 
 same-length : tie.Need-same-length Inv-loop μ-loop
-same-length c = c .before .loop .inv .4
+same-length c = let l : Loop = search in l .loop .inv .4
 
 returns : tie.Need-returns Inv-loop μ-loop
 returns c =
-    let l = c .before .loop in
-    let a = c .before .before .before .before .args in
-    let z : l .p - a .at ≡ 0 = omega arith in
-    record { place = l .inv .2; bytes = rw (z, no-digits (l .left)) at (l .inv .5) }
+    let l : Loop = search in
+    let x : Start = search in
+    let z : l .loop .p - x .args .at ≡ 0 = omega arith in
+    record { place = l .loop .inv .2; bytes = rw (z, no-digits (l .loop .left)) at (l .loop .inv .5) }
 
 pub put-number-spec : {M : Type 1} → statement M
 put-number-spec =
@@ -85,14 +62,14 @@ put-number-spec =
     (tie.spec
     Inv-loop
     μ-loop
-    digits-of-requires
+    (search needs)
     add-next
     loop-holds
-    sub-p
-    add-out
-    cast-out
-    slice-write-out
-    loop-less
+    (search needs)
+    (search needs)
+    (λ c. omega arith)
+    (λ c. omega arith)
+    (search needs)
     loop-again
     same-length
     returns)

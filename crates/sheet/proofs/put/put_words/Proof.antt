@@ -1,80 +1,40 @@
 -- `put_words` meets its contract. The loop's invariant: the fields of the words left lead to those of all.
-use Rattle.sheet.proofs.Puts.{no-fields, length-part, words-next}
+use mathlib.Core.Path.{_≡_}
+use Prim.Native.Nat.{ℕ, _-_, _≤_}
 use native.Mathlib.Omega.{arith}
-use mathlib.Core.Path.{_≡_, refl, sym, ap, _∙_}
-use mathlib.Core.List.{List, [], _∷_, _++_}
-use Prim.Native.Nat.{ℕ, suc, _+_, _-_, _<_, _≤_}
-use lib.ListN.{length, take, drop, getD}
-use Rattle.text.specs.Print.{field, fields}
-use Rattle.sheet.proofs.Puts.{Leads, leads-start, leads-room, leads-step, leads-end, leads-same, fields-next}
+use lib.ListN.{length, drop}
 use borrow.Author.Needs.{needs}
+use Rattle.text.specs.Print.{fields}
+use Rattle.sheet.proofs.Puts.{Leads, leads-start, next-room, next-put, all-put}
 use Rattle.sheet.proofs.put.put_words.Statement.{statement}
 use Rattle.sheet.proofs.put.put_words.Tie as tie
 
 abbrev Inv-loop : tie.InvT-loop
-Inv-loop out₀ at words from n p₀ i₀ out p i =
-    (i ≤ n) × Leads out₀ at (fields (take n (drop from words))) out p (fields (drop i (take n (drop from words))))
+Inv-loop out₀ at words p₀ i₀ i-end out p i = (i-end ≡ length words) × (i ≤ length words) × Leads out₀ at (fields words) out p (fields (drop i words))
 
 abbrev μ-loop : tie.MeasureT-loop
-μ-loop out₀ at words from n p₀ i₀ out p i =
-    n - i
+μ-loop out₀ at words p₀ i₀ i-end out p i = length words - i
+
+abbrev Loop : Type 0
+Loop = tie.At-loop Inv-loop μ-loop
 
 loop-holds : tie.Need-loop-holds Inv-loop μ-loop
-loop-holds c = (omega arith, leads-start (c .before .before .pre .1))
-
-add-put-field : tie.Need-add-put-field Inv-loop μ-loop
-add-put-field c = search needs
-
-mul-put-field : tie.Need-mul-put-field Inv-loop μ-loop
-mul-put-field c = search needs
-
-shared-slice-read-put-field : tie.Need-shared-slice-read-put-field Inv-loop μ-loop
-shared-slice-read-put-field c = search needs
-
-cast-put-field : tie.Need-cast-put-field Inv-loop μ-loop
-cast-put-field c =
-    let a = c .before .before .before .before .before .before .args in
-    omega (arith, c .shared-slice-known2 .given (a .from + c .before .before .before .loop .i))
+loop-holds c = let x : tie.Start Inv-loop μ-loop = search in (omega arith, omega arith, leads-start (x .pre))
 
 put-field-requires : tie.Need-put-field-requires Inv-loop μ-loop
-put-field-requires c κs =
-    let l = c .before .before .before .loop in
-    let s = c .before .before .before .before .before .before in
-    let a = s .args in
-    let ws = take (a .n) (drop (a .from) (a .words .now)) in (
-      omega (arith, c .shared-slice-known2 .given (a .from + l .i)),
-      leads-room (field (getD (a .words .now) (a .from + l .i) 0)) (fields (drop (l .i + 1) ws))
-          (leads-same (words-next (a .words .now) (a .from) (a .n) (s .pre .0) (l .i) (omega arith)) (l .inv .1)),
-    )
-
-add-i : tie.Need-add-i Inv-loop μ-loop
-add-i c = search needs
-
-loop-less : tie.Need-loop-less Inv-loop μ-loop
-loop-less c = search needs
+put-field-requires c κs = let l : Loop = search in next-room _ (l .loop .i) (l .loop .inv .2) (omega arith)
 
 loop-again : tie.Need-loop-again Inv-loop μ-loop
 loop-again c =
-    let l = c .before .before .before .before .before .before .loop in
-    let s = c .before .before .before .before .before .before .before .before .before in
-    let a = s .args in
-    let ws = take (a .n) (drop (a .from) (a .words .now)) in (
-      omega arith,
-      leads-step (field (getD (a .words .now) (a .from + l .i) 0)) (fields (drop (l .i + 1) ws))
-          (leads-same (words-next (a .words .now) (a .from) (a .n) (s .pre .0) (l .i) (omega arith)) (l .inv .1))
-          (c .before .before .put-field .ensures),
-    )
+    let f : tie.After-put-field Inv-loop μ-loop = search in
+    let l : Loop = search in
+    (omega arith, omega arith, next-put _ (l .loop .i) (l .loop .inv .2) (omega arith) (f .put-field .ensures))
 
 same-length : tie.Need-same-length Inv-loop μ-loop
-same-length c = c .before .loop .inv .1 .same
+same-length c = let l : Loop = search in l .loop .inv .2 .same
 
 returns : tie.Need-returns Inv-loop μ-loop
-returns c =
-    let l = c .before .loop in
-    let s = c .before .before .before .before in
-    let a = s .args in
-    let long = length-part (a .words .now) (a .from) (a .n) (s .pre .0) in
-    leads-end (leads-same (no-fields (take (a .n) (drop (a .from) (a .words .now))) (l .i) (omega (arith, long))) (l .inv .1))
+returns c = let l : Loop = search in all-put _ (l .loop .i) (l .loop .inv .2) (omega arith)
 
 pub put-words-spec : {M : Type 1} → statement M
 put-words-spec =
@@ -83,13 +43,11 @@ put-words-spec =
     Inv-loop
     μ-loop
     loop-holds
-    add-put-field
-    mul-put-field
-    shared-slice-read-put-field
-    cast-put-field
+    (search needs)
+    (search needs)
     put-field-requires
-    add-i
-    loop-less
+    (search needs)
+    (search needs)
     loop-again
     same-length
     returns)

@@ -1,99 +1,42 @@
 -- `rows_at` meets its contract. The loop's invariant: the words of the rows passed stand before what the rows left read as.
-use Rattle.sheet.specs.Place.{numbersOf}
+use mathlib.Core.Path.{_≡_}
+use Prim.Native.Nat.{ℕ, _-_, _≤_}
 use native.Mathlib.Omega.{arith}
-use mathlib.Core.Path.{_≡_, refl, sym, ap, _∙_}
-use mathlib.Core.List.{List, [], _∷_, _++_}
-use Prim.Native.Nat.{ℕ, _+_, _-_, _<_, _≤_}
-use lib.ListN.{length, drop}
-use borrow.Author.Tests.{not-true, not-false}
-use Rattle.text.specs.Read.{Found, readLine}
-use Rattle.text.specs.Sheet.{rowWord}
-use Rattle.text.specs.Meaning.{Step, behind, rowLines}
-use Rattle.sheet.proofs.RowsFrom.{rows-right, rows-wrong, behind-behind, behind-none, rowsLeft, row-step, row-bad, rows-end, rows-left-over}
+use lib.ListN.{length}
 use borrow.Author.Needs.{needs}
+use Rattle.sheet.proofs.RowsFrom.{Passed, none-passed, one-passed, wrong-row, left-over, all-passed}
 use Rattle.sheet.proofs.rows.rows_at.Statement.{statement}
 use Rattle.sheet.proofs.rows.rows_at.Tie as tie
 
 abbrev Inv-loop : tie.InvT-loop
-Inv-loop bytes at count n p₀ i₀ t8 p i =
-    (i ≤ count) × (p ≤ length bytes)
-    × ((ws : List ℕ) × (rowLines 3 count n (drop at bytes) ≡ behind ws (rowsLeft count n i (drop p bytes))))
+Inv-loop bytes at count n p₀ i₀ t8 p i = (i ≤ count) × (p ≤ length bytes) × Passed bytes at count n p i
 
 abbrev μ-loop : tie.MeasureT-loop
-μ-loop bytes at count n p₀ i₀ t8 p i =
-    count - i
+μ-loop bytes at count n p₀ i₀ t8 p i = count - i
+
+abbrev Loop : Type 0
+Loop = tie.At-loop Inv-loop μ-loop
 
 loop-holds : tie.Need-loop-holds Inv-loop μ-loop
-loop-holds c =
-    let a = c .before .args in
-    let bs = drop (a .at) (a .bytes .now) in
-    let e : rowsLeft (a .count) (a .n) 0 bs ≡ rowLines 3 (a .count) (a .n) bs =
-    let z : a .count - 0 ≡ a .count = omega arith in rw z in
-    (omega arith, c .before .pre .0, ([], sym e ∙ behind-none (rowsLeft (a .count) (a .n) 0 bs)))
-
-slice-aggregate-line-at : tie.Need-slice-aggregate-line-at Inv-loop μ-loop
-slice-aggregate-line-at c = search needs
-
-line-at-requires : tie.Need-line-at-requires Inv-loop μ-loop
-line-at-requires c κs = c .before .before .loop .inv .1
-
-add-t12 : tie.Need-add-t12 Inv-loop μ-loop
-add-t12 c = search needs
+loop-holds c = let x : tie.Start Inv-loop μ-loop = search in (omega arith, x .pre .0, none-passed _ _ _ _)
 
 returns : tie.Need-returns Inv-loop μ-loop
 returns c =
-    let f = c .before .before in
-    let l = f .before .before .before .loop in
-    let a = f .before .before .before .before .before .args in
-    let bad : readLine rowWord (a .n) (drop (l .p) (a .bytes .now)) ≡ Found.none = f .line-at .ensures .wrong (not-true (f .line-at .result .ok) (c .if1 .taken)) in
-    rows-wrong (l .inv .2 .1 ∙ rw (row-bad (a .count) (a .n) (l .i) (drop (l .p) (a .bytes .now)) (omega arith) bad))
-
-add-i : tie.Need-add-i Inv-loop μ-loop
-add-i c = search needs
-
-loop-less : tie.Need-loop-less Inv-loop μ-loop
-loop-less c = search needs
+    let r : tie.After-line-at Inv-loop μ-loop = search in
+    let l : Loop = search in
+    wrong-row _ _ _ _ (l .loop .p) (l .loop .i) (l .loop .inv .2) (r .line-at .ensures) (search) (omega arith)
 
 loop-again : tie.Need-loop-again Inv-loop μ-loop
 loop-again c =
-    let f = c .before .before in
-    let l = f .before .before .before .loop in
-    let a = f .before .before .before .before .before .args in
-    let bs = drop (l .p) (a .bytes .now) in
-    let mid = drop (f .line-at .result .next) (a .bytes .now) in
-    let us = numbersOf (readLine rowWord (a .n) bs) in
-    let good : readLine rowWord (a .n) bs ≡ Found.found us mid = f .line-at .ensures .right (not-false (f .line-at .result .ok) (c .if1 .left)) in
-    let ws = l .inv .2 .0 in (
-      omega arith,
-      f .line-at .ensures .inside,
-      (
-        ws ++ us,
-        l .inv .2 .1
-            ∙ ap (behind ws) (row-step (a .count) (a .n) (l .i) bs (omega arith) good)
-            ∙ behind-behind ws us (rowsLeft (a .count) (a .n) (l .i + 1) mid),
-      ),
-    )
-
-add-t15 : tie.Need-add-t15 Inv-loop μ-loop
-add-t15 c = search needs
+    let r : tie.After-line-at Inv-loop μ-loop = search in
+    let l : Loop = search in
+    (omega arith, r .line-at .ensures .inside, one-passed _ _ _ _ (l .loop .p) (l .loop .i) (l .loop .inv .2) (r .line-at .ensures) (search) (omega arith))
 
 returns-2 : tie.Need-returns-2 Inv-loop μ-loop
-returns-2 c =
-    let l = c .before .before .loop in
-    let a = c .before .before .before .before .args in
-    let e : l .i ≡ a .count = omega arith in
-    let over : rowsLeft (a .count) (a .n) (l .i) (drop (l .p) (a .bytes .now)) ≡ Step.refuse 10 (a .count + 3) =
-    rw e (rows-left-over (a .count) (a .n) (a .bytes .now) (l .p) (c .if2 .taken)) in
-    rows-wrong (l .inv .2 .1 ∙ ap (behind (l .inv .2 .0)) over)
+returns-2 c = let l : Loop = search in left-over _ _ _ _ (l .loop .p) (l .loop .i) (l .loop .inv .2) (omega arith) (search)
 
 returns-3 : tie.Need-returns-3 Inv-loop μ-loop
-returns-3 c =
-    let l = c .before .before .loop in
-    let a = c .before .before .before .before .args in
-    let e : l .i ≡ a .count = omega arith in
-    let over : rowsLeft (a .count) (a .n) (l .i) (drop (l .p) (a .bytes .now)) ≡ Step.go [] [] =
-    rw e (rows-end (a .count) (a .n) (a .bytes .now) (l .p) (c .if2 .left)) in
-    rows-right 0 (l .inv .2 .1 ∙ ap (behind (l .inv .2 .0)) over)
+returns-3 c = let l : Loop = search in all-passed _ _ _ _ (l .loop .p) (l .loop .i) (l .loop .inv .2) (omega arith) (search)
 
 pub rows-at-spec : {M : Type 1} → statement M
 rows-at-spec =
@@ -102,13 +45,13 @@ rows-at-spec =
     Inv-loop
     μ-loop
     loop-holds
-    slice-aggregate-line-at
-    line-at-requires
-    add-t12
+    (search needs)
+    (search needs)
+    (search needs)
     returns
-    add-i
-    loop-less
+    (search needs)
+    (search needs)
     loop-again
-    add-t15
+    (search needs)
     returns-2
     returns-3)

@@ -6,7 +6,7 @@ use mathlib.Core.List.{List, [], _∷_, _++_}
 use Prim.Native.Nat.{ℕ, _+_, _-_, _*_, _<_, _≤_}
 use lib.ListN.{length, drop}
 use lib.Seq.{sets, length-sets}
-use Rattle.text.specs.Meaning.{Step, rowLines}
+use Rattle.text.specs.Meaning.{Verdict, rowLines}
 use Rattle.sheet.specs.Place.{RowsThere, wordsOf, numbersOf}
 use Rattle.sheet.proofs.Stores.{sets-append}
 use Rattle.sheet.proofs.RowsFrom.{rowsLeft, rowFields, RowAt, row-at, room-left}
@@ -24,55 +24,60 @@ abbrev μ-loop : tie.MeasureT-loop
 μ-loop bytes at count n words₀ p₀ from₀ i₀ words p from i =
     count - i
 
--- the row at the place reached
-row : (c : tie.In-loop Inv-loop μ-loop)
-    → RowAt (c .before .before .before .before .args .bytes .now) (c .before .before .before .before .args .count) (c .before .before .before .before .args .n)
-    (c .before .loop .i) (c .before .loop .p)
-row c =
-    let l = c .before .loop in
-    let a = c .before .before .before .before .args in
-    row-at (a .bytes .now) (a .count) (a .n) (l .i) (l .p) (c .loop-test .taken) (l .inv .1) (l .inv .4)
+abbrev Start : Type 0
+Start = tie.Start Inv-loop μ-loop
+
+abbrev Loop : Type 0
+Loop = tie.At-loop Inv-loop μ-loop
+
+-- the row at the place reached, and the room that it needs
+module _ (c : tie.In-loop Inv-loop μ-loop) where
+  abbrev start : Start
+  start = search
+
+  abbrev at-loop : Loop
+  at-loop = search
+
+  row : RowAt (start .args .bytes .now) (start .args .count) (start .args .n) (at-loop .loop .i) (at-loop .loop .p)
+  row =
+      row-at (start .args .bytes .now) (start .args .count) (start .args .n) (at-loop .loop .i) (at-loop .loop .p) (c .loop-test .taken)
+      (at-loop .loop .inv .1) (at-loop .loop .inv .4)
+
+  room : at-loop .loop .from + start .args .n + (start .args .count - (at-loop .loop .i + 1)) * start .args .n ≤ length (start .args .words .now)
+  room = omega (arith, room-left (start .args .count) (start .args .n) (at-loop .loop .i) (c .loop-test .taken))
 
 loop-holds : tie.Need-loop-holds Inv-loop μ-loop
 loop-holds c =
-    let s = c .before .before in
-    let z : s .args .count - 0 ≡ s .args .count = omega arith in
-    (omega arith, s .pre .0, refl, rw z (omega (arith, s .pre .1)), rw z (s .pre .2), rw z)
+    let start : Start = search in
+    let z : start .args .count - 0 ≡ start .args .count = omega arith in
+    (omega arith, start .pre .0, refl, rw z (omega (arith, start .pre .1)), rw z (start .pre .2), rw z)
 
 add-words-into : tie.Need-add-words-into Inv-loop μ-loop
 add-words-into c = omega (arith, row c .inside)
 
 words-into-requires : tie.Need-words-into-requires Inv-loop μ-loop
 words-into-requires c κs =
-    let w = c .before in
-    let a = w .before .before .before .before .args in
-    let room = room-left (a .count) (a .n) (w .before .loop .i) (w .loop-test .taken) in
-    (row w .inside, omega (arith, room, w .before .loop .inv .2, w .before .loop .inv .3), row w .there)
+    let t : tie.In-loop Inv-loop μ-loop = search in
+    (row t .inside, omega (arith, room t), row t .there)
 
 add-p : tie.Need-add-p Inv-loop μ-loop
-add-p c = omega (arith, row (c .before .before .before .before) .onwards (c .before .before .words-into .result) (c .before .before .words-into .ensures .read) .0)
+add-p c =
+    let q : tie.After-words-into Inv-loop μ-loop = search in
+    omega (arith, row (search) .onwards (q .words-into .result) (q .words-into .ensures .read) .0)
 
 add-from : tie.Need-add-from Inv-loop μ-loop
-add-from c =
-    let w = c .before .before .before .before in
-    let a = w .before .before .before .before .args in
-    let room = room-left (a .count) (a .n) (w .before .loop .i) (w .loop-test .taken) in
-    omega (arith, room, w .before .loop .inv .3)
-
-add-i : tie.Need-add-i Inv-loop μ-loop
-add-i c = search needs
-
-loop-less : tie.Need-loop-less Inv-loop μ-loop
-loop-less c = search needs
+add-from c = omega (arith, room (search))
 
 loop-again : tie.Need-loop-again Inv-loop μ-loop
 loop-again c =
-    let q = c .before .before .words-into in
-    let w = c .before .before .before .before in
-    let l = w .before .loop in
-    let a = w .before .before .before .before .args in
-    let r = row w in
-    let room = room-left (a .count) (a .n) (l .i) (w .loop-test .taken) in
+    let after-words-into : tie.After-words-into Inv-loop μ-loop = search in
+    let in-loop : tie.In-loop Inv-loop μ-loop = search in
+    let at-loop : Loop = search in
+    let start : Start = search in
+    let q = after-words-into .words-into in
+    let l = at-loop .loop in
+    let a = start .args in
+    let r = row in-loop in
     let on = r .onwards (q .result) (q .ensures .read) in
     let us = numbersOf (rowFields (a .bytes .now) (a .n) (l .p)) in
     let left = wordsOf (rowsLeft (a .count) (a .n) (l .i + 1) (drop (q .result + 1) (a .bytes .now))) in
@@ -80,7 +85,7 @@ loop-again c =
       omega arith,
       on .0,
       ap length (q .ensures .stored) ∙ length-sets (l .words) (l .from) us ∙ l .inv .2,
-      omega (arith, room, l .inv .3),
+      room in-loop,
       on .1,
       ap (λ (x : List ℕ). sets x (l .from + a .n) left) (q .ensures .stored)
           ∙ ap (λ (k : ℕ). sets (sets (l .words) (l .from) us) (l .from + k) left) (sym long)
@@ -89,13 +94,12 @@ loop-again c =
           ∙ l .inv .5,
     )
 
-same-length : tie.Need-same-length Inv-loop μ-loop
-same-length c = search needs
-
 returns : tie.Need-returns Inv-loop μ-loop
 returns c =
-    let l = c .before .loop in
-    let a = c .before .before .before .before .args in
+    let at-loop : Loop = search in
+    let start : Start = search in
+    let l = at-loop .loop in
+    let a = start .args in
     let e : l .i ≡ a .count = omega arith in
     let none : wordsOf (rowsLeft (a .count) (a .n) (l .i) (drop (l .p) (a .bytes .now))) ≡ [] =
     rw e (no-words (a .count) (a .n) (drop (l .p) (a .bytes .now))) in
@@ -112,8 +116,8 @@ store-rows-spec =
     words-into-requires
     add-p
     add-from
-    add-i
-    loop-less
+    (search needs)
+    (search needs)
     loop-again
-    same-length
+    (search needs)
     returns)

@@ -1,6 +1,6 @@
 -- `rows` meets its contract: a walk of its MIR, by hand. The struct is taken apart, and the slice, the number and the words are
 -- passed to `put_rows`, at the borrow's own lifetime, share and ghost name: the borrow is given up for good, and what `put_rows`
--- says of the last list is what `rows` says of `w.out` at exit (`Held.antt`). The words' borrow is had twice; one is for the exit.
+-- says of the last list is what `rows` says of `w.out` at exit (`AtExit.antt`). The words' borrow is had twice; one is for the exit.
 use mathlib.Core.Path.{_≡_, refl}
 use Prim.Native.Nat.{ℕ, _<_, _≤_, _*_, _^_}
 use mathlib.Core.List.{[], _∷_, List}
@@ -44,7 +44,7 @@ use Rattle.sheet.specs.Put.{Put, Room as Fits}
 use Rattle.sheet.specs.declared.writer.Writer.{Writer}
 use Rattle.sheet.proofs.writer.Writer as T
 use Rattle.sheet.proofs.writer.Writer.Laws as T′
-use Rattle.sheet.proofs.Held.{writer-gave, writer-gave-goes}
+use Rattle.sheet.proofs.AtExit.{writer-gave, writer-gave-goes}
 use Rattle.sheet.proofs.page.put_rows as put-rows
 use Rattle.sheet.proofs.page.put_rows.Symbol as put-rows-def
 use Rattle.sheet.proofs.page.put_rows.Symbol.{name as #sheet·page·put-rows}

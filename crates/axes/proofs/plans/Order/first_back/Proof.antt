@@ -1,59 +1,23 @@
 -- `axes::plans::Order::first_back` meets its contract. The loop's invariant: no axis passed has its follower before it.
-use mathlib.Core.Path.{_≡_, refl, sym, ap, _∙_}
-use Prim.Native.Nat.{ℕ, _≤_, _-_}
+use mathlib.Core.Path.{refl}
+use Prim.Native.Nat.{_-_}
 use native.Mathlib.Omega.{arith}
-use Rattle.orders.specs.Plans.{firstBack}
-use Rattle.axes.proofs.Front.{back-here, back-past}
 use borrow.Author.Needs.{needs}
+use Rattle.axes.proofs.PlanSteps.{BackSought, back-seen, back-next, back-nowhere}
 use Rattle.axes.proofs.plans.Order.first_back.Statement.{statement}
 use Rattle.axes.proofs.plans.Order.first_back.Tie as tie
 
 abbrev Inv-loop : tie.InvT-loop
-Inv-loop self k₀ k = (k ≤ 4) × (firstBack 4 0 (self .axes) ≡ firstBack (4 - k) k (self .axes))
+Inv-loop self k₀ k = BackSought 4 (self .axes) k
 
 abbrev μ-loop : tie.MeasureT-loop
 μ-loop self k₀ k = 4 - k
 
-loop-holds : tie.Need-loop-holds Inv-loop μ-loop
-loop-holds c = (omega arith, refl)
-
-add-place-of : tie.Need-add-place-of Inv-loop μ-loop
-add-place-of c = search needs
-
-place-of-requires : tie.Need-place-of-requires Inv-loop μ-loop
-place-of-requires c κs = search needs
-
-place-of-requires-2 : tie.Need-place-of-requires-2 Inv-loop μ-loop
-place-of-requires-2 c κs = search needs
-
 returns : tie.Need-returns Inv-loop μ-loop
-returns c =
-    let o = c .before .before .before .before .before .args .self .axes in
-    let k = c .before .before .before .before .loop .k in
-    sym
-    (c .before .before .before .before .loop .inv .1
-    ∙ back-here o 4 k (omega arith) (omega (arith, c .before .place-of2 .ensures, c .before .before .place-of .ensures)))
-
-add-k : tie.Need-add-k Inv-loop μ-loop
-add-k c = search needs
-
-loop-less : tie.Need-loop-less Inv-loop μ-loop
-loop-less c = search needs
+returns c = let l : tie.At-loop Inv-loop μ-loop = search in back-seen (l .loop .inv) (omega arith) (omega arith)
 
 loop-again : tie.Need-loop-again Inv-loop μ-loop
-loop-again c =
-    let o = c .before .before .before .before .before .args .self .axes in
-    let k = c .before .before .before .before .loop .k in (
-      omega arith,
-      c .before .before .before .before .loop .inv .1
-          ∙ back-past o 4 k (omega arith) (omega (arith, c .before .place-of2 .ensures, c .before .before .place-of .ensures)),
-    )
-
-returns-2 : tie.Need-returns-2 Inv-loop μ-loop
-returns-2 c =
-    let all : c .before .loop .k ≡ 4 = omega arith in
-    let o = c .before .before .args .self .axes in
-    sym (c .before .loop .inv .1 ∙ ap (λ (k : ℕ). firstBack (4 - k) k o) all ∙ unfold firstBack in refl)
+loop-again c = let l : tie.At-loop Inv-loop μ-loop = search in back-next (l .loop .inv) (omega arith) (omega arith)
 
 pub first-back-spec : {M : Type 1} → statement M
 first-back-spec =
@@ -61,12 +25,12 @@ first-back-spec =
     (tie.spec
     Inv-loop
     μ-loop
-    loop-holds
-    add-place-of
-    place-of-requires
-    place-of-requires-2
+    (λ c. record { few = omega arith; first = refl })
+    (search needs)
+    (search needs)
+    (search needs)
     returns
-    add-k
-    loop-less
+    (search needs)
+    (search needs)
     loop-again
-    returns-2)
+    (λ c. let l : tie.At-loop Inv-loop μ-loop = search in back-nowhere (l .loop .inv) (omega arith)))

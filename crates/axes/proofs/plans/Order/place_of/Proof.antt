@@ -1,59 +1,27 @@
 -- `axes::plans::Order::place_of` meets its contract. The loop's invariant: the axis stands at no place passed.
-use mathlib.Core.Path.{_≡_, refl, ap, _∙_}
-use Prim.Native.Nat.{_+_, _≤_, _-_}
+use mathlib.Core.Path.{_≡_}
+use Prim.Native.Nat.{_-_}
 use native.Mathlib.Omega.{arith}
-use lib.ListN.{drop, length}
-use Rattle.layout.specs.Layout.{placeOf}
-use Rattle.axes.proofs.Front.{held, place-here, place-past, drop-end}
+use lib.ListN.{length}
 use borrow.Author.Needs.{needs}
+use Rattle.axes.proofs.PlanSteps.{PlaceSought, seek-place, place-seen, place-next, place-nowhere}
 use Rattle.axes.proofs.plans.Order.place_of.Statement.{statement}
 use Rattle.axes.proofs.plans.Order.place_of.Tie as tie
 
 abbrev Inv-loop : tie.InvT-loop
-Inv-loop axis self k₀ k = (k ≤ 4) × (placeOf axis (self .axes) ≡ k + placeOf axis (drop k (self .axes)))
+Inv-loop axis self k₀ k = PlaceSought 4 axis (self .axes) k
 
 abbrev μ-loop : tie.MeasureT-loop
 μ-loop axis self k₀ k = 4 - k
 
-loop-holds : tie.Need-loop-holds Inv-loop μ-loop
-loop-holds c = (omega arith, omega arith)
-
-mul-if1 : tie.Need-mul-if1 Inv-loop μ-loop
-mul-if1 c = search needs
-
-element-copy-out-if1 : tie.Need-element-copy-out-if1 Inv-loop μ-loop
-element-copy-out-if1 c = search needs
+axes : (x : tie.Start Inv-loop μ-loop) → length (x .args .t1 .axes) ≡ 4
+axes x = search needs
 
 returns : tie.Need-returns Inv-loop μ-loop
-returns c =
-    let x = c .before .before .before .before in
-    let l = x .args .t1 .axes in
-    let k = c .before .before .before .loop .k in
-    let axes : length l ≡ 4 = held l (x .good .0 .1 .1 .0 .1 .0 .1) in
-    omega (arith, place-here l k (omega arith) (x .args .axis) (c .if1 .taken))
-
-add-k : tie.Need-add-k Inv-loop μ-loop
-add-k c = search needs
-
-loop-less : tie.Need-loop-less Inv-loop μ-loop
-loop-less c = search needs
+returns c = let l : tie.At-loop Inv-loop μ-loop = search in place-seen (l .loop .inv) (omega arith) (c .if1 .taken)
 
 loop-again : tie.Need-loop-again Inv-loop μ-loop
-loop-again c =
-    let x = c .before .before .before .before in
-    let l = x .args .t1 .axes in
-    let k = c .before .before .before .loop .k in
-    let axes : length l ≡ 4 = held l (x .good .0 .1 .1 .0 .1 .0 .1) in
-    (omega arith, omega (arith, place-past l k (omega arith) (x .args .axis) (c .if1 .left)))
-
-returns-2 : tie.Need-returns-2 Inv-loop μ-loop
-returns-2 c =
-    let x = c .before .before in
-    let l = x .args .t1 .axes in
-    let axes : length l ≡ 4 = held l (x .good .0 .1 .1 .0 .1 .0 .1) in
-    let none : placeOf (x .args .axis) (drop (c .before .loop .k) l) ≡ 0 =
-    ap (placeOf (x .args .axis)) (drop-end l (c .before .loop .k) (omega arith)) ∙ unfold placeOf in refl in
-    omega arith
+loop-again c = let l : tie.At-loop Inv-loop μ-loop = search in place-next (l .loop .inv) (omega arith) (c .if1 .left)
 
 pub place-of-spec : {M : Type 1} → statement M
 place-of-spec =
@@ -61,11 +29,11 @@ place-of-spec =
     (tie.spec
     Inv-loop
     μ-loop
-    loop-holds
-    mul-if1
-    element-copy-out-if1
+    (λ c. seek-place _ (axes (search)))
+    (search needs)
+    (search needs)
     returns
-    add-k
-    loop-less
+    (search needs)
+    (search needs)
     loop-again
-    returns-2)
+    (λ c. let l : tie.At-loop Inv-loop μ-loop = search in place-nowhere (l .loop .inv) (omega arith)))

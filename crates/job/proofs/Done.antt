@@ -1,0 +1,143 @@
+-- The promise of the whole job. A refused sheet: its line always fits. A right sheet: neither the chain nor the writer can refuse it, since
+-- the block has at most 1,024 words, no axis is longer than that, and 16,384 bytes suffice for its result sheet; the words are the
+-- computed layout, since two layouts of one order are equal.
+use mathlib.Core.Path.{_≡_, refl, sym, ap, _∙_}
+use mathlib.Core.Bool.{false}
+use mathlib.Core.List.{List, [], _∷_, _++_}
+use Prim.Native.Nat.{ℕ, _≤_}
+use native.Mathlib.Omega.{arith}
+use lib.ListN.{length, drop, length-append, length-drop}
+use borrow.Author.Tests.{le-ltb}
+use Rattle.layout.specs.Layout.{volume, pick, Laid, laid}
+use Rattle.layout.proofs.Picks.{length-pick}
+use Rattle.orders.specs.Chains.{named}
+use Rattle.orders.specs.Numbers.{numberOf}
+use Rattle.orders.proofs.Chains.{pick-named, length-named}
+use Rattle.orders.proofs.Layouts.{chain-volume, chain-once, chain-laid}
+use Rattle.orders.proofs.Numbers.{number-below}
+use Rattle.refusals.specs.Conditions.{badLength, longest}
+use Rattle.axes.specs.declared.Answer.{Answer}
+use Rattle.axes.specs.Promises.{ChainPromise}
+use Rattle.axes.proofs.Accepted.{ChainAccepted, chain-zero, block-after, block-room}
+use Rattle.text.specs.Sheet.{refusalText, resultText}
+use Rattle.text.specs.Meaning.{Outcome, meaning}
+use Rattle.text.proofs.Length.{fields-few, result-fits}
+use Rattle.sheet.specs.declared.Sheet.{Sheet}
+use Rattle.sheet.specs.declared.Written.{Written}
+use Rattle.sheet.specs.Writer.{writerNumber, WrittenAs}
+use Rattle.sheet.specs.RefusalWriter.{RefusalWrittenAs}
+use Rattle.sheet.proofs.Writes.{number-0}
+use Rattle.sheet.proofs.RefusalLine.{length-refusal, line-fits}
+use Rattle.sheet.proofs.InFull.{in-full}
+use Rattle.job.specs.Job.{jobWords, jobText, Done}
+use Rattle.job.proofs.Readings.{swapsOf, Turned-away, Taken}
+use Rattle.job.proofs.Sizes.{longest-le-volume}
+
+-- the line of a refusal has at most thirty bytes
+short-line : (number place : ℕ) → length (refusalText number place) ≤ 16384
+short-line number place = omega (arith, length-refusal number place, fields-few (number ∷ place ∷ []))
+
+-- a sheet that was refused, and its line written
+pub met-refused : {bytes words scratch out : List ℕ} {r : Sheet} {words′ : List ℕ} {w : Written} {out′ : List ℕ} → length out ≡ 16384
+    → Turned-away words bytes r words′ → RefusalWrittenAs (r .number) (r .place) out w out′
+    → Done bytes words scratch out (w .count) words′ scratch out′
+met-refused {out = out} {r = r} long t p =
+    let short = short-line (r .number) (r .place) in
+    let full = in-full (refusalText (r .number) (r .place)) out (line-fits (r .number) (r .place) out (omega arith)) (p .answers) (p .bytes) in
+    record {
+      words-are = rw (t .means) (t .same);
+      scratch-is = rw (t .means);
+      count-is = rw (t .means) (full .0);
+      fits = omega arith;
+      text-is = rw (t .means, full .0) (full .1);
+    }
+
+-- a right sheet, its chain run and its result sheet written
+module _ {bytes words scratch out : List ℕ} {r : Sheet} {words₁ ws : List ℕ} {a : Answer} {words₂ scratch₂ : List ℕ} {w : Written} {out′ : List ℕ}
+    (block : length words ≡ 1024) (room : length scratch ≡ 1024) (long : length out ≡ 16384)
+    (t : Taken words bytes r words₁ ws) (p : ChainPromise 4 (r .lens) (swapsOf r) words₁ scratch a words₂ scratch₂)
+    (q : WrittenAs (a .lens) (a .order) words₂ out w out′) where
+  abbrev ds : List ℕ
+  ds = r .lens
+
+  abbrev order : List ℕ
+  order = named 4 (swapsOf r)
+
+  same : length words₁ ≡ length words
+  same =
+      ap length (t .stored)
+      ∙ length-append ws (drop (length ws) words)
+      ∙ omega (arith, length-drop (length ws) words, t .right .block, t .right .room)
+
+  runs : ChainAccepted 4 ds words₁ scratch (swapsOf r)
+  runs = record {
+    block = record {
+      lengths = t .right .lengths;
+      words = le-ltb 1048576 (volume ds) (omega (arith, t .right .few-words));
+      buffer = le-ltb (length words₁) (volume ds) (omega (arith, same, t .right .few-words));
+      scratch = le-ltb (length scratch) (longest ds) (omega (arith, longest-le-volume ds (t .right .lengths), t .right .few-words));
+    };
+    short = le-ltb 32 (length (swapsOf r)) (t .right .few-swaps);
+    swaps = t .right .swaps;
+  }
+
+  -- the chain is never refused
+  pub chain-runs : a .number ≡ 0
+  chain-runs = p .block .number-is ∙ chain-zero runs
+
+  laid-out : Laid ds order words₁ words₂
+  laid-out = p .block .words chain-runs
+
+  words-laid : words₂ ≡ laid ds order words₁
+  words-laid = chain-once ds (t .right .axes) (swapsOf r) laid-out (chain-laid ds (t .right .axes) (swapsOf r) words₁ (omega (arith, same, t .right .few-words)))
+
+  new-lengths : a .lens ≡ pick order ds
+  new-lengths = ap (λ (s : Answer). s .lens) (p .given chain-runs)
+
+  new-order : a .order ≡ numberOf 4 order
+  new-order = ap (λ (s : Answer). s .order) (p .given chain-runs)
+
+  good-lengths : badLength (pick order ds) ≡ false
+  good-lengths =
+      ap badLength (pick-named ds (swapsOf r) (t .right .axes)) ∙ block-after (runs .block) (swapsOf r) {ys = words₂} {ts = scratch} (laid-out .same) (block-room (runs .block)) .lengths
+
+  few : volume (pick order ds) ≤ 1024
+  few = omega (arith, chain-volume ds (t .right .axes) (swapsOf r), t .right .few-words)
+
+  abbrev text : List ℕ
+  text = resultText (pick order ds) (numberOf 4 order) words₂
+
+  text-fits : length text ≤ 16384
+  text-fits = result-fits (pick order ds) (numberOf 4 order) words₂ (length-pick order ds ∙ length-named 4 (swapsOf r)) good-lengths few
+
+  -- the writer never refuses
+  writes : writerNumber (pick order ds) (numberOf 4 order) words₂ out ≡ 0
+  writes =
+      number-0 {words = words₂} (record { lengths = good-lengths; few = few; enough = omega (arith, few, same, laid-out .same) }) (numberOf 4 order) out
+      (omega (arith, number-below 4 (swapsOf r))) (omega (arith, text-fits))
+
+  promised : WrittenAs (pick order ds) (numberOf 4 order) words₂ out w out′
+  promised = rw (new-lengths, new-order) at q
+
+  full : (w .count ≡ length text) × (out′ ≡ text ++ drop (length text) out)
+  full = in-full text out writes (promised .answers) (promised .bytes)
+
+  words-of : words₂ ≡ jobWords (Outcome.accepted ds (swapsOf r) ws) words
+  words-of = words-laid ∙ ap (laid ds order) (t .stored)
+
+  text-of : text ≡ jobText (Outcome.accepted ds (swapsOf r) ws) words
+  text-of = ap (resultText (pick order ds) (numberOf 4 order)) words-of
+
+  pub met-accepted : Done bytes words scratch out (w .count) words₂ scratch₂ out′
+  met-accepted = record {
+    words-are = rw (t .means) words-of;
+    scratch-is = rw (t .means) (p .block .zeroed chain-runs);
+    count-is = rw (t .means) (full .0 ∙ ap length text-of);
+    fits = omega (arith, full, text-fits);
+    text-is = rw (t .means, ← text-of, full .0) (full .1);
+  }
+
+-- the byte buffer holds as many bytes as the job counts
+pub text-inside : {bytes words scratch out : List ℕ} {n : ℕ} {w s o : List ℕ} → Done bytes words scratch out n w s o → n ≤ length o
+text-inside {bytes} {words} {scratch} {out} {n} p =
+    omega (arith, p .count-is, ap length (p .text-is), length-append (jobText (meaning words bytes) words) (drop n out))

@@ -1,0 +1,49 @@
+-- The reader's number is 0 exactly when the bytes are the text of what it answers. From the law of accepted sheets.
+use mathlib.Core.Path.{_≡_, refl, ap, _∙_}
+use mathlib.Core.List.{List, _++_}
+use Prim.Native.Nat.{ℕ}
+use native.Mathlib.Omega.{arith}
+use lib.ListN.{length, drop}
+use Rattle.text.specs.Meaning.{Outcome, meaning}
+use Rattle.text.proofs.Accepted.{Right, accepted-right, right-accepted}
+use Rattle.text.proofs.Bounds.{Within, meaning-within}
+use Rattle.sheet.specs.declared.Sheet.{Sheet}
+use Rattle.sheet.specs.Swaps.{padded}
+use Rattle.sheet.specs.Reader.{answer, kept, ReadAs}
+
+-- what an accepted sheet is answered with: its lengths, its chain before zeros, the chain's length, and its words at the start
+pub record Answers (buffer : List ℕ) (answered : Sheet) (buffer′ ds chain words : List ℕ) : Type 0 where
+  pub lengths : answered .lens ≡ ds
+  pub swaps : answered .swaps ≡ padded chain
+  pub count : answered .count ≡ length chain
+  pub stored : buffer′ ≡ words ++ drop (length words) buffer
+
+accepted-answer : {buffer bytes : List ℕ} {r : Sheet} {w ds chain words : List ℕ} → ReadAs buffer bytes r w
+    → meaning buffer bytes ≡ Outcome.accepted ds chain words → (r .number ≡ 0) × Answers buffer r w ds chain words
+accepted-answer {buffer} p m =
+    let a = p .answers ∙ ap answer m in (
+      ap (λ (s : Sheet). s .number) a,
+      record {
+        lengths = ap (λ (s : Sheet). s .lens) a;
+        swaps = ap (λ (s : Sheet). s .swaps) a;
+        count = ap (λ (s : Sheet). s .count) a;
+        stored = p .words ∙ ap (λ (o : Outcome). kept o buffer) m;
+      },
+    )
+
+-- a sheet that is right is accepted, and answered with what it is the text of
+pub right-is-read : {buffer bytes : List ℕ} {r : Sheet} {w ds chain words : List ℕ} → ReadAs buffer bytes r w → Right buffer bytes ds chain words
+    → (r .number ≡ 0) × Answers buffer r w ds chain words
+right-is-read p h = accepted-answer p (right-accepted h)
+
+-- a sheet that is accepted is right
+pub read-is-right : {buffer bytes : List ℕ} {r : Sheet} {w : List ℕ} {C : Type 0} → ReadAs buffer bytes r w → r .number ≡ 0
+    → ((ds chain words : List ℕ) → Right buffer bytes ds chain words → Answers buffer r w ds chain words → C) → C
+read-is-right {buffer} {bytes} {r} {w} {C} p z k = by (meaning buffer bytes) refl (meaning-within buffer bytes)
+  where
+    by : (o : Outcome) → meaning buffer bytes ≡ o → Within o → C
+    by (Outcome.refused number place) m (Within.refused h) =
+        let e : r .number ≡ number = ap (λ (s : Sheet). s .number) (p .answers ∙ ap answer m) in
+        absurd (omega (arith, h .given))
+    by (Outcome.accepted ds chain words) m Within.accepted =
+        k ds chain words (accepted-right buffer bytes ds chain words m) (accepted-answer p m .1)
