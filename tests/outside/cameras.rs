@@ -84,15 +84,16 @@ pub fn all(t: &mut Bench, seed: u64) {
     }
     t.group("larger blocks: a column removed, and the same words added at the same place");
 
+    let (rooms, longs): (&[usize], &[usize]) = if t.short { (&[0, 6, 8], &[1, 2]) } else { (&[0, 1, 5, 6, 7, 8, 9, 12], &[0, 1, 2, 3]) };
     let huge = u64::MAX;
     let lengths = [0, 1, 2, 3, 4095, 4096, 4097, huge];
     for &frames in &lengths {
         for &cameras in &lengths {
             for &k in &[0, 1, cameras.wrapping_sub(1), cameras, cameras.wrapping_add(1)] {
-                for &room in &[0, 1, 5, 6, 7, 8, 9, 12] {
+                for &room in rooms {
                     let buffer = r.words(room);
                     try_remove(t, frames, cameras, k, &buffer);
-                    for &long in &[0, 1, 2, 3] {
+                    for &long in longs {
                         let column = r.words(long);
                         try_add(t, frames, cameras, k, &column, &buffer);
                     }
