@@ -41,6 +41,8 @@ enum {
     WRITE_SHEET = 8,
     JOB = 9,
     REPEATS = 10,
+    REMOVE_CAMERA = 11,
+    ADD_CAMERA = 12,
     /* these touch what they must not, to show that the guards bite */
     WRITE_PAST_END = 100,
     READ_PAST_END = 101,
@@ -186,6 +188,12 @@ static void run(uint64_t call) {
         break;
     case REPEATS:
         give_home(zib_repeats(numbers[0], numbers[1]));
+        break;
+    case REMOVE_CAMERA:
+        give(zib_remove_camera(words(0), word_count(0), numbers[0], numbers[1], numbers[2]));
+        break;
+    case ADD_CAMERA:
+        give(zib_add_camera(words(0), word_count(0), numbers[0], numbers[1], numbers[2], words(1), word_count(1)));
         break;
     case WRITE_PAST_END:
         at[buffers[0].bytes] = 1;

@@ -6,6 +6,7 @@ ghost use Rattle.sheet.specs.Reader.{ReadAs};
 ghost use Rattle.sheet.specs.Writer.{WrittenAs};
 ghost use Rattle.job.specs.Job.{Done};
 ghost use Rattle.home.specs.Promise.{RepeatsPromise};
+ghost use Rattle.cameras.specs.Promises.{RemovePromise, AddPromise};
 ghost use Rattle.exports.specs.Records.{answered, planned, sheetRead, sheetWritten, homeAfter};
 
 // The lengths of four axes, last axis fastest.
@@ -196,4 +197,31 @@ pub extern "C" fn zib_repeats(m: usize, n: usize) -> Home
         number: h.number,
         count: h.count,
     }
+}
+
+// Removes a camera's column from a block of frames by cameras words.
+#[no_mangle]
+pub extern "C" fn zib_remove_camera(
+    buf: &mut [u32],
+    frames: usize,
+    cameras: usize,
+    column: usize,
+) -> u32
+    ensures { λ r. ⌜ RemovePromise frames cameras column (now (buf .entry)) r (now (buf .exit)) ⌝ }
+{
+    cameras::remove(buf, frames, cameras, column)
+}
+
+// Adds a camera's column to a block of frames by cameras words.
+#[no_mangle]
+pub extern "C" fn zib_add_camera(
+    buf: &mut [u32],
+    frames: usize,
+    cameras: usize,
+    column: usize,
+    words: &[u32],
+) -> u32
+    ensures { λ r. ⌜ AddPromise frames cameras column (now (words .entry)) (now (buf .entry)) r (now (buf .exit)) ⌝ }
+{
+    cameras::add(buf, frames, cameras, column, words)
 }

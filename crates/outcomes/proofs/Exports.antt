@@ -22,6 +22,7 @@ use Rattle.axes.proofs.OneOutcome as axes-outcome
 use Rattle.sheet.proofs.OneOutcome as sheets
 use Rattle.job.proofs.OneOutcome as jobs
 use Rattle.home.proofs.OneOutcome as homes
+use Rattle.cameras.proofs.OneOutcome as cameras
 use Rattle.exports.proofs.zib_turn.Kinds as turn-kinds
 use Rattle.exports.proofs.zib_turn.Reads as turn
 use Rattle.exports.proofs.zib_turn_back.Kinds as turn-back-kinds
@@ -42,6 +43,10 @@ use Rattle.exports.proofs.zib_job.Kinds as job-kinds
 use Rattle.exports.proofs.zib_job.Reads as job
 use Rattle.exports.proofs.zib_repeats.Kinds as repeats-kinds
 use Rattle.exports.proofs.zib_repeats.Reads as repeats
+use Rattle.exports.proofs.zib_remove_camera.Kinds as remove-kinds
+use Rattle.exports.proofs.zib_remove_camera.Reads as remove
+use Rattle.exports.proofs.zib_add_camera.Kinds as add-kinds
+use Rattle.exports.proofs.zib_add_camera.Reads as add
 
 -- a record of the interface from that of the call below, field by field
 abbrev as-answer : Below-Answer → Answer
@@ -98,3 +103,11 @@ job-once κs a r r′ s s′ p q = jobs.job-once p q
 pub repeats-once : (κs : Lfts 0) (a : Dens κs repeats-kinds.ps) (r r′ : Home) (s s′ : AtExit (endedOf 0 repeats-kinds.ps repeats-kinds.r) κs)
     → repeats.Post κs a r s → repeats.Post κs a r′ s′ → r ≡ r′
 repeats-once κs a r r′ s s′ p q = ap as-home (homes.repeats-once p q)
+
+pub remove-camera-once : (κs : Lfts 1) (a : Dens κs remove-kinds.ps) (r r′ : ℕ) (s s′ : AtExit (endedOf 1 remove-kinds.ps remove-kinds.r) κs)
+    → remove.Post κs a r s → remove.Post κs a r′ s′ → (r ≡ r′) × (s .0 .now ≡ s′ .0 .now)
+remove-camera-once κs a r r′ s s′ p q = cameras.remove-once (a .1 .0) (a .1 .1 .0) (a .1 .1 .1 .0) p q
+
+pub add-camera-once : (κs : Lfts 2) (a : Dens κs add-kinds.ps) (r r′ : ℕ) (s s′ : AtExit (endedOf 2 add-kinds.ps add-kinds.r) κs)
+    → add.Post κs a r s → add.Post κs a r′ s′ → (r ≡ r′) × (s .0 .now ≡ s′ .0 .now)
+add-camera-once κs a r r′ s s′ p q = cameras.add-once (a .1 .0) (a .1 .1 .0) (a .1 .1 .1 .0) p q
