@@ -1,4 +1,4 @@
--- what document 01 says of single orders and plans of four axes, computed
+-- what documents 01 and 02 say of single orders, plans and needs of four axes, computed
 pub mod Bench
 -- what one swap keeps, and what its code stores
 pub mod Swaps
