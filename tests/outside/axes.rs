@@ -234,7 +234,7 @@ fn needs(t: &mut Bench, r: &mut Random) {
     t.group("needs: document 02's example, length-1 partners, two chains of one order");
 }
 
-// Every set of the checks 1 to 6, and of 1 to 4 and 7: each alone, each pair, and more.
+// Every set of the checks 1 to 6, and of 1, 2, 3, 7 and 4: each alone, each pair, and more.
 fn check_sets(t: &mut Bench, r: &mut Random) {
     for set in 0..64 {
         let holds = |k: u32| set & (1 << k) != 0;
