@@ -135,7 +135,7 @@ module _ {r : ℕ} {ds s t xs ss ss₂ ss₃ : List ℕ} {a₁ a₂ a : Answer} 
 -- through one scratch, as long as the joined chain needs, that too holds afterwards what the joined chain leaves in it
 module _ {r : ℕ} {ds s t xs ss : List ℕ} {a₁ a₂ a : Answer} {ys ts zs us ws vs : List ℕ} (axes : length ds ≡ r)
     (p : ChainPromise r ds s xs ss a₁ ys ts) (q : ChainPromise r (a₁ .lens) t ys ts a₂ zs us) (j : ChainPromise r ds (s ++ t) xs ss a ws vs)
-    (good : badSwap r t ≡ false) (e : a₁ .number ≡ 0) (few : length (s ++ t) ≤ 32) (room : chainNeed ds (s ++ t) ≤ length ss) where
+    (e : a₁ .number ≡ 0) (good : badSwap r t ≡ false) (few : length (s ++ t) ≤ 32) (room : chainNeed ds (s ++ t) ≤ length ss) where
   enough : chainNeed (a₁ .lens) t ≤ length ss
   enough = omega (arith, joined-need axes p e t)
 

@@ -70,7 +70,7 @@ pub chains-join-scratch : (first second both : Call) → lengths second ≡ firs
     → length (swaps first ++ swaps second) ≤ 32 → chainNeed (lengths first) (swaps first ++ swaps second) ≤ length (scratch first)
     → Joined 4 (first .answer) (second .answer) (both .answer) (wordsAfter second) (wordsAfter both) × (scratchAfter both ≡ scratchAfter second)
 chains-join-scratch first second both e f s g h u i z good few room =
-    demands.chains-join-scratch (four first) (first .post) (promised second e refl f s) (promised both g i h u) good z few room
+    demands.chains-join-scratch (four first) (first .post) (promised second e refl f s) (promised both g i h u) z good few room
 
 -- chains that name the same order leave the same words
 pub one-order : (one other : Call) → lengths other ≡ lengths one → words other ≡ words one → one .answer .number ≡ 0 → other .answer .number ≡ 0
