@@ -28,7 +28,7 @@ enum {
     ZIB_BAD_LENGTH = 1,     /* an axis length is 0 or above 4,096 */
     ZIB_TOO_MANY_WORDS = 2, /* the lengths multiply to more than 1,048,576 */
     ZIB_SHORT_BUFFER = 3,   /* the buffer has fewer words than the block */
-    ZIB_SHORT_SCRATCH = 4,  /* scratch has fewer words than the longest axis */
+    ZIB_SHORT_SCRATCH = 4,  /* scratch has fewer words than the call needs */
     ZIB_LONG_CHAIN = 5,     /* the chain has more than 32 swaps */
     ZIB_BAD_SWAP = 6,       /* a swap number is above 2; place is the first such, from 0 */
     ZIB_BAD_ORDER = 7,      /* the order number is above 23 */
@@ -114,15 +114,17 @@ struct zib_planned {
 
 /*
  * Runs a chain of at most 32 swaps on a block. The swaps are only read.
- * Scratch has at least as many words as the longest axis; that many first words of it are zero afterwards, also after
- * an empty chain. Answers 0, or the first of 1, 2, 3, 4, 5, 6 that holds.
+ * Scratch has at least as many words as the longest axis that the chain exchanges, in the shape as it then stands, an axis of
+ * length 1 too; that many first words of it are zero afterwards. An empty chain needs none and leaves scratch as it is.
+ * Answers 0, or the first of 1, 2, 3, 5, 6, 4 that holds.
  */
 struct zib_answer zib_chain(uint32_t *buffer, size_t buffer_words, uint32_t *scratch, size_t scratch_words, struct zib_shape shape,
                             const size_t *swaps, size_t swap_count);
 
 /*
- * Brings a block into the order with a number, by that order's plan. Scratch is as for zib_chain.
- * Answers 0, or the first of 1, 2, 3, 4, 7, 8 that holds.
+ * Brings a block into the order with a number, by that order's plan. Scratch is as for zib_chain with that plan: as many
+ * words as the longest axis that stands in falling order with another. No chain that names the order needs less.
+ * Answers 0, or the first of 1, 2, 3, 7, 8, 4 that holds.
  */
 struct zib_answer zib_request(uint32_t *buffer, size_t buffer_words, uint32_t *scratch, size_t scratch_words, struct zib_shape shape,
                               size_t order);

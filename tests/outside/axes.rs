@@ -2,7 +2,7 @@
 use crate::bench::Bench;
 use crate::driver::{sizes, words, Answer, Request, CHAIN, PLAN, REQUEST};
 use crate::random::Random;
-use crate::reference::{cleared, first, laid, longest, named, number_of, orders, plan, reordered, scratch_checks, volume};
+use crate::reference::{block_checks, first, laid, longest, named, need, number_of, orders, plan, reordered, volume, zeroed};
 
 type Lengths = [u64; 4];
 
@@ -14,25 +14,26 @@ fn answer(number: u64, place: u64, lengths: Lengths, order: u64, swaps: u64) -> 
     all
 }
 
-// What stays and what moves: an order where the call is accepted, else nothing.
-fn outcome(numbers: Vec<u64>, lengths: Lengths, order: Option<[usize; 4]>, buffer: &[u32], scratch: &[u32]) -> Answer {
-    let buffers = match order {
-        Some(o) => vec![words(&laid(buffer, lengths, o)), words(&cleared(scratch, &lengths))],
+// What stays and what moves: the order of a chain where the call is accepted, else nothing.
+fn outcome(numbers: Vec<u64>, lengths: Lengths, chain: Option<&[u64]>, buffer: &[u32], scratch: &[u32]) -> Answer {
+    let buffers = match chain {
+        Some(c) => vec![words(&laid(buffer, lengths, named(c))), words(&zeroed(scratch, need(lengths, c)))],
         None => vec![words(buffer), words(scratch)],
     };
     Answer { numbers, buffers }
 }
 
 fn chain_case(lengths: Lengths, chain: &[u64], buffer: &[u32], scratch: &[u32]) -> (Request, Answer) {
-    let mut checks = scratch_checks(&lengths, buffer.len(), scratch.len());
+    let mut checks = block_checks(&lengths, buffer.len());
     let bad = chain.iter().position(|&k| k > 2);
     checks.push((5, chain.len() > 32));
     checks.push((6, bad.is_some()));
+    checks.push((4, bad.is_none() && (scratch.len() as u64) < need(lengths, chain)));
     let number = first(&checks);
     let mut e = if number == 0 {
         let order = named(chain);
         let told = answer(0, 0, reordered(lengths, order), number_of(order), chain.len() as u64);
-        outcome(told, lengths, Some(order), buffer, scratch)
+        outcome(told, lengths, Some(chain), buffer, scratch)
     } else {
         let place = if number == 6 { bad.unwrap() as u64 } else { 0 };
         outcome(answer(number, place, [0; 4], 0, 0), lengths, None, buffer, scratch)
@@ -44,13 +45,14 @@ fn chain_case(lengths: Lengths, chain: &[u64], buffer: &[u32], scratch: &[u32]) 
 }
 
 fn request_case(lengths: Lengths, asked: u64, buffer: &[u32], scratch: &[u32]) -> (Request, Answer) {
-    let mut checks = scratch_checks(&lengths, buffer.len(), scratch.len());
+    let chain = orders().get(asked as usize).map_or(Vec::new(), |&order| plan(order));
+    let mut checks = block_checks(&lengths, buffer.len());
     checks.push((7, asked > 23));
+    checks.push((4, (scratch.len() as u64) < need(lengths, &chain)));
     let number = first(&checks);
     let e = if number == 0 {
-        let order = orders()[asked as usize];
-        let told = answer(0, 0, reordered(lengths, order), asked, plan(order).len() as u64);
-        outcome(told, lengths, Some(order), buffer, scratch)
+        let told = answer(0, 0, reordered(lengths, named(&chain)), asked, chain.len() as u64);
+        outcome(told, lengths, Some(&chain), buffer, scratch)
     } else {
         outcome(answer(number, 0, [0; 4], 0, 0), lengths, None, buffer, scratch)
     };
@@ -74,7 +76,7 @@ fn try_request(t: &mut Bench, lengths: Lengths, asked: u64, buffer: &[u32], scra
     });
 }
 
-// Buffer and scratch for a shape, longer than needed by the tail.
+// Buffer and scratch for a shape, longer than any chain needs by the tail.
 fn lent(r: &mut Random, lengths: Lengths, tail: u64) -> (Vec<u32>, Vec<u32>) {
     let buffer = r.words(volume(&lengths) as usize + tail as usize);
     let scratch = r.words((longest(&lengths) + tail) as usize);
@@ -142,12 +144,14 @@ fn random_chains(t: &mut Bench, r: &mut Random) {
 fn joined(t: &mut Bench, r: &mut Random) {
     for _ in 0..if t.short { 50 } else { 500 } {
         let lengths = random_shape(r, 8);
-        let (buffer, scratch) = lent(r, lengths, 2);
         let lengths_of = [r.below(17), r.below(17)];
         let one = random_chain(r, lengths_of[0]);
         let two = random_chain(r, lengths_of[1]);
         let back: Vec<u64> = one.iter().rev().copied().collect();
         let both: Vec<u64> = one.iter().chain(&two).copied().collect();
+        // exactly what the joined chain needs is enough for each
+        let buffer = r.words(volume(&lengths) as usize + 2);
+        let scratch = r.words(need(lengths, &both) as usize);
         let run = |t: &mut Bench, lengths: &[u64], chain: &[u64], lent: Vec<crate::driver::Buffer>| {
             let mut buffers = lent[..2].to_vec();
             buffers.push(sizes(chain).read_only());
@@ -162,7 +166,8 @@ fn joined(t: &mut Bench, r: &mut Random) {
             Ok((joined, at_once, home))
         });
         let ok = ends.map_or((false, false), |(joined, at_once, home)| {
-            let same = joined.buffers[0] == at_once.buffers[0] && joined.numbers[2..6] == at_once.numbers[2..6];
+            // scratch too: one scratch is lent to all
+            let same = joined.buffers[..2] == at_once.buffers[..2] && joined.numbers[2..6] == at_once.numbers[2..6];
             (same, home.buffers[0] == start[0] && home.numbers[2..6] == lengths)
         });
         t.verdict(ok.0, || format!("{:?} then {:?} on {:?}", one, two, lengths));
@@ -171,7 +176,65 @@ fn joined(t: &mut Bench, r: &mut Random) {
     t.group("chains joined and run backwards");
 }
 
-// Every set of the checks 1 to 6, and of 1 to 4 and 7: each alone, each pair, and more.
+// Request 3: scratch one word short of the need, exact and longer, for random chains and for every order.
+fn needs(t: &mut Bench, r: &mut Random) {
+    for k in 0..if t.short { 60 } else { 600 } {
+        let lengths = if k % 2 == 0 { random_shape(r, 9) } else { [1 + r.below(2), 1 + r.below(9), 1 + r.below(2), 1 + r.below(9)] };
+        let tail = r.below(2) as usize;
+        let buffer = r.words(volume(&lengths) as usize + tail);
+        let length = if k % 3 == 0 { r.below(33) } else { r.below(4) };
+        let chain = random_chain(r, length);
+        let asked = r.below(24);
+        for spare in 0..3 {
+            let scratch = r.words((need(lengths, &chain) + spare).saturating_sub(1) as usize);
+            try_chain(t, lengths, &chain, &buffer, &scratch);
+            let scratch = r.words((need(lengths, &plan(orders()[asked as usize])) + spare).saturating_sub(1) as usize);
+            try_request(t, lengths, asked, &buffer, &scratch);
+        }
+    }
+    t.group("needs: scratch one word short, exact and longer");
+    // document 02's own example: three words would do, and two give 4
+    let lengths = [4096, 1, 2, 3];
+    let buffer = r.words(24_576);
+    for &(words, number) in &[(3, 0), (2, 4), (0, 4), (4, 0), (4096, 0)] {
+        let scratch = r.words(words);
+        t.verdict(chain_case(lengths, &[2], &buffer, &scratch).1.numbers[0] == number, || {
+            format!("the reference answers 4,096 by 1 by 2 by 3, chain 2, scratch {} otherwise", words)
+        });
+        try_chain(t, lengths, &[2], &buffer, &scratch);
+        try_request(t, lengths, 1, &buffer, &scratch);
+    }
+    // partners of length 1, equal lengths, swaps that undo each other, nothing exchanged
+    let cases: [(Lengths, &[u64], u64); 8] = [
+        ([1, 1, 2, 3], &[1], 2), ([1, 1, 1, 1], &[0], 1), ([1, 1, 2, 3], &[], 0), ([1, 1, 2, 3], &[2, 2], 3),
+        ([1, 1, 2, 3], &[2, 0], 3), ([5, 5, 1, 1], &[0, 0], 5), ([9, 1, 1, 1], &[1, 2], 1), ([9, 2, 3, 1], &[1, 2, 1], 3),
+    ];
+    for &(lengths, chain, most) in &cases {
+        t.verdict(need(lengths, chain) == most, || format!("the reference needs otherwise for {:?} on {:?}", chain, lengths));
+        let buffer = r.words(volume(&lengths) as usize);
+        for words in 0..most + 2 {
+            try_chain(t, lengths, chain, &buffer, &r.words(words as usize));
+        }
+    }
+    // two chains that name one order, through scratch that is enough for one of them only
+    for _ in 0..if t.short { 20 } else { 200 } {
+        let lengths = random_shape(r, 6);
+        let buffer = r.words(volume(&lengths) as usize);
+        let length = r.below(7);
+        let mut longer = random_chain(r, length);
+        let chain = plan(named(&longer));
+        let detour = r.below(3);
+        longer.extend([detour, detour]);
+        t.verdict(need(lengths, &chain) <= need(lengths, &longer), || format!("a plan needs more than {:?} on {:?}", longer, lengths));
+        let scratch = r.words(need(lengths, &chain) as usize);
+        try_chain(t, lengths, &chain, &buffer, &scratch);
+        try_chain(t, lengths, &longer, &buffer, &scratch);
+        try_request(t, lengths, number_of(named(&longer)), &buffer, &scratch);
+    }
+    t.group("needs: document 02's example, length-1 partners, two chains of one order");
+}
+
+// Every set of the checks 1 to 6, and of 1, 2, 3, 7 and 4: each alone, each pair, and more.
 fn check_sets(t: &mut Bench, r: &mut Random) {
     for set in 0..64 {
         let holds = |k: u32| set & (1 << k) != 0;
@@ -183,19 +246,20 @@ fn check_sets(t: &mut Bench, r: &mut Random) {
         };
         for &lengths in shapes {
             let block = volume(&lengths).min(1_060_000) as usize;
-            let side = longest(&lengths).min(5000) as usize;
             if holds(2) && block == 0 {
                 continue;
             }
             let buffer = r.words(if holds(2) { block - 1 } else { block });
-            let scratch = r.words(if holds(3) { side - 1 } else { side });
             let mut chain = random_chain(r, if holds(4) { 33 } else { 32 });
+            // scratch by the need of the right chain, and of order 23, which exchanges every axis
+            let room = |most: u64| (most.min(5000) as usize).saturating_sub(if holds(3) { 1 } else { 0 });
+            let scratch = [r.words(room(need(lengths, &chain))), r.words(room(longest(&lengths)))];
             if holds(5) {
                 let place = r.below(32) as usize;
                 chain[place] = r.pick(&[3, 4, 255, 256, 65_536, 1 << 32, u64::MAX]);
             }
-            try_chain(t, lengths, &chain, &buffer, &scratch);
-            try_request(t, lengths, if holds(5) { 24 } else { 23 }, &buffer, &scratch);
+            try_chain(t, lengths, &chain, &buffer, &scratch[0]);
+            try_request(t, lengths, if holds(5) { 24 } else { 23 }, &buffer, &scratch[1]);
         }
     }
     t.group("four-axis refusals: each check alone, each pair and every larger set");
@@ -284,6 +348,7 @@ pub fn all(t: &mut Bench, seed: u64) {
     every_order(t, &mut r);
     random_chains(t, &mut r);
     joined(t, &mut r);
+    needs(t, &mut r);
     check_sets(t, &mut r);
     bounds(t, &mut r);
     if !t.short {

@@ -1,4 +1,4 @@
-// What document 01 asks, by copying: every word is read from one list and written to another.
+// What documents 01 and 02 ask, by copying: every word is read from one list and written to another.
 
 pub const LONGEST: u64 = 4096;
 pub const MOST_WORDS: u128 = 1_048_576;
@@ -30,7 +30,7 @@ pub fn block_checks(lengths: &[u64], buffer: usize) -> Vec<(u64, bool)> {
     ]
 }
 
-// Checks 1 to 4.
+// Checks 1 to 4 of a flat block.
 pub fn scratch_checks(lengths: &[u64], buffer: usize, scratch: usize) -> Vec<(u64, bool)> {
     let mut checks = block_checks(lengths, buffer);
     checks.push((4, (scratch as u64) < longest(lengths)));
@@ -59,13 +59,30 @@ pub fn turned_back(words: &[u32], m: usize, n: usize) -> Vec<u32> {
     out
 }
 
-// Scratch after an accepted call: as many first words as the longest axis are zero.
-pub fn cleared(scratch: &[u32], lengths: &[u64]) -> Vec<u32> {
+// Scratch after an accepted call: as many first words as it needed are zero.
+pub fn zeroed(scratch: &[u32], need: u64) -> Vec<u32> {
     let mut out = scratch.to_vec();
-    for w in &mut out[..longest(lengths) as usize] {
+    for w in &mut out[..need as usize] {
         *w = 0;
     }
     out
+}
+
+// Scratch after a flat call, which needs as many words as the longest side.
+pub fn cleared(scratch: &[u32], lengths: &[u64]) -> Vec<u32> {
+    zeroed(scratch, longest(lengths))
+}
+
+// The need of a chain of right swaps: the largest length among the axes that it exchanges, in the shape as it then stands.
+pub fn need(lengths: [u64; 4], chain: &[u64]) -> u64 {
+    let mut stands = lengths;
+    let mut most = 0;
+    for &k in chain {
+        let k = k as usize;
+        most = most.max(stands[k]).max(stands[k + 1]);
+        stands.swap(k, k + 1);
+    }
+    most
 }
 
 // The 24 orders of four axes, in dictionary order.

@@ -1,5 +1,5 @@
 // Sheets as document 01 describes them, read and written by copying text.
-use crate::reference::{bad_length, cleared, first, laid, named, number_of, reordered, volume};
+use crate::reference::{bad_length, first, laid, named, need, number_of, reordered, volume, zeroed};
 
 type Lengths = [u64; 4];
 
@@ -126,7 +126,7 @@ pub fn job(text: &[u8], words: &[u32], scratch: &[u32]) -> (Vec<u8>, Vec<u32>, V
             let mut left = words.to_vec();
             left[..s.words.len()].copy_from_slice(&laid(&s.words, s.lengths, order));
             let told = result(reordered(s.lengths, order), number_of(order), &left);
-            (told, left, cleared(scratch, &s.lengths))
+            (told, left, zeroed(scratch, need(s.lengths, &s.chain)))
         }
     }
 }

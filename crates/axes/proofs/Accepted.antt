@@ -1,5 +1,6 @@
 -- The checks of a block and of a chain, as facts: accepted means that none of the conditions holds. A block that was accepted is accepted
--- after any chain of swaps, through any scratch that is enough: a swap changes neither the lengths, but for their places, nor how many words are lent.
+-- after any chain of swaps: a swap changes neither the lengths, but for their places, nor how many words are lent. Which scratch is enough
+-- for the next chain, for the joined chain and for the chain run backwards is said by their own needs.
 use mathlib.Core.Path.{_≡_, refl, sym, ap, ap₂, _∙_}
 use mathlib.Core.Bool.{Bool, true, false, cond, _||_}
 use mathlib.Core.List.{List, [], _∷_, _++_, reverse, reverse-cons}
@@ -10,17 +11,17 @@ use lib.ListN.{length, getD, length-reverse}
 use borrow.Author.Tests.{ltb-false, le-ltb}
 use Rattle.orders.specs.Chains.{exchange, follow}
 use Rattle.orders.specs.Numbers.{orderCount}
+use Rattle.orders.specs.Needs.{chainNeed}
 use Rattle.orders.proofs.Chains.{volume-follow}
 use Rattle.orders.proofs.Distinct.{count-pos}
+use Rattle.orders.proofs.Needs.{need-back}
 use Rattle.refusals.specs.FirstOf.{Check, check, firstOf}
 use Rattle.refusals.specs.Conditions.{some, outOfRange, badLength, tooManyWords, shortBuffer, shortScratch, longChain, noSwap, badSwap, noOrder}
-use Rattle.refusals.specs.Scratch.{need}
-use Rattle.refusals.specs.Calls.{passesChecks, chainChecks, requestChecks}
+use Rattle.refusals.specs.Calls.{blockChecks, chainChecks, requestChecks}
 use Rattle.refusals.proofs.FirstOf.{Silent, refused-first, accepted-so-far}
 use Rattle.refusals.proofs.FirstOf.Silent.{none, more}
-use Rattle.refusals.proofs.Calls.{passes-accepted, chain-accepted, request-accepted}
+use Rattle.refusals.proofs.Calls.{recursion-accepted, chain-accepted, request-accepted}
 use Rattle.refusals.proofs.Some.{either-false, none-at}
-use Rattle.refusals.proofs.Scratch.{need-follow}
 
 either-swap : (a b c : Bool) → (a || (b || c)) ≡ (b || (a || c))
 either-swap true true c = refl
@@ -39,55 +40,41 @@ unfolding follow
 some-follow f l [] = refl
 some-follow f l (k ∷ c) = some-follow f (exchange k l) c ∙ some-exchange f k l
 
--- more checks after the four of a block: refused by one of the four, or decided by the last
-module _ (ds xs ss : List ℕ) (last : List Check) {n : ℕ} (e : n ≡ firstOf (passesChecks ds xs ss)) where
-  pub by-four : (n ≡ 0 → ⊥) → n ≡ firstOf (passesChecks ds xs ss ++ last)
-  by-four k = e ∙ sym (refused-first (passesChecks ds xs ss) last (λ z. k (e ∙ z)))
+-- more checks after those of a block: refused by one of the block's, or decided by the last
+module _ (ds xs : List ℕ) (last : List Check) {n : ℕ} (e : n ≡ firstOf (blockChecks ds xs)) where
+  pub by-block : (n ≡ 0 → ⊥) → n ≡ firstOf (blockChecks ds xs ++ last)
+  by-block k = e ∙ sym (refused-first (blockChecks ds xs) last (λ z. k (e ∙ z)))
 
-  pub by-last : n ≡ 0 → firstOf (passesChecks ds xs ss ++ last) ≡ firstOf last
-  by-last z = accepted-so-far last (passes-accepted ds xs ss .0 (sym e ∙ z))
+  pub by-last : n ≡ 0 → firstOf (blockChecks ds xs ++ last) ≡ firstOf last
+  by-last z = accepted-so-far last (recursion-accepted ds xs .0 (sym e ∙ z))
 
--- none of the four conditions of a block holds
-pub record BlockAccepted (ds xs ss : List ℕ) : Type 0 where
+-- none of the three conditions of a block holds
+pub record BlockAccepted (ds xs : List ℕ) : Type 0 where
   pub lengths : badLength ds ≡ false
   pub words : tooManyWords ds ≡ false
   pub buffer : shortBuffer ds xs ≡ false
-  pub scratch : shortScratch (need ds) ss ≡ false
 
-pub block-accepted : (ds xs ss : List ℕ) → firstOf (passesChecks ds xs ss) ≡ 0 → BlockAccepted ds xs ss
-block-accepted ds xs ss e = go (passes-accepted ds xs ss .0 e)
+pub block-accepted : (ds xs : List ℕ) → firstOf (blockChecks ds xs) ≡ 0 → BlockAccepted ds xs
+block-accepted ds xs e = go (recursion-accepted ds xs .0 e)
   where
-    go : Silent (passesChecks ds xs ss) → BlockAccepted ds xs ss
-    go (more a (more b (more c (more d none)))) = record { lengths = a; words = b; buffer = c; scratch = d }
+    go : Silent (blockChecks ds xs) → BlockAccepted ds xs
+    go (more a (more b (more c none))) = record { lengths = a; words = b; buffer = c }
 
-module _ {ds xs ss : List ℕ} (b : BlockAccepted ds xs ss) where
-  pub block-zero : firstOf (passesChecks ds xs ss) ≡ 0
-  block-zero = passes-accepted ds xs ss .1 (more (b .lengths) (more (b .words) (more (b .buffer) (more (b .scratch) none))))
+module _ {ds xs : List ℕ} (b : BlockAccepted ds xs) where
+  pub block-zero : firstOf (blockChecks ds xs) ≡ 0
+  block-zero = recursion-accepted ds xs .1 (more (b .lengths) (more (b .words) (more (b .buffer) none)))
 
-  pub block-room : need ds ≤ length ss
-  block-room = ltb-false (length ss) (need ds) (b .scratch)
-
-  -- through other scratch that is enough
-  pub block-through : {ts : List ℕ} → need ds ≤ length ts → BlockAccepted ds xs ts
-  block-through {ts} h = record {
-    lengths = b .lengths;
-    words = b .words;
-    buffer = b .buffer;
-    scratch = le-ltb (length ts) (need ds) h;
-  }
-
-  -- after a chain, in a buffer as long as it was and through scratch that is enough
-  pub block-after : (c : List ℕ) {ys ts : List ℕ} → length ys ≡ length xs → need ds ≤ length ts → BlockAccepted (follow ds c) ys ts
-  block-after c {ys} {ts} e h = record {
+  -- after a chain, in a buffer as long as it was
+  pub block-after : (c : List ℕ) {ys : List ℕ} → length ys ≡ length xs → BlockAccepted (follow ds c) ys
+  block-after c e = record {
     lengths = some-follow outOfRange ds c ∙ b .lengths;
     words = ap (ltb 1048576) (volume-follow ds c) ∙ b .words;
     buffer = ap₂ ltb e (volume-follow ds c) ∙ b .buffer;
-    scratch = le-ltb (length ts) (need (follow ds c)) (omega (arith, need-follow ds c));
   }
 
--- the numbers of a block's checks
-pub block-few : (ds xs ss : List ℕ) → firstOf (passesChecks ds xs ss) ≤ 4
-block-few ds xs ss = go (badLength ds) (tooManyWords ds) (shortBuffer ds xs) (shortScratch (need ds) ss)
+-- the numbers of a block's checks and of the room in scratch
+pub block-few : (ds xs : List ℕ) (short : Bool) → firstOf (blockChecks ds xs ++ (check 4 short ∷ [])) ≤ 4
+block-few ds xs short = go (badLength ds) (tooManyWords ds) (shortBuffer ds xs) short
   where
     go : (a b c d : Bool) → cond a 1 (cond b 2 (cond c 3 (cond d 4 0))) ≤ 4
     go true b c d = omega arith
@@ -98,23 +85,27 @@ block-few ds xs ss = go (badLength ds) (tooManyWords ds) (shortBuffer ds xs) (sh
 
 -- none of the six conditions of a chain holds
 pub record ChainAccepted (r : ℕ) (ds xs ss chain : List ℕ) : Type 0 where
-  pub block : BlockAccepted ds xs ss
+  pub block : BlockAccepted ds xs
   pub short : longChain chain ≡ false
   pub swaps : badSwap r chain ≡ false
+  pub room : chainNeed ds chain ≤ length ss
 
 pub accepts-chain : (r : ℕ) (ds xs ss chain : List ℕ) → firstOf (chainChecks r ds xs ss chain) ≡ 0 → ChainAccepted r ds xs ss chain
 accepts-chain r ds xs ss chain e = go (chain-accepted r ds xs ss chain .0 e)
   where
     go : Silent (chainChecks r ds xs ss chain) → ChainAccepted r ds xs ss chain
-    go (more a (more b (more c (more d (more f (more g none)))))) = record {
-      block = record { lengths = a; words = b; buffer = c; scratch = d };
+    go (more a (more b (more c (more f (more g (more d none)))))) = record {
+      block = record { lengths = a; words = b; buffer = c };
       short = f;
       swaps = g;
+      room = ltb-false (length ss) (chainNeed ds chain) d;
     }
 
 pub chain-zero : {r : ℕ} {ds xs ss chain : List ℕ} → ChainAccepted r ds xs ss chain → firstOf (chainChecks r ds xs ss chain) ≡ 0
 chain-zero {r} {ds} {xs} {ss} {chain} p =
-    by-last ds xs ss (check 5 (longChain chain) ∷ check 6 (badSwap r chain) ∷ []) (sym (block-zero (p .block))) refl ∙ rw (p .short, p .swaps)
+    let room : shortScratch (chainNeed ds chain) ss ≡ false = le-ltb (length ss) (chainNeed ds chain) (p .room) in
+    chain-accepted r ds xs ss chain .1
+    (more (p .block .lengths) (more (p .block .words) (more (p .block .buffer) (more (p .short) (more (p .swaps) (more room none))))))
 
 -- no swap of an accepted chain is above the last
 pub good-swap : (r : ℕ) (c : List ℕ) → badSwap r c ≡ false → (k : ℕ) → k < length c → getD c k 0 ≤ r - 2
@@ -131,26 +122,28 @@ some-reverse f (x ∷ c) e =
     let p = either-false (f x) (some f c) e in
     ap (some f) (reverse-cons x c) ∙ some-append f (reverse c) (x ∷ []) (some-reverse f c (p .1)) ∙ rw (p .0)
 
--- chains after a chain that was accepted, each through scratch that is enough
+-- chains after a chain that was accepted, each through scratch that is enough for it
 module _ {r : ℕ} {ds xs ss s : List ℕ} (p : ChainAccepted r ds xs ss s) where
-  pub next-accepted : (t : List ℕ) {ys ts : List ℕ} → badSwap r t ≡ false → length t ≤ 32 → length ys ≡ length xs → need ds ≤ length ts
+  pub next-accepted : (t : List ℕ) {ys ts : List ℕ} → badSwap r t ≡ false → length t ≤ 32 → length ys ≡ length xs → chainNeed (follow ds s) t ≤ length ts
       → ChainAccepted r (follow ds s) ys ts t
-  next-accepted t good few e h = record { block = block-after (p .block) s e h; short = le-ltb 32 (length t) few; swaps = good }
+  next-accepted t good few e h = record { block = block-after (p .block) s e; short = le-ltb 32 (length t) few; swaps = good; room = h }
 
-  pub joined-accepted : (t : List ℕ) {ts : List ℕ} → badSwap r t ≡ false → length (s ++ t) ≤ 32 → need ds ≤ length ts → ChainAccepted r ds xs ts (s ++ t)
+  pub joined-accepted : (t : List ℕ) {ts : List ℕ} → badSwap r t ≡ false → length (s ++ t) ≤ 32 → chainNeed ds (s ++ t) ≤ length ts
+      → ChainAccepted r ds xs ts (s ++ t)
   joined-accepted t good few h = record {
-    block = block-through (p .block) h;
+    block = p .block;
     short = le-ltb 32 (length (s ++ t)) few;
     swaps = some-append (noSwap r) s t (p .swaps) ∙ good;
+    room = h;
   }
 
-  pub back-accepted : {ys ts : List ℕ} → length ys ≡ length xs → need ds ≤ length ts → ChainAccepted r (follow ds s) ys ts (reverse s)
+  pub back-accepted : {ys ts : List ℕ} → length ys ≡ length xs → chainNeed ds s ≤ length ts → ChainAccepted r (follow ds s) ys ts (reverse s)
   back-accepted e h =
       next-accepted (reverse s)
       (some-reverse (noSwap r) s (p .swaps))
       (omega (arith, length-reverse s, ltb-false 32 (length s) (p .short)))
       e
-      h
+      (rw (need-back ds s) h)
 
 -- an order number that is not refused is one of the orders'
 pub is-order : (r order : ℕ) → noOrder r order ≡ false → order < orderCount r
@@ -161,4 +154,4 @@ pub request-order : (r : ℕ) (ds xs ss : List ℕ) (order : ℕ) → firstOf (r
 request-order r ds xs ss order e = go (request-accepted r ds xs ss order .0 e)
   where
     go : Silent (requestChecks r ds xs ss order) → order < orderCount r
-    go (more a (more b (more c (more d (more f g))))) = is-order r order f
+    go (more a (more b (more c (more f g)))) = is-order r order f

@@ -1,36 +1,40 @@
 -- What the calls on r axes do together, as theorems over what they promise: chains join, chains that name one order leave the same, a chain
 -- run backwards restores the block, an order number means the same in every call, and a request leaves what the chain of its plan leaves.
--- Each call has its own scratch, any that is enough; what it holds afterwards each call's promise says by itself.
+-- Each call has its own scratch, any that is enough by the call's own need, and what it holds afterwards each call's promise says by itself;
+-- where one scratch is lent to all, what it holds is said too.
 -- The words by the laws of layouts, the lengths by following the chain.
 use mathlib.Core.Path.{_≡_, refl, sym, ap, ap₂, _∙_, subst}
-use mathlib.Core.List.{List, _++_, reverse}
+use mathlib.Core.List.{List, [], _∷_, _++_, reverse}
 use mathlib.Core.Bool.{false}
 use mathlib.Core.Logic.{⊎-elim}
-use Prim.Native.Nat.{ℕ, _+_, _-_, _<_, _≤_}
-use native.Mathlib.Nat.{le-refl}
+use Prim.Native.Nat.{ℕ, _+_, _-_, _<_, _≤_, max}
+use native.Mathlib.Nat.{le-refl, max-eq-left}
 use native.Mathlib.Omega.{arith}
-use lib.ListN.{length, take, drop, replicate, length-append}
+use lib.ListN.{length, take, length-append}
 use borrow.Author.Tests.{le-ltb}
 use Rattle.lists.proofs.Decide.{eq-or-ne}
 use Rattle.layout.specs.Layout.{pick, Laid}
 use Rattle.orders.specs.Chains.{follow, named}
 use Rattle.orders.specs.Numbers.{orderCount, orderOf, numberOf}
 use Rattle.orders.specs.Plans.{planOf, planPlaces}
+use Rattle.orders.specs.Needs.{chainNeed, planNeed}
 use Rattle.orders.proofs.Chains.{pick-named, follow-append, follow-home, joined, length-follow}
 use Rattle.orders.proofs.Layouts.{chain-joined, chain-home, chain-once}
 use Rattle.orders.proofs.Numbers.{number-below, order-number}
 use Rattle.orders.proofs.Plans.{plan-places}
-use Rattle.refusals.specs.FirstOf.{Check, firstOf}
-use Rattle.refusals.specs.Conditions.{badSwap}
+use Rattle.orders.proofs.Needs.{need-append, need-back}
+use Rattle.orders.proofs.PlanNeeds.{plan-least}
+use Rattle.refusals.specs.FirstOf.{Check, check, firstOf}
+use Rattle.refusals.specs.Conditions.{shortScratch, badSwap}
 use Rattle.refusals.specs.Calls.{chainChecks, requestChecks, planChecks}
-use Rattle.refusals.specs.Scratch.{need, cleared}
+use Rattle.refusals.specs.Scratch.{cleared}
 use Rattle.refusals.specs.Promise.{Rearranged}
 use Rattle.refusals.proofs.FirstOf.{Silent, silent-zero}
-use Rattle.refusals.proofs.Scratch.{need-follow, cleared-past}
+use Rattle.refusals.proofs.Scratch.{cleared-length, cleared-twice}
 use Rattle.axes.specs.declared.Answer.{Answer}
 use Rattle.axes.specs.declared.Planned.{Planned}
 use Rattle.axes.specs.Promises.{ChainPromise, RequestPromise, PlanPromise}
-use Rattle.axes.proofs.Accepted.{BlockAccepted, ChainAccepted, accepts-chain, block-room, block-through, block-zero, chain-zero, next-accepted, joined-accepted, back-accepted, by-last}
+use Rattle.axes.proofs.Accepted.{ChainAccepted, accepts-chain, block-zero, chain-zero, next-accepted, joined-accepted, back-accepted, by-last}
 use Rattle.axes.proofs.Calls.{request-of-chain}
 use Rattle.axes.proofs.OneOutcome.{request-once}
 
@@ -54,15 +58,35 @@ module _ {r : ℕ} {ds c xs ss : List ℕ} {a : Answer} {ys ts : List ℕ} (axes
   counted : a .swaps ≡ length c
   counted = ap (λ (b : Answer). b .swaps) (p .given z)
 
-  -- scratch that one call left, lent to a call on the shape that came back, is as it was after both
-  pub scratch-again : {us : List ℕ} → us ≡ cleared (need (a .lens)) ts → us ≡ ts
-  scratch-again e =
-      let wiped = p .block .zeroed z in
-      let same-need : need (a .lens) ≡ need ds = ap need new-lengths ∙ need-follow ds c in
+  as-long : length ts ≡ length ss
+  as-long = ap length (p .block .zeroed z) ∙ cleared-length ss (le-refl (chainNeed ds c)) (ran .room)
+
+  -- what the caller of the joined chain must lend: the larger of both needs, each on the shape as it is called
+  pub joined-need : (t : List ℕ) → chainNeed ds (c ++ t) ≡ max (chainNeed ds c) (chainNeed (a .lens) t)
+  joined-need t = rw new-lengths (need-append ds c t)
+
+  -- a chain run backwards on the shape that came back needs what the chain needs
+  pub back-need : chainNeed (a .lens) (reverse c) ≡ chainNeed ds c
+  back-need = rw new-lengths (need-back ds c)
+
+  -- scratch that the call left, lent to a second chain on the shape that came back, holds after both what the joined chain leaves of it
+  scratch-on : (t : List ℕ) {us : List ℕ} → chainNeed (a .lens) t ≤ length ss → us ≡ cleared (chainNeed (a .lens) t) ts
+      → us ≡ cleared (chainNeed ds (c ++ t)) ss
+  scratch-on t h e =
       e
-      ∙ ap (λ (w : ℕ). cleared w ts) same-need
-      ∙ ap (λ (t : List ℕ). replicate (need ds) 0 ++ t) (ap (drop (need ds)) wiped ∙ cleared-past ss (le-refl (need ds)) (block-room (ran .block)))
-      ∙ sym wiped
+      ∙ ap (cleared (chainNeed (a .lens) t)) (p .block .zeroed z)
+      ∙ cleared-twice (chainNeed (a .lens) t) (chainNeed ds c) ss h
+      ∙ ap (λ (w : ℕ). cleared w ss) (sym (joined-need t))
+
+  -- and lent to the chain run backwards it stays as it is
+  scratch-back : {us : List ℕ} → us ≡ cleared (chainNeed (a .lens) (reverse c)) ts → us ≡ ts
+  scratch-back e =
+      let w = chainNeed ds c in
+      e
+      ∙ ap₂ cleared back-need (p .block .zeroed z)
+      ∙ cleared-twice w w ss (ran .room)
+      ∙ ap (λ (v : ℕ). cleared v ss) (max-eq-left (le-refl w))
+      ∙ sym (p .block .zeroed z)
 
 -- one chain, then the other on the shape that came back, leaves what the joined chain leaves in one call
 pub record Joined (r : ℕ) (a₁ a₂ a : Answer) (zs ws : List ℕ) : Type 0 where
@@ -73,15 +97,17 @@ pub record Joined (r : ℕ) (a₁ a₂ a : Answer) (zs ws : List ℕ) : Type 0 w
   pub swaps : a .swaps ≡ a₁ .swaps + a₂ .swaps
   pub words : ws ≡ zs
 
--- where the first is accepted, the second has no bad swap, and both have at most 32 swaps together
+-- where the first is accepted, the second has no bad swap, both have at most 32 swaps together, and each call has the scratch that it needs
 module _ {r : ℕ} {ds s t xs ss ss₂ ss₃ : List ℕ} {a₁ a₂ a : Answer} {ys ts zs us ws vs : List ℕ} (axes : length ds ≡ r)
     (p : ChainPromise r ds s xs ss a₁ ys ts) (q : ChainPromise r (a₁ .lens) t ys ss₂ a₂ zs us) (j : ChainPromise r ds (s ++ t) xs ss₃ a ws vs)
-    (e : a₁ .number ≡ 0) (good : badSwap r t ≡ false) (few : length (s ++ t) ≤ 32) (room₂ : need ds ≤ length ss₂) (room₃ : need ds ≤ length ss₃) where
+    (e : a₁ .number ≡ 0) (good : badSwap r t ≡ false) (few : length (s ++ t) ≤ 32) (room₂ : chainNeed (a₁ .lens) t ≤ length ss₂)
+    (room₃ : chainNeed ds (s ++ t) ≤ length ss₃) where
   second-accepted : a₂ .number ≡ 0
   second-accepted =
       q .block .number-is
       ∙ ap (λ (l : List ℕ). firstOf (chainChecks r l ys ss₂ t)) (new-lengths axes p e)
-      ∙ chain-zero {xs = ys} {ss = ss₂} (next-accepted (ran axes p e) t good (omega (arith, length-append s t)) (laid-out axes p e .same) room₂)
+      ∙ chain-zero {xs = ys} {ss = ss₂} (next-accepted (ran axes p e) t good (omega (arith, length-append s t)) (laid-out axes p e .same)
+      (rw (new-lengths axes p e) at room₂))
 
   both-accepted : a .number ≡ 0
   both-accepted = j .block .number-is ∙ chain-zero {ss = ss₃} (joined-accepted (ran axes p e) t good few room₃)
@@ -106,13 +132,25 @@ module _ {r : ℕ} {ds s t xs ss ss₂ ss₃ : List ℕ} {a₁ a₂ a : Answer} 
         words = chain-once ds axes (s ++ t) (laid-out axes j both-accepted) joined-laid;
       }
 
+-- through one scratch, as long as the joined chain needs, that too holds afterwards what the joined chain leaves in it
+module _ {r : ℕ} {ds s t xs ss : List ℕ} {a₁ a₂ a : Answer} {ys ts zs us ws vs : List ℕ} (axes : length ds ≡ r)
+    (p : ChainPromise r ds s xs ss a₁ ys ts) (q : ChainPromise r (a₁ .lens) t ys ts a₂ zs us) (j : ChainPromise r ds (s ++ t) xs ss a ws vs)
+    (e : a₁ .number ≡ 0) (good : badSwap r t ≡ false) (few : length (s ++ t) ≤ 32) (room : chainNeed ds (s ++ t) ≤ length ss) where
+  enough : chainNeed (a₁ .lens) t ≤ length ss
+  enough = omega (arith, joined-need axes p e t)
+
+  pub chains-join-scratch : Joined r a₁ a₂ a zs ws × (vs ≡ us)
+  chains-join-scratch =
+      let both = chains-join axes p q j e good few (omega (arith, enough, as-long axes p e)) room in
+      (both, j .block .zeroed (both .both) ∙ sym (scratch-on axes p e t enough (q .block .zeroed (both .second))))
+
 -- two calls leave the same: lengths, order and words
 pub record Alike (a a′ : Answer) (ys zs : List ℕ) : Type 0 where
   pub lengths : a′ .lens ≡ a .lens
   pub order : a′ .order ≡ a .order
   pub words : zs ≡ ys
 
--- accepted chains that name one order leave the same
+-- accepted chains that name one order leave the same; their swaps and their needs may differ, and with these the zeros in scratch
 module _ {r : ℕ} {ds s t xs ss ss′ : List ℕ} {a a′ : Answer} {ys ts zs us : List ℕ} (axes : length ds ≡ r) (p : ChainPromise r ds s xs ss a ys ts)
     (q : ChainPromise r ds t xs ss′ a′ zs us) (e : a .number ≡ 0) (d : a′ .number ≡ 0) (one : named r s ≡ named r t) where
   pub one-order : Alike a a′ ys zs
@@ -129,7 +167,7 @@ pub record Restored (ds xs : List ℕ) (a : Answer) (zs : List ℕ) : Type 0 whe
   pub words : zs ≡ xs
 
 module _ {r : ℕ} {ds c xs ss ss′ : List ℕ} {a a′ : Answer} {ys ts zs us : List ℕ} (axes : length ds ≡ r) (p : ChainPromise r ds c xs ss a ys ts)
-    (q : ChainPromise r (a .lens) (reverse c) ys ss′ a′ zs us) (e : a .number ≡ 0) (room : need ds ≤ length ss′) where
+    (q : ChainPromise r (a .lens) (reverse c) ys ss′ a′ zs us) (e : a .number ≡ 0) (room : chainNeed ds c ≤ length ss′) where
   back-again : a′ .number ≡ 0
   back-again =
       q .block .number-is
@@ -149,19 +187,31 @@ module _ {r : ℕ} {ds c xs ss ss′ : List ℕ} {a a′ : Answer} {ys ts zs us 
             (chain-home ds axes c (laid-out axes p e)));
       }
 
+-- through the scratch that the chain left, which is enough, that stays as it is
+pub backwards-scratch : {r : ℕ} {ds c xs ss : List ℕ} {a a′ : Answer} {ys ts zs us : List ℕ} → length ds ≡ r → ChainPromise r ds c xs ss a ys ts
+    → ChainPromise r (a .lens) (reverse c) ys ts a′ zs us → a .number ≡ 0 → Restored ds xs a′ zs × (us ≡ ts)
+backwards-scratch axes p q e =
+    let home = backwards axes p q e (omega (arith, as-long axes p e, ran axes p e .room)) in
+    (home, scratch-back axes p e (q .block .zeroed (home .accepts)))
+
 -- an order that one call answers, asked for in another, means the same layout, where its plan is one of at most six swaps
 module _ {r : ℕ} {ds c xs ss ss′ : List ℕ} {a a′ : Answer} {ys ts zs us : List ℕ} (axes : length ds ≡ r) (six : planPlaces r ≤ 6)
-    (p : ChainPromise r ds c xs ss a ys ts) (q : RequestPromise r ds (a .order) xs ss′ a′ zs us) (e : a .number ≡ 0) (room : need ds ≤ length ss′) where
+    (p : ChainPromise r ds c xs ss a ys ts) (q : RequestPromise r ds (a .order) xs ss′ a′ zs us) (e : a .number ≡ 0) (room : planNeed r ds (a .order) ≤ length ss′) where
   low : a .order < orderCount r
   low = rw (ap (λ (b : Answer). b .order) (p .given e)) (number-below r c)
 
   asked-accepted : a′ .number ≡ 0
   asked-accepted =
-      let block : BlockAccepted ds xs ss′ = block-through (ran axes p e .block) room in
-      let few : Silent (planChecks r (a .order)) =
+      let need = check 4 (shortScratch (planNeed r ds (a .order)) ss′) ∷ [] in
+      let few : Silent (planChecks r (a .order) ++ need) =
       Silent.more (le-ltb (orderCount r - 1) (a .order) (omega (arith, low)))
-      (Silent.more (le-ltb 6 (length (planOf (orderOf r (a .order)))) (omega (arith, plan-places r (a .order) low))) Silent.none) in
-      q .block .number-is ∙ by-last ds xs ss′ (planChecks r (a .order)) (sym (block-zero block)) refl ∙ silent-zero few
+      (Silent.more (le-ltb 6 (length (planOf (orderOf r (a .order)))) (omega (arith, plan-places r (a .order) low)))
+      (Silent.more (le-ltb (length ss′) (planNeed r ds (a .order)) room) Silent.none)) in
+      q .block .number-is ∙ by-last ds xs (planChecks r (a .order) ++ need) (sym (block-zero (ran axes p e .block))) refl ∙ silent-zero few
+
+  -- scratch that was enough for the chain is enough for the request
+  pub enough-asked : planNeed r ds (a .order) ≤ chainNeed ds c
+  enough-asked = rw (new-order axes p e) (plan-least ds c axes)
 
   pub one-meaning : (a′ .number ≡ 0) × Alike a a′ ys zs
   one-meaning = (
@@ -199,12 +249,12 @@ module _ {r : ℕ} {ds xs ss : List ℕ} {k : ℕ} {plan : Planned} {a a′ : An
   plan-leaves c = request-once axes q (request-of-chain p z c)
 
   -- and answer and words also where each has its own scratch, both enough
-  pub plan-leaves-words : {ss′ : List ℕ} → ChainPromise r ds (take (plan .len) (plan .swaps)) xs ss′ a′ zs us → need ds ≤ length ss
-      → need ds ≤ length ss′ → (a ≡ a′) × (ys ≡ zs)
+  pub plan-leaves-words : {ss′ : List ℕ} → ChainPromise r ds (take (plan .len) (plan .swaps)) xs ss′ a′ zs us → planNeed r ds k ≤ length ss
+      → planNeed r ds k ≤ length ss′ → (a ≡ a′) × (ys ≡ zs)
   plan-leaves-words {ss′} c h h′ =
       let d = request-of-chain p z c in
       let same : firstOf (requestChecks r ds xs ss′ k) ≡ firstOf (requestChecks r ds xs ss k) =
-      rw (le-ltb (length ss) (need ds) h, le-ltb (length ss′) (need ds) h′) in
+      rw (le-ltb (length ss) (planNeed r ds k) h, le-ltb (length ss′) (planNeed r ds k) h′) in
       let (vs, block) = other-scratch ss same (d .block) in
       let one = request-once axes q (record { block = block; given = d .given; refusal = d .refusal }) in
       (one .0, one .1)

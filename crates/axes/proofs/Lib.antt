@@ -12,5 +12,5 @@ pub mod PlanSteps
 pub mod Calls
 -- any two outcomes that a promise allows coincide: chain-once, request-once, plan-once
 pub mod OneOutcome
--- demand 3: chains-join, one-order, backwards, one-meaning, plan-leaves
+-- demand 3: chains-join, one-order, backwards, one-meaning, plan-leaves; chains-join-scratch and backwards-scratch through one scratch
 pub mod Demands

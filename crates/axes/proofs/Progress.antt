@@ -1,86 +1,92 @@
 -- A chain that is followed swap by swap: what stands after i of its swaps, from one swap to the next, and what is promised once all are
--- made and scratch is cleared.
+-- made. Each swap clears the scratch that it used, so that what the swaps so far need is zero.
 use mathlib.Core.Path.{_≡_, refl, sym, ap, ap₂, _∙_, subst}
-use mathlib.Core.List.{List, [], _++_}
-use Prim.Native.Nat.{ℕ, _+_, _<_}
+use mathlib.Core.List.{List, []}
+use Prim.Native.Nat.{ℕ, _+_, _<_, _≤_, max}
 use native.Mathlib.Omega.{arith}
-use lib.ListN.{length, getD, take, drop, replicate}
+use lib.ListN.{length, getD, take}
 use lib.Seq.{take-length}
-use borrow.Author.Tests.{le-ltb}
 use Rattle.lists.specs.Tab.{upto}
 use Rattle.layout.specs.Layout.{Laid}
 use Rattle.orders.specs.Chains.{exchange, follow, named}
 use Rattle.orders.specs.Numbers.{orderOf, numberOf}
+use Rattle.orders.specs.Needs.{exchanged, chainNeed}
 use Rattle.orders.proofs.Chains.{follow-more, named-more, pick-named}
 use Rattle.orders.proofs.Distinct.{count-pos, first-order}
 use Rattle.orders.proofs.Numbers.{order-number, number-order}
+use Rattle.orders.proofs.Needs.{need-more, need-part}
 use Rattle.refusals.specs.FirstOf.{firstOf}
-use Rattle.refusals.specs.Calls.{passesChecks}
-use Rattle.refusals.specs.Scratch.{need, cleared}
-use Rattle.refusals.proofs.Scratch.{need-follow}
-use Rattle.passes.specs.Promises.{ClearPromise}
+use Rattle.refusals.specs.Calls.{blockChecks}
+use Rattle.refusals.specs.Scratch.{cleared}
+use Rattle.refusals.proofs.Scratch.{cleared-length, cleared-twice}
 use Rattle.axes.specs.Answers.{accepted}
 use Rattle.axes.specs.Promises.{ChainPromise}
-use Rattle.axes.proofs.Accepted.{ChainAccepted, block-zero, block-room, block-after, chain-zero}
+use Rattle.axes.proofs.Accepted.{ChainAccepted, block-zero, block-after, chain-zero}
 use Rattle.axes.proofs.Steps.{laid-itself, one-more}
 
--- after i swaps of a chain: the words, the lengths and the order number are those of the swaps made, and scratch past what the block needs is as it was
+-- after i swaps of a chain: the words, the lengths, the order number and scratch are those of the swaps made
 pub record Progress (r : ℕ) (ds chain xs ss : List ℕ) (i : ℕ) (ys ts lens : List ℕ) (order : ℕ) : Type 0 where
   pub words : Laid ds (named r (take i chain)) xs ys
   pub shape : lens ≡ follow ds (take i chain)
   pub number : order ≡ numberOf r (named r (take i chain))
-  pub room : length ts ≡ length ss
-  pub rest : drop (need ds) ts ≡ drop (need ds) ss
+  pub room : ts ≡ cleared (chainNeed ds (take i chain)) ss
 
 module _ {r : ℕ} (ds : List ℕ) (axes : length ds ≡ r) (chain xs ss : List ℕ) where
   pub begin : Progress r ds chain xs ss 0 xs ss ds 0
-  unfolding follow named
+  unfolding follow named chainNeed
   begin = record {
     words = subst (λ (n : ℕ). Laid ds (named n []) xs xs) axes (laid-itself ds xs);
     shape = refl;
     number = sym (ap (numberOf r) (sym (first-order r)) ∙ number-order r 0 (count-pos r));
     room = refl;
-    rest = refl;
   }
 
   module _ {i : ℕ} {ys ts lens : List ℕ} {order : ℕ} (p : Progress r ds chain xs ss i ys ts lens order) where
-    need-so-far : need lens ≡ need ds
-    need-so-far = ap need (p .shape) ∙ need-follow ds (take i chain)
+    -- the swaps made need no more than the chain, and so does the next
+    few : i < length chain → max (chainNeed ds (take i chain)) (exchanged (getD chain i 0) (follow ds (take i chain))) ≤ chainNeed ds chain
+    few h = rw (← need-more ds chain i h) (need-part ds chain (i + 1))
 
-    -- the block still passes its checks
-    pub still-accepted : ChainAccepted r ds xs ss chain → firstOf (passesChecks lens ys ts) ≡ 0
+    as-long : ChainAccepted r ds xs ss chain → i < length chain → length ts ≡ length ss
+    as-long a h = ap length (p .room) ∙ cleared-length ss (need-part ds chain i) (a .room)
+
+    -- the block still passes its checks, and scratch has room for the next swap
+    pub still-accepted : ChainAccepted r ds xs ss chain → firstOf (blockChecks lens ys) ≡ 0
     still-accepted a =
-        ap (λ (l : List ℕ). firstOf (passesChecks l ys ts)) (p .shape)
-        ∙ block-zero {xs = ys} {ss = ts} (block-after (a .block) (take i chain) (p .words .same) (omega (arith, p .room, block-room (a .block))))
+        ap (λ (l : List ℕ). firstOf (blockChecks l ys)) (p .shape) ∙ block-zero {xs = ys} (block-after (a .block) (take i chain) (p .words .same))
 
-    pub one-swap : i < length chain → {zs us lens′ : List ℕ} {order′ : ℕ} → Laid lens (exchange (getD chain i 0) (upto r)) ys zs
-        → length us ≡ length ts → drop (need lens) us ≡ drop (need lens) ts → lens′ ≡ exchange (getD chain i 0) lens
-        → order′ ≡ numberOf r (exchange (getD chain i 0) (orderOf r order)) → Progress r ds chain xs ss (i + 1) zs us lens′ order′
-    one-swap h {zs} {us} f l d s o =
-        let k = getD chain i 0 in record {
+    pub still-room : ChainAccepted r ds xs ss chain → i < length chain → exchanged (getD chain i 0) lens ≤ length ts
+    still-room a h = rw (p .shape) (omega (arith, few h, a .room, as-long a h))
+
+    pub one-swap : ChainAccepted r ds xs ss chain → i < length chain → {zs us lens′ : List ℕ} {order′ : ℕ}
+        → Laid lens (exchange (getD chain i 0) (upto r)) ys zs → us ≡ cleared (exchanged (getD chain i 0) lens) ts
+        → lens′ ≡ exchange (getD chain i 0) lens → order′ ≡ numberOf r (exchange (getD chain i 0) (orderOf r order))
+        → Progress r ds chain xs ss (i + 1) zs us lens′ order′
+    one-swap a h {zs} {us} f u s o =
+        let k = getD chain i 0 in
+        let v = exchanged k (follow ds (take i chain)) in
+        record {
           words = one-more ds axes chain i h (p .words) (subst (λ (e : List ℕ). Laid e (exchange k (upto r)) ys zs) (p .shape) f);
           shape = s ∙ ap (exchange k) (p .shape) ∙ sym (follow-more ds chain i h);
           number = o
               ∙ ap (λ (j : ℕ). numberOf r (exchange k (orderOf r j))) (p .number)
               ∙ ap (λ (l : List ℕ). numberOf r (exchange k l)) (order-number r (take i chain))
               ∙ ap (numberOf r) (sym (named-more r chain i h));
-          room = l ∙ p .room;
-          rest = subst (λ (v : ℕ). drop v us ≡ drop v ts) need-so-far d ∙ p .rest;
+          room = u
+              ∙ ap₂ (λ (l t : List ℕ). cleared (exchanged k l) t) (p .shape) (p .room)
+              ∙ cleared-twice v (chainNeed ds (take i chain)) ss (omega (arith, few h, a .room))
+              ∙ ap (λ (w : ℕ). cleared w ss) (sym (need-more ds chain i h));
         }
 
-    -- all swaps made, scratch cleared
-    pub finished : i ≡ length chain → ChainAccepted r ds xs ss chain → {number v : ℕ} {us : List ℕ} → v ≡ need ds → ClearPromise v ts number us
-        → ChainPromise r ds chain xs ss (record { number = 0; place = 0; lens = lens; order = order; swaps = length chain }) ys us
-    finished e a {number} {v} {us} d q =
+    -- all swaps made
+    pub finished : i ≡ length chain → ChainAccepted r ds xs ss chain
+        → ChainPromise r ds chain xs ss (record { number = 0; place = 0; lens = lens; order = order; swaps = length chain }) ys ts
+    finished e a =
         let all : take i chain ≡ chain = ap (λ (j : ℕ). take j chain) e ∙ take-length chain in
-        let fits = block-room (a .block) in
-        let zero-is : number ≡ 0 = q .number-is ∙ rw (le-ltb (length ts) v (omega (arith, p .room))) in
         record {
           block = record {
             number-is = sym (chain-zero a);
             words = λ _. subst (λ (c : List ℕ). Laid ds (named r c) xs ys) all (p .words);
-            zeroed = λ _.
-                q .zeroed zero-is ∙ ap (λ (w : ℕ). cleared w ts) d ∙ ap (λ (t : List ℕ). replicate (need ds) 0 ++ t) (p .rest);
+            zeroed = λ _. p .room ∙ ap (λ (c : List ℕ). cleared (chainNeed ds c) ss) all;
             kept = λ n. absurd (n refl);
           };
           given = λ _.

@@ -1,5 +1,5 @@
 -- One swap of a chain. Of a block that is accepted the two axes, the axes before them and the axes after them are a block that the adjacent swap
--- accepts, and what it makes of it is the swap of the whole shape; scratch past what the block needs stays as it is. Then one swap more.
+-- accepts, and what it makes of it is the swap of the whole shape; it clears as much scratch as the longer axis is long. Then one swap more.
 use mathlib.Core.Path.{_≡_, refl, sym, ap, _∙_, subst₂}
 use mathlib.Core.Bool.{false, _||_}
 use mathlib.Core.List.{List, [], _∷_, _++_}
@@ -17,21 +17,22 @@ use Rattle.layout.specs.Layout.{volume, pick, Laid}
 use Rattle.layout.proofs.Offsets.{within-length}
 use Rattle.layout.proofs.Picks.{pick-upto}
 use Rattle.orders.specs.Chains.{exchange, follow, named}
+use Rattle.orders.specs.Needs.{exchanged}
 use Rattle.orders.proofs.Chains.{pick-named}
 use Rattle.flat.specs.Turn.{sides}
 use Rattle.refusals.specs.FirstOf.{firstOf}
 use Rattle.refusals.specs.Conditions.{outOfRange, badLength, tooManyWords, shortBuffer, shortScratch}
-use Rattle.refusals.specs.Scratch.{need}
+use Rattle.refusals.specs.Scratch.{need, cleared}
 use Rattle.refusals.proofs.FirstOf.{Silent, silent-zero}
 use Rattle.refusals.proofs.Some.{none-at}
 use Rattle.refusals.proofs.Conditions.{length-at}
-use Rattle.refusals.proofs.Scratch.{need-two, cleared-length, cleared-past}
+use Rattle.refusals.proofs.Scratch.{need-swap}
 use Rattle.refusals.proofs.FirstOf.Silent.{none, more}
 use Rattle.checks.specs.Words.{capped}
 use Rattle.checks.proofs.Capped.{capped-few}
 use Rattle.passes.specs.Promises.{swapBlock, middle, swapChecks, SwapPromise}
 use Rattle.axes.proofs.Grouped.{grouped-volume, regrouped, one-swap-more}
-use Rattle.axes.proofs.Accepted.{BlockAccepted, block-room}
+use Rattle.axes.proofs.Accepted.{BlockAccepted}
 
 -- a list with places k and k + 1, in parts
 cut : (k : ℕ) (l : List ℕ) → suc k < length l → take k l ++ (getD l k 0 ∷ getD l (suc k) 0 ∷ drop (suc (suc k)) l) ≡ l
@@ -62,7 +63,7 @@ le-mul a (suc b) h = omega arith
 le-mul a zero h = absurd (not-suc-le-zero h)
 
 -- a block that is accepted, with neighbouring axes at places k and k + 1
-module _ {r : ℕ} (ds : List ℕ) (axes : length ds ≡ r) (k : ℕ) (h : k + 1 < r) {xs ss : List ℕ} (s : BlockAccepted ds xs ss) where
+module _ {r : ℕ} (ds : List ℕ) (axes : length ds ≡ r) (k : ℕ) (h : k + 1 < r) {xs : List ℕ} (s : BlockAccepted ds xs) where
   outer : ℕ
   outer = volume (take k ds)
 
@@ -112,14 +113,14 @@ module _ {r : ℕ} (ds : List ℕ) (axes : length ds ≡ r) (k : ℕ) (h : k + 1
       rw (mul-one chunk, ← mul-assoc m n chunk, ← mul-assoc outer (m * n) chunk, mul-comm (outer * (m * n)) chunk) in
       capped-few chunk (omega (arith, le-mul chunk (outer * (m * n)) before, in-all, few))
 
-  swap-need : need (sides m n) ≤ need ds
+  swap-need : need (sides m n) ≡ exchanged k ds
   unfolding m n
-  swap-need = need-two ds k (k + 1) (omega arith) (omega arith)
+  swap-need = sym (need-swap ds k (omega arith))
 
   -- the adjacent swap accepts it
-  swap-accepted : firstOf (swapChecks outer m n chunk xs ss) ≡ 0
+  swap-accepted : (ss : List ℕ) → exchanged k ds ≤ length ss → firstOf (swapChecks outer m n chunk xs ss) ≡ 0
   unfolding outer chunk m n
-  swap-accepted =
+  swap-accepted ss room =
       let lengths : (badLength (sides m n) || (eqb outer 0 || eqb chunk 0)) ≡ false =
       rw (
         none-at outOfRange ds (s .lengths) k (omega arith),
@@ -129,7 +130,7 @@ module _ {r : ℕ} (ds : List ℕ) (axes : length ds ≡ r) (k : ℕ) (h : k + 1
       ) in
       let words : tooManyWords (swapBlock outer m n chunk) ≡ false = ap (ltb 1048576) swap-volume ∙ s .words in
       let buffer : shortBuffer (swapBlock outer m n chunk) xs ≡ false = ap (ltb (length xs)) swap-volume ∙ s .buffer in
-      let scratch : shortScratch (need (sides m n)) ss ≡ false = le-ltb (length ss) (need (sides m n)) (omega (arith, swap-need, block-room s)) in
+      let scratch : shortScratch (need (sides m n)) ss ≡ false = le-ltb (length ss) (need (sides m n)) (omega (arith, swap-need)) in
       let silent : Silent (swapChecks outer m n chunk xs ss) = more lengths (more words (more buffer (more scratch none))) in
       silent-zero silent
 
@@ -145,22 +146,16 @@ module _ {r : ℕ} (ds : List ℕ) (axes : length ds ≡ r) (k : ℕ) (h : k + 1
       (regrouped (take k ds) m n (drop (k + 2) ds) f) in
       rw axes at whole
 
-  -- what the adjacent swap leaves, told the words before and after the two axes: the words of the swapped shape, and scratch past what
-  -- the block needs as it was
-  pub swap-leaves : {before after number : ℕ} {ys ts : List ℕ} → before ≡ capped (volume (take k ds)) → after ≡ capped (volume (drop (k + 2) ds))
-      → SwapPromise before (getD ds k 0) (getD ds (k + 1) 0) after xs ss number ys ts
-      → Laid ds (exchange k (upto r)) xs ys × ((length ts ≡ length ss) × (drop (need ds) ts ≡ drop (need ds) ss))
+  -- what the adjacent swap leaves, told the words before and after the two axes: the words of the swapped shape, and scratch cleared
+  pub swap-leaves : (ss : List ℕ) → exchanged k ds ≤ length ss → {before after number : ℕ} {ys ts : List ℕ} → before ≡ capped (volume (take k ds))
+      → after ≡ capped (volume (drop (k + 2) ds)) → SwapPromise before (getD ds k 0) (getD ds (k + 1) 0) after xs ss number ys ts
+      → Laid ds (exchange k (upto r)) xs ys × (ts ≡ cleared (exchanged k ds) ss)
   unfolding outer chunk m n
-  swap-leaves {number = number} {ys = ys} {ts = ts} e d p =
+  swap-leaves ss room {number = number} {ys = ys} {ts = ts} e d p =
       let q : SwapPromise outer m n chunk xs ss number ys ts =
       subst₂ (λ (a b : ℕ). SwapPromise a m n b xs ss number ys ts) (e ∙ outer-few) (d ∙ chunk-few) p in
-      let zero-is : number ≡ 0 = q .number-is ∙ swap-accepted in (
-        swap-laid (q .words zero-is),
-        (
-          ap length (q .zeroed zero-is) ∙ cleared-length ss swap-need (block-room s),
-          ap (drop (need ds)) (q .zeroed zero-is) ∙ cleared-past ss swap-need (block-room s),
-        ),
-      )
+      let zero-is : number ≡ 0 = q .number-is ∙ swap-accepted ss room in
+      (swap-laid (q .words zero-is), q .zeroed zero-is ∙ ap (λ (w : ℕ). cleared w ss) swap-need)
 
 -- an empty chain
 pub laid-itself : (ds xs : List ℕ) → Laid ds (named (length ds) []) xs xs

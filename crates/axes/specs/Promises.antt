@@ -7,9 +7,9 @@ use Rattle.layout.specs.Layout.{pick, Laid}
 use Rattle.orders.specs.Chains.{named}
 use Rattle.orders.specs.Numbers.{orderOf, numberOf}
 use Rattle.orders.specs.Plans.{planOf}
+use Rattle.orders.specs.Needs.{chainNeed, planNeed}
 use Rattle.refusals.specs.FirstOf.{firstOf}
 use Rattle.refusals.specs.Calls.{chainChecks, requestChecks, planChecks}
-use Rattle.refusals.specs.Scratch.{need}
 use Rattle.refusals.specs.Promise.{Rearranged}
 use Rattle.axes.specs.declared.Answer.{Answer}
 use Rattle.axes.specs.declared.Planned.{Planned}
@@ -17,13 +17,13 @@ use Rattle.axes.specs.Answers.{accepted, refused, refusedPlace, plannedA
 
 -- a chain of swaps on a block with lengths ds: the words are laid out afresh under the order that the chain names
 pub record ChainPromise (r : ℕ) (ds chain buffer₀ scratch₀ : List ℕ) (a : Answer) (buffer scratch : List ℕ) : Type 0 where
-  pub block : Rearranged (chainChecks r ds buffer₀ scratch₀ chain) (need ds) (Laid ds (named r chain) buffer₀) buffer₀ scratch₀ (a .number) buffer scratch
+  pub block : Rearranged (chainChecks r ds buffer₀ scratch₀ chain) (chainNeed ds chain) (Laid ds (named r chain) buffer₀) buffer₀ scratch₀ (a .number) buffer scratch
   pub given : a .number ≡ 0 → a ≡ accepted (pick (named r chain) ds) (numberOf r (named r chain)) (length chain)
   pub refusal : (a .number ≡ 0 → ⊥) → a ≡ refused r (a .number) (refusedPlace r (a .number) chain)
 
 -- the direct request for an order: the answer is a chain's, with the number asked for and the length of its plan
 pub record RequestPromise (r : ℕ) (ds : List ℕ) (order : ℕ) (buffer₀ scratch₀ : List ℕ) (a : Answer) (buffer scratch : List ℕ) : Type 0 where
-  pub block : Rearranged (requestChecks r ds buffer₀ scratch₀ order) (need ds) (Laid ds (orderOf r order) buffer₀) buffer₀ scratch₀ (a .number) buffer scratch
+  pub block : Rearranged (requestChecks r ds buffer₀ scratch₀ order) (planNeed r ds order) (Laid ds (orderOf r order) buffer₀) buffer₀ scratch₀ (a .number) buffer scratch
   pub given : a .number ≡ 0 → a ≡ accepted (pick (orderOf r order) ds) order (length (planOf (orderOf r order)))
   pub refusal : (a .number ≡ 0 → ⊥) → a ≡ refused r (a .number) 0
 

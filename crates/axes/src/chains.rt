@@ -3,41 +3,44 @@ use crate::Answer;
 use crate::Shape;
 use crate::tables;
 ghost use mathlib.Core.Path.{_≡_};
-ghost use Prim.Native.Nat.{_<_};
-ghost use lib.ListN.{length, drop};
 ghost use Rattle.lists.specs.Tab.{upto};
 ghost use Rattle.layout.specs.Layout.{Laid};
 ghost use Rattle.orders.specs.Chains.{exchange};
+ghost use Rattle.orders.specs.Needs.{exchanged};
 ghost use Rattle.refusals.specs.FirstOf.{firstOf};
-ghost use Rattle.refusals.specs.Calls.{passesChecks, chainChecks};
-ghost use Rattle.refusals.specs.Scratch.{need};
+ghost use Rattle.refusals.specs.Calls.{chainChecks};
+ghost use Rattle.refusals.specs.Scratch.{cleared};
 ghost use Rattle.axes.specs.Promises.{ChainPromise};
+ghost use Rattle.axes.specs.OneSwap.{SwapAccepted};
 
-// The first of the checks 1 to 6.
+// The first of the checks 1, 2, 3, 5, 6, 4.
 pub(crate) fn chain_number(lens: &[usize], buf: &[u32], scratch: &[u32], swaps: &[usize]) -> u32
     ensures { λ r. ⌜ r ≡ firstOf (chainChecks 4 (now (lens .entry)) (now (buf .entry)) (now (scratch .entry)) (now (swaps .entry))) ⌝ }
 {
-    let number = checks::passes_number(lens, buf, scratch);
+    let number = checks::block_number(lens, buf);
     if number != 0 {
         return number;
     }
     let count = swaps.len();
-    let bad = checks::first_above(swaps, 2);
     if count > 32 {
         return 5;
     }
+    let bad = checks::first_above(swaps, 2);
     if bad < count {
         return 6;
+    }
+    let need = checks::need_of(lens, swaps);
+    if scratch.len() < need {
+        return 4;
     }
     0
 }
 
-// Swap k of a block: the axes before place k, the two axes and the axes after them.
+// Swap k of a block: the axes before place k, the two axes and the axes after them. It leaves as many zeros in scratch as the longer axis is long.
 fn swap_at(buf: &mut [u32], scratch: &mut [u32], shape: Shape, k: usize)
-    requires { ⌜ (k < 3) × (firstOf (passesChecks (shape .lens) (now buf) (now scratch)) ≡ 0) ⌝ }
+    requires { ⌜ SwapAccepted k (shape .lens) (now buf) (now scratch) ⌝ }
     ensures { λ _. ⌜ Laid (shape .lens) (exchange k (upto 4)) (now (buf .entry)) (now (buf .exit)) ⌝ }
-    ensures { λ _. ⌜ length (now (scratch .exit)) ≡ length (now (scratch .entry)) ⌝ }
-    ensures { λ _. ⌜ drop (need (shape .lens)) (now (scratch .exit)) ≡ drop (need (shape .lens)) (now (scratch .entry)) ⌝ }
+    ensures { λ _. ⌜ now (scratch .exit) ≡ cleared (exchanged k (shape .lens)) (now (scratch .entry)) ⌝ }
 {
     let lens = shape.lens;
     let outer = checks::words_of(&lens[..k]);
@@ -47,12 +50,11 @@ fn swap_at(buf: &mut [u32], scratch: &mut [u32], shape: Shape, k: usize)
     passes::swap(buf, scratch, outer, m, n, chunk);
 }
 
-// An accepted chain, swap by swap; then scratch is cleared.
+// An accepted chain, swap by swap; each swap clears the scratch that it used.
 pub(crate) fn run(buf: &mut [u32], scratch: &mut [u32], shape: Shape, swaps: &[usize]) -> Answer
     requires { ⌜ firstOf (chainChecks 4 (shape .lens) (now buf) (now scratch) (now swaps)) ≡ 0 ⌝ }
     ensures { λ r. ⌜ ChainPromise 4 (shape .lens) (now (swaps .entry)) (now (buf .entry)) (now (scratch .entry)) r (now (buf .exit)) (now (scratch .exit)) ⌝ }
 {
-    let lens = shape.lens;
     let mut stands = shape;
     let mut order = 0;
     for i in 0..swaps.len() {
@@ -61,8 +63,6 @@ pub(crate) fn run(buf: &mut [u32], scratch: &mut [u32], shape: Shape, swaps: &[u
         stands = stands.swapped(k);
         order = tables::next_order(order, k);
     }
-    let need = checks::longest_of(&lens);
-    passes::clear(scratch, need);
     let last = stands.lens;
     Answer {
         number: 0,

@@ -87,7 +87,7 @@ fn refusal(number: u32, place: usize) -> Answer
     }
 }
 
-// A chain of swaps on a block, through scratch as long as its longest axis: 0, or 1 to 6.
+// A chain of swaps on a block, through scratch as long as the longest axis that it exchanges: 0, or 1, 2, 3, 5, 6, 4.
 pub fn chain(buf: &mut [u32], scratch: &mut [u32], shape: Shape, swaps: &[usize]) -> Answer
     ensures { λ r. ⌜ ChainPromise 4 (shape .lens) (now (swaps .entry)) (now (buf .entry)) (now (scratch .entry)) r (now (buf .exit)) (now (scratch .exit)) ⌝ }
 {
@@ -103,12 +103,12 @@ pub fn chain(buf: &mut [u32], scratch: &mut [u32], shape: Shape, swaps: &[usize]
     chains::run(buf, scratch, shape, swaps)
 }
 
-// The direct request for an order by its number, which runs its plan: 0, or 1, 2, 3, 4, 7, 8.
+// The direct request for an order by its number, which runs its plan and needs what its plan needs: 0, or 1, 2, 3, 7, 8, 4.
 pub fn request(buf: &mut [u32], scratch: &mut [u32], shape: Shape, order: usize) -> Answer
     ensures { λ r. ⌜ RequestPromise 4 (shape .lens) order (now (buf .entry)) (now (scratch .entry)) r (now (buf .exit)) (now (scratch .exit)) ⌝ }
 {
     let lens = shape.lens;
-    let number = checks::passes_number(&lens, buf, scratch);
+    let number = checks::block_number(&lens, buf);
     if number != 0 {
         return refusal(number, 0);
     }
@@ -118,5 +118,5 @@ pub fn request(buf: &mut [u32], scratch: &mut [u32], shape: Shape, order: usize)
     }
     let swaps = planned.swaps;
     let count = planned.len;
-    chains::run(buf, scratch, shape, &swaps[..count])
+    chain(buf, scratch, shape, &swaps[..count])
 }

@@ -3,6 +3,7 @@ ghost use mathlib.Core.Path.{_≡_};
 ghost use Prim.Native.Nat.{_*_, _≤_, max};
 ghost use lib.Dec.{ltb};
 ghost use Rattle.layout.specs.Layout.{volume};
+ghost use Rattle.orders.specs.Needs.{exchanged, chainNeed};
 ghost use Rattle.refusals.specs.FirstOf.{firstOf};
 ghost use Rattle.refusals.specs.Conditions.{outOfRange, badLength, longest, firstPlace};
 ghost use Rattle.refusals.specs.Calls.{sizeChecks, blockChecks, passesChecks};
@@ -80,6 +81,32 @@ pub fn longest_of(lens: &[usize]) -> usize
     most
 }
 
+// The longer of the two axes that swap k exchanges; 0 where there are no such places.
+fn exchanged_by(lens: &[usize], k: usize) -> usize
+    ensures { λ r. ⌜ r ≡ exchanged k (now (lens .entry)) ⌝ }
+{
+    let count = lens.len();
+    if count <= k {
+        return 0;
+    }
+    if count <= k + 1 {
+        return 0;
+    }
+    longer(lens[k], lens[k + 1])
+}
+
+// The need of a chain: the longest axis that its swaps exchange. An axis stays at its entry place until a swap counts it, so the entry lengths tell.
+pub fn need_of(lens: &[usize], swaps: &[usize]) -> usize
+    ensures { λ r. ⌜ r ≡ chainNeed (now (lens .entry)) (now (swaps .entry)) ⌝ }
+{
+    let mut most = 0;
+    for i in 0..swaps.len() {
+        let pair = exchanged_by(lens, swaps[i]);
+        most = longer(most, pair);
+    }
+    most
+}
+
 // The place of the first number above the last one allowed; the count of numbers where there is none.
 pub fn first_above(numbers: &[usize], last: usize) -> usize
     ensures { λ r. ⌜ r ≡ firstPlace (ltb last) (now (numbers .entry)) ⌝ }
@@ -121,7 +148,7 @@ pub fn block_number(lens: &[usize], buf: &[u32]) -> u32
     0
 }
 
-// The first of the checks 1 to 4 of a block in a buffer, turned through scratch, that holds, else 0.
+// The first of the checks 1 to 4 of a flat block in a buffer, turned through scratch, that holds, else 0.
 pub fn passes_number(lens: &[usize], buf: &[u32], scratch: &[u32]) -> u32
     ensures { λ r. ⌜ r ≡ firstOf (passesChecks (now (lens .entry)) (now (buf .entry)) (now (scratch .entry))) ⌝ }
 {

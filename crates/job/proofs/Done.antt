@@ -1,6 +1,6 @@
 -- The promise of the whole job. A refused sheet: its line always fits. A right sheet: neither the chain nor the writer can refuse it, since
--- the block has at most 1,024 words, no axis is longer than that, and 16,384 bytes suffice for its result sheet; the words are the
--- computed layout, since two layouts of one order are equal.
+-- the block has at most 1,024 words, no chain needs more than its longest axis, no axis is longer than that, and 16,384 bytes suffice for
+-- its result sheet; the words are the computed layout, since two layouts of one order are equal.
 use mathlib.Core.Path.{_≡_, ap, _∙_}
 use mathlib.Core.Bool.{false}
 use mathlib.Core.List.{List, [], _∷_, _++_}
@@ -15,10 +15,11 @@ use Rattle.orders.specs.Numbers.{numberOf}
 use Rattle.orders.proofs.Chains.{pick-named, length-named}
 use Rattle.orders.proofs.Layouts.{chain-volume, chain-once, chain-laid}
 use Rattle.orders.proofs.Numbers.{number-below}
-use Rattle.refusals.specs.Conditions.{badLength, longest}
+use Rattle.refusals.specs.Conditions.{badLength}
+use Rattle.refusals.proofs.Scratch.{chain-few}
 use Rattle.axes.specs.declared.Answer.{Answer}
 use Rattle.axes.specs.Promises.{ChainPromise}
-use Rattle.axes.proofs.Accepted.{ChainAccepted, chain-zero, block-after, block-room}
+use Rattle.axes.proofs.Accepted.{ChainAccepted, chain-zero, block-after}
 use Rattle.text.specs.Sheet.{refusalText, resultText}
 use Rattle.text.specs.Meaning.{Outcome, meaning}
 use Rattle.text.proofs.Length.{fields-few, result-fits}
@@ -75,10 +76,10 @@ module _ {bytes words scratch out : List ℕ} {r : Sheet} {words₁ ws : List �
       lengths = t .right .lengths;
       words = le-ltb 1048576 (volume ds) (omega (arith, t .right .few-words));
       buffer = le-ltb (length words₁) (volume ds) (omega (arith, same, t .right .few-words));
-      scratch = le-ltb (length scratch) (longest ds) (omega (arith, longest-le-volume ds (t .right .lengths), t .right .few-words));
     };
     short = le-ltb 32 (length (swapsOf r)) (t .right .few-swaps);
     swaps = t .right .swaps;
+    room = omega (arith, chain-few ds (swapsOf r), longest-le-volume ds (t .right .lengths), t .right .few-words);
   }
 
   -- the chain is never refused
@@ -99,7 +100,7 @@ module _ {bytes words scratch out : List ℕ} {r : Sheet} {words₁ ws : List �
 
   good-lengths : badLength (pick order ds) ≡ false
   good-lengths =
-      ap badLength (pick-named ds (swapsOf r) (t .right .axes)) ∙ block-after (runs .block) (swapsOf r) {ys = words₂} {ts = scratch} (laid-out .same) (block-room (runs .block)) .lengths
+      ap badLength (pick-named ds (swapsOf r) (t .right .axes)) ∙ block-after (runs .block) (swapsOf r) {ys = words₂} (laid-out .same) .lengths
 
   few : volume (pick order ds) ≤ 1024
   few = omega (arith, chain-volume ds (t .right .axes) (swapsOf r), t .right .few-words)

@@ -6,7 +6,8 @@ use lib.ListN.{length, drop}
 use Rattle.layout.specs.Layout.{pick, laid}
 use Rattle.orders.specs.Chains.{named}
 use Rattle.orders.specs.Numbers.{numberOf}
-use Rattle.refusals.specs.Scratch.{need, cleared}
+use Rattle.orders.specs.Needs.{chainNeed}
+use Rattle.refusals.specs.Scratch.{cleared}
 use Rattle.text.specs.Sheet.{resultText, refusalText}
 use Rattle.text.specs.Meaning.{Outcome, meaning}
 use Rattle.sheet.specs.Reader.{kept}
@@ -17,10 +18,10 @@ abbrev pub jobWords : Outcome → List ℕ → List ℕ
 jobWords (Outcome.refused number place) words = words
 jobWords (Outcome.accepted ds chain ws) words = laid ds (named 4 chain) (kept (Outcome.accepted ds chain ws) words)
 
--- scratch after the job: of a right sheet as many first words as the longest axis are zero; a refusal leaves all as it was
+-- scratch after the job: of a right sheet as many first words as its chain needs are zero; a refusal leaves all as it was
 abbrev pub jobScratch : Outcome → List ℕ → List ℕ
 jobScratch (Outcome.refused number place) scratch = scratch
-jobScratch (Outcome.accepted ds chain ws) scratch = cleared (need ds) scratch
+jobScratch (Outcome.accepted ds chain ws) scratch = cleared (chainNeed ds chain) scratch
 
 -- the text that the job gives: the result sheet, or one line: `refused`, number, place
 abbrev pub jobText : Outcome → List ℕ → List ℕ

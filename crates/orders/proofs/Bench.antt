@@ -1,10 +1,12 @@
--- What document 01 says of single orders of four axes: numbers, plans, orders that chains name. Computed, each table as one statement.
+-- What documents 01 and 02 say of single orders and chains of four axes: numbers, plans, orders that chains name, needs. Computed, each table
+-- as one statement.
 use mathlib.Core.Path.{_≡_, refl}
 use mathlib.Core.List.{[], _∷_, map}
 use Rattle.layout.specs.Layout.{placeOf}
 use Rattle.orders.specs.Chains.{exchange, follow, named}
 use Rattle.orders.specs.Numbers.{arrangements, orders, orderOf, rank, numberOf}
 use Rattle.orders.specs.Plans.{under, falling, relabelled, firstBack, planned, planOf}
+use Rattle.orders.specs.Needs.{exchanged, chainNeed}
 
 -- orders 0, 1, 2, 6, 9, 16, 18 and 23
 pub numbers-4 : map (orderOf 4) (0 ∷ 1 ∷ 2 ∷ 6 ∷ 9 ∷ 16 ∷ 18 ∷ 23 ∷ [])
@@ -23,3 +25,10 @@ pub chains-4 : map (λ c. numberOf 4 (named 4 c)) ([] ∷ (0 ∷ 1 ∷ 2 ∷ [])
     ≡ 0 ∷ 9 ∷ 18 ∷ 16 ∷ 23 ∷ []
 unfolding exchange follow named arrangements orders rank numberOf
 chains-4 = refl
+
+-- the needs of the chains 2; none; 1; 0; 2, 2; 1, 2 and 2, 1, 0 on 4,096 by 1 by 2 by 3
+pub needs-4 : map (chainNeed (4096 ∷ 1 ∷ 2 ∷ 3 ∷ []))
+    ((2 ∷ []) ∷ [] ∷ (1 ∷ []) ∷ (0 ∷ []) ∷ (2 ∷ 2 ∷ []) ∷ (1 ∷ 2 ∷ []) ∷ (2 ∷ 1 ∷ 0 ∷ []) ∷ [])
+    ≡ 3 ∷ 0 ∷ 2 ∷ 4096 ∷ 3 ∷ 3 ∷ 4096 ∷ []
+unfolding exchange exchanged chainNeed
+needs-4 = refl

@@ -101,7 +101,8 @@ module _ (r k : ℕ) (c : List ℕ) (h : suc k < r) where
   lower-first : placeOf k (named r c) ≤ placeOf (suc k) (named r c) → 0 < pairs k (suc k) (named r c)
   lower-first b = stands-before k (suc k) (named r c) (λ e. omega arith) b (omega (arith, count-named r (suc k) c h))
 
-  upper-first : placeOf (suc k) (named r c) ≤ placeOf k (named r c) → 0 < pairs (suc k) k (named r c)
+  -- a follower that stands before its label makes a pair with it
+  pub upper-first : placeOf (suc k) (named r c) ≤ placeOf k (named r c) → 0 < pairs (suc k) k (named r c)
   upper-first b = stands-before (suc k) k (named r c) (λ e. omega arith) b (omega (arith, count-named r k c (omega arith)))
 
   one-way : pairs (suc k) k (named r c) + pairs k (suc k) (named r c) ≡ 1

@@ -1,4 +1,4 @@
--- what document 01 says of single orders and plans of four axes, computed
+-- what documents 01 and 02 say of single orders, plans and needs of four axes, computed
 pub mod Bench
 -- what one swap keeps, and what its code stores
 pub mod Swaps
@@ -22,3 +22,7 @@ pub mod Falling
 pub mod Rising
 -- the computed plan is the plan, and how long it is
 pub mod Plans
+-- the need of a chain: read off the entry shape, of chains joined, of a chain run backwards
+pub mod Needs
+-- the need of a plan is the longest axis that falls, no chain of its order needs less, and the inverse order needs the same
+pub mod PlanNeeds

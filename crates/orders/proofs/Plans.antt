@@ -79,14 +79,14 @@ search-back o (suc n) =
     (search-back o n)
 
 -- the first swap of the plan
-abbrev start : List ℕ → ℕ
+abbrev pub start : List ℕ → ℕ
 start o = firstBack (length o) 0 o
 
-Starts : ℕ → List ℕ → Type 0
+unfoldable pub Starts : ℕ → List ℕ → Type 0
 Starts r o = (suc (start o) < r) × Back (start o) o
 
 -- an order with a falling pair has a label whose follower stands before it
-starts : (r : ℕ) (c : List ℕ) → 0 < falling (named r c) → Starts r (named r c)
+pub starts : (r : ℕ) (c : List ℕ) → 0 < falling (named r c) → Starts r (named r c)
 unfolding Starts
 starts r c h =
     ⊎-elim
@@ -110,7 +110,7 @@ unfallen r c h =
 
 module _ (r : ℕ) where
   -- the order that is left when the plan's first swap is taken off
-  left : (n : ℕ) (c : List ℕ) → falling (named r c) ≡ suc n → Starts r (named r c) → falling (named r (start (named r c) ∷ c)) ≡ n
+  pub left : (n : ℕ) (c : List ℕ) → falling (named r c) ≡ suc n → Starts r (named r c) → falling (named r (start (named r c) ∷ c)) ≡ n
   unfolding Starts
   left n c h s = rw (named-front r (start (named r c)) c (s .0)) (omega (arith, one-less r (start (named r c)) c (s .0) (s .1)))
 

@@ -7,10 +7,11 @@ use Prim.Native.Nat.{ℕ}
 use native.Mathlib.Omega.{arith}
 use lib.ListN.{replicate}
 use Rattle.layout.specs.Layout.{volume, at, pick, placeOf}
+use Rattle.orders.specs.Chains.{exchange}
 use Rattle.orders.specs.Numbers.{arrangements, orders, orderOf}
 use Rattle.orders.specs.Plans.{under, falling, relabelled, firstBack, planned, planOf}
+use Rattle.orders.specs.Needs.{exchanged, chainNeed}
 use Rattle.refusals.specs.FirstOf.{firstOf}
-use Rattle.refusals.specs.Conditions.{longest}
 use Rattle.refusals.specs.Calls.{requestChecks}
 use Rattle.axes.specs.declared.Answer.{Answer}
 use Rattle.axes.specs.Promises.{RequestPromise}
@@ -29,7 +30,7 @@ abbrev Leaves : Answer → List ℕ → List ℕ → Type 0
 Leaves a buffer scratch′ = RequestPromise 4 lengths 9 block scratch a buffer scratch′
 
 accepts : {a : Answer} {b s : List ℕ} → Leaves a b s → a .number ≡ 0
-unfolding volume longest arrangements orders orderOf under falling relabelled firstBack planned planOf placeOf
+unfolding volume exchange exchanged chainNeed arrangements orders orderOf under falling relabelled firstBack planned planOf placeOf
 accepts p = p .block .number-is
 
 -- one that refuses always: wherever no condition holds
@@ -39,7 +40,7 @@ refuses-always p = refuses (p .block)
 
 -- one that gives a fixed answer: right for the case, it is wrong for order 24
 pub fixed-answer : {a : Answer} {b s b′ s′ : List ℕ} → Leaves a b s → RequestPromise 4 lengths 24 block scratch a b′ s′ → ⊥
-unfolding volume longest
+unfolding volume
 fixed-answer p q = other-number (sym (accepts p) ∙ q .block .number-is) tt
 
 -- one that moves nothing; it is what one leaves that reads the order as where each axis goes, 18 for 9
@@ -66,19 +67,28 @@ tail-word-changed p = tail-changed (p .block .words (accepts p)) 6 tt tt
 
 -- scratch left as it was, and cleared one word too far
 pub scratch-left : {a : Answer} {b : List ℕ} → Leaves a b scratch → ⊥
-unfolding longest
+unfolding exchange exchanged chainNeed arrangements orders orderOf under falling relabelled firstBack planned planOf placeOf
 scratch-left p = other-list (p .block .zeroed (accepts p)) tt
 
 pub scratch-too-far : {a : Answer} {b : List ℕ} → Leaves a b (replicate 4 0) → ⊥
-unfolding longest
+unfolding exchange exchanged chainNeed arrangements orders orderOf under falling relabelled firstBack planned planOf placeOf
 scratch-too-far p = other-list (p .block .zeroed (accepts p)) tt
+
+-- scratch cleared as far as the longest axis by order 1, which exchanges two axes of length 1, and by order 0, which exchanges none
+pub zeroed-by-the-longest-axis : {a : Answer} {b : List ℕ} → RequestPromise 4 lengths 1 block scratch a b (0 ∷ 0 ∷ 0 ∷ 9 ∷ []) → ⊥
+unfolding volume exchange exchanged chainNeed arrangements orders orderOf under falling relabelled firstBack planned planOf placeOf
+zeroed-by-the-longest-axis p = other-list (p .block .zeroed (p .block .number-is)) tt
+
+pub order-0-clears-scratch : {a : Answer} {b : List ℕ} → RequestPromise 4 lengths 0 block scratch a b (0 ∷ 0 ∷ 0 ∷ 9 ∷ []) → ⊥
+unfolding volume exchange exchanged chainNeed arrangements orders orderOf under falling relabelled firstBack planned planOf placeOf
+order-0-clears-scratch p = other-list (p .block .zeroed (p .block .number-is)) tt
 
 -- order 24: a refusal that touches a word, and one that answers the number that was asked
 abbrev Refused : Answer → List ℕ → Type 0
 Refused a b = RequestPromise 4 lengths 24 block scratch a b scratch
 
 seven : {a : Answer} {b : List ℕ} → Refused a b → a .number ≡ 7
-unfolding volume longest
+unfolding volume
 seven p = p .block .number-is
 
 pub refusal-touches-a-word : {a : Answer} → Refused a (1 ∷ 1 ∷ 2 ∷ 3 ∷ 4 ∷ 5 ∷ 6 ∷ []) → ⊥
@@ -99,6 +109,19 @@ pub four-before-three : (order : ℕ) → Broken (requestChecks 4 lengths [] [] 
 unfolding volume
 four-before-three order = broken (requestChecks 4 lengths [] [] order) 4 tt
 
-pub seven-before-four : Broken (requestChecks 4 lengths block [] 24) 7
-unfolding volume longest
-seven-before-four = broken (requestChecks 4 lengths block [] 24) 7 tt
+pub four-before-seven : Broken (requestChecks 4 lengths block [] 24) 4
+unfolding volume
+four-before-seven = broken (requestChecks 4 lengths block [] 24) 4 tt
+
+-- the need of scratch: order 0 asks for some, order 1 asks for as much as the longest axis, order 9 for none
+pub order-0-asks-for-scratch : Broken (requestChecks 4 lengths block [] 0) 4
+unfolding volume exchange exchanged chainNeed arrangements orders orderOf under falling relabelled firstBack planned planOf placeOf
+order-0-asks-for-scratch = broken (requestChecks 4 lengths block [] 0) 4 tt
+
+pub longest-axis-asked-for : Broken (requestChecks 4 lengths block (9 ∷ []) 1) 4
+unfolding volume exchange exchanged chainNeed arrangements orders orderOf under falling relabelled firstBack planned planOf placeOf
+longest-axis-asked-for = broken (requestChecks 4 lengths block (9 ∷ []) 1) 4 tt
+
+pub asks-for-no-scratch : Broken (requestChecks 4 lengths block [] 9) 0
+unfolding volume exchange exchanged chainNeed arrangements orders orderOf under falling relabelled firstBack planned planOf placeOf
+asks-for-no-scratch = broken (requestChecks 4 lengths block [] 9) 0 tt

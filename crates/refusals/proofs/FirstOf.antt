@@ -1,6 +1,6 @@
 -- The laws of `firstOf`: it is 0 exactly when no condition holds, and k exactly when k's condition holds and none before
 -- it does. By induction on the list of checks; numbers of checks are not 0.
-use mathlib.Core.Path.{_≡_, refl}
+use mathlib.Core.Path.{_≡_, refl, ap}
 use mathlib.Core.Bool.{Bool, true, false, cond}
 use mathlib.Core.List.{List, [], _∷_, _++_}
 use mathlib.Core.Logic.{_↔_}
@@ -62,6 +62,11 @@ refused-first (c ∷ cs) ds n = go (c .holds) n (refused-first cs ds)
 pub accepted-so-far : {cs : List Check} (ds : List Check) → Silent cs → firstOf (cs ++ ds) ≡ firstOf ds
 accepted-so-far ds none = refl
 accepted-so-far ds (more {c} {cs} h s) = rw h (accepted-so-far ds s)
+
+-- what follows a list of checks may be put otherwise, where it says the same
+pub same-after : (cs ds es : List Check) → firstOf ds ≡ firstOf es → firstOf (cs ++ ds) ≡ firstOf (cs ++ es)
+same-after [] ds es e = e
+same-after (c ∷ cs) ds es e = ap (cond (c .holds) (c .number)) (same-after cs ds es e)
 
 -- a list that is passed leaves the rest to decide
 pub through : {cs : List Check} (ds : List Check) → Refusing cs → firstOf cs ≡ 0 → firstOf (cs ++ ds) ≡ firstOf ds

@@ -1,6 +1,7 @@
 -- The order of checks of each call. Assumes nothing: these are definitions.
 use mathlib.Core.List.{List, [], _∷_, _++_}
 use Prim.Native.Nat.{ℕ}
+use Rattle.orders.specs.Needs.{chainNeed, planNeed}
 use Rattle.refusals.specs.FirstOf.{Check, check}
 use Rattle.refusals.specs.Conditions.{badLength, tooManyWords, shortBuffer, shortScratch, longChain, badSwap, noOrder, longPlan}
 use Rattle.refusals.specs.Scratch.{need}
@@ -21,14 +22,15 @@ passesChecks ds buffer scratch = blockChecks ds buffer ++ (check 4 (shortScratch
 abbrev pub recursionChecks : List ℕ → List ℕ → List Check
 recursionChecks ds buffer = blockChecks ds buffer
 
--- chain of swaps on r axes: 1 to 6 rising
+-- chain of swaps on r axes: 1, 2, 3, 5, 6, 4
 abbrev pub chainChecks : ℕ → List ℕ → List ℕ → List ℕ → List ℕ → List Check
-chainChecks r ds buffer scratch chain = passesChecks ds buffer scratch ++ (check 5 (longChain chain) ∷ check 6 (badSwap r chain) ∷ [])
+chainChecks r ds buffer scratch chain =
+    blockChecks ds buffer ++ (check 5 (longChain chain) ∷ check 6 (badSwap r chain) ∷ check 4 (shortScratch (chainNeed ds chain) scratch) ∷ [])
 
 -- plan alone: 7, 8
 abbrev pub planChecks : ℕ → ℕ → List Check
 planChecks r order = check 7 (noOrder r order) ∷ check 8 (longPlan r order) ∷ []
 
--- direct request for an order of r axes: 1, 2, 3, 4, 7, 8
+-- direct request for an order of r axes: 1, 2, 3, 7, 8, 4
 abbrev pub requestChecks : ℕ → List ℕ → List ℕ → List ℕ → ℕ → List Check
-requestChecks r ds buffer scratch order = passesChecks ds buffer scratch ++ planChecks r order
+requestChecks r ds buffer scratch order = blockChecks ds buffer ++ (planChecks r order ++ (check 4 (shortScratch (planNeed r ds order) scratch) ∷ []))

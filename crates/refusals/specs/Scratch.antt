@@ -4,7 +4,7 @@ use Prim.Native.Nat.{ℕ}
 use lib.ListN.{drop, replicate}
 use Rattle.refusals.specs.Conditions.{longest}
 
--- how many words of scratch a call on a block with these lengths needs: as many as its longest axis
+-- how many words of scratch a flat call on a block with these sides needs: as many as its longest side
 abbrev pub need : List ℕ → ℕ
 need ds = longest ds
 

@@ -1,5 +1,5 @@
 -- `axes::chain` meets its promise: a refusal changes nothing, and what is accepted runs.
-use mathlib.Core.Path.{_≡_, sym}
+use mathlib.Core.Path.{_≡_}
 use Prim.Native.Nat.{ℕ}
 use native.Mathlib.Omega.{arith}
 use lib.ListN.{length}
@@ -13,13 +13,20 @@ use Rattle.axes.proofs.Calls.{chain-refused}
 use Rattle.axes.proofs.chain.Statement.{statement}
 use Rattle.axes.proofs.chain.Tie as tie
 
-axes : (x : tie.Start) → length (x .args .shape .lens) ≡ 4
-axes x = search needs
+module _ (x : tie.Start) where
+  axes : length (x .args .shape .lens) ≡ 4
+  axes = search needs
 
--- the number that a test found is that of the checks
-first : (x : tie.Start) {n m : ℕ} → n ≡ firstOf (chainChecks 4 (x .args .shape .lens) (x .args .buf .now) (x .args .scratch .now) (x .args .swaps .now)) → n ≡ m
-    → m ≡ firstOf (chainChecks 4 (x .args .shape .lens) (x .args .buf .now) (x .args .scratch .now) (x .args .swaps .now))
-first x e d = via d e
+  -- the first of the checks that holds
+  abbrev number : ℕ
+  number = firstOf (chainChecks 4 (x .args .shape .lens) (x .args .buf .now) (x .args .scratch .now) (x .args .swaps .now))
+
+  -- what a test found of the answered number holds of it
+  first : {n m : ℕ} → n ≡ number → n ≡ m → m ≡ number
+  first e d = via d e
+
+  passed : {n : ℕ} → n ≡ number → n ≡ 0 → number ≡ 0
+  passed e d = via e d
 
 returns : tie.Need-returns
 returns c =
@@ -33,8 +40,8 @@ returns-2 c =
     let l : tie.Else1 = search in
     let n : tie.After-chain-number = search in
     let x : tie.Start = search in
-    let number = n .chain-number .result in
-    let nowhere : 0 ≡ refusedPlace 4 number (x .args .swaps .now) = rw (ne-eqb number 6 (l .if1 .left)) in
+    let answered = n .chain-number .result in
+    let nowhere : 0 ≡ refusedPlace 4 answered (x .args .swaps .now) = rw (ne-eqb answered 6 (l .if1 .left)) in
     chain-refused 4 (c .refusal2 .ensures) (t .if2 .taken) (n .chain-number .ensures) nowhere
 
 pub chain-spec : {M : Type 1} → statement M
@@ -52,7 +59,7 @@ chain-spec =
     (search needs)
     (search needs)
     returns-2
-    (λ c κs. let n : tie.After-chain-number = search in sym (first (search) (n .chain-number .ensures) (search)))
+    (λ c κs. let n : tie.After-chain-number = search in passed (search) (n .chain-number .ensures) (search))
     (search needs)
     (search needs)
     (λ c. let r : tie.After-run = search in r .run .ensures))

@@ -1,56 +1,78 @@
--- `axes::chains::chain_number` meets its contract: the checks of the block come first, then the chain is measured and searched.
-use mathlib.Core.Path.{_≡_, sym, _∙_}
+-- `axes::chains::chain_number` meets its contract: the checks of the block come first, then the chain is measured and searched, then scratch
+-- is measured by what the chain needs.
+use mathlib.Core.Path.{_≡_, refl, sym, _∙_}
+use mathlib.Core.Bool.{cond}
 use mathlib.Core.List.{List, [], _∷_}
-use Prim.Native.Nat.{ℕ}
+use Prim.Native.Nat.{ℕ, _<_, _≤_}
 use native.Mathlib.Omega.{arith}
 use lib.ListN.{length}
 use borrow.Author.Needs.{needs}
 use borrow.Author.Tests.{lt-ltb, le-ltb}
+use Rattle.lists.proofs.Via.{via}
+use Rattle.orders.specs.Needs.{chainNeed}
 use Rattle.refusals.specs.FirstOf.{Check, check, firstOf}
-use Rattle.refusals.specs.Conditions.{longChain, noSwap, badSwap}
-use Rattle.refusals.specs.Calls.{passesChecks, chainChecks}
+use Rattle.refusals.specs.Conditions.{longChain, noSwap, badSwap, firstPlace, shortScratch}
+use Rattle.refusals.specs.Calls.{blockChecks, chainChecks}
 use Rattle.refusals.proofs.Some.{found-place, no-place}
-use Rattle.axes.proofs.Accepted.{by-four, by-last}
+use Rattle.axes.proofs.Accepted.{by-block, by-last}
 use Rattle.axes.proofs.chains.chain_number.Statement.{statement}
 use Rattle.axes.proofs.chains.chain_number.Tie as tie
 
 module _ (x : tie.Start) where
+  abbrev lens : List ℕ
+  lens = x .args .lens .now
+
+  abbrev swaps : List ℕ
+  swaps = x .args .swaps .now
+
+  abbrev scratch : List ℕ
+  scratch = x .args .scratch .now
+
   -- the checks that are made last
   abbrev last : List Check
-  last = check 5 (longChain (x .args .swaps .now)) ∷ check 6 (badSwap 4 (x .args .swaps .now)) ∷ []
+  last = check 5 (longChain swaps) ∷ check 6 (badSwap 4 swaps) ∷ check 4 (shortScratch (chainNeed lens swaps) scratch) ∷ []
 
-  -- where the first four find nothing they decide
-  decided : {n : ℕ} → n ≡ firstOf (passesChecks (x .args .lens .now) (x .args .buf .now) (x .args .scratch .now)) → n ≡ 0
-      → firstOf (chainChecks 4 (x .args .lens .now) (x .args .buf .now) (x .args .scratch .now) (x .args .swaps .now)) ≡ firstOf last
-  decided e z = by-last (x .args .lens .now) (x .args .buf .now) (x .args .scratch .now) last e z
+  -- where those of the block find nothing they decide
+  module _ (z : firstOf (blockChecks lens (x .args .buf .now)) ≡ 0) where
+    decided : firstOf (chainChecks 4 lens (x .args .buf .now) scratch swaps) ≡ firstOf last
+    decided = by-last lens (x .args .buf .now) last refl z
+
+    long : 32 < length swaps → 5 ≡ firstOf (chainChecks 4 lens (x .args .buf .now) scratch swaps)
+    long h = sym (decided ∙ rw (lt-ltb 32 (length swaps) h))
+
+    bad : length swaps ≤ 32 → firstPlace (noSwap 4) swaps < length swaps → 6 ≡ firstOf (chainChecks 4 lens (x .args .buf .now) scratch swaps)
+    bad h i = sym (decided ∙ rw (le-ltb 32 (length swaps) h, found-place (noSwap 4) swaps i))
+
+    -- and of these the last
+    room : length swaps ≤ 32 → length swaps ≤ firstPlace (noSwap 4) swaps
+        → firstOf (chainChecks 4 lens (x .args .buf .now) scratch swaps) ≡ cond (shortScratch (chainNeed lens swaps) scratch) 4 0
+    room h i = decided ∙ rw (le-ltb 32 (length swaps) h, no-place (noSwap 4) swaps i)
 
 returns : tie.Need-returns
 returns c =
-    let n : tie.After-passes-number = search in
+    let n : tie.After-block-number = search in
     let x : tie.Start = search in
-    by-four (x .args .lens .now) (x .args .buf .now) (x .args .scratch .now) (last x) (n .passes-number .ensures) (search)
-
-returns-2 : tie.Need-returns-2
-returns-2 c =
-    let n : tie.After-passes-number = search in
-    let x : tie.Start = search in
-    sym (decided x (n .passes-number .ensures) (search) ∙ rw (lt-ltb 32 (length (x .args .swaps .now)) (omega arith)))
-
-returns-3 : tie.Need-returns-3
-returns-3 c =
-    let n : tie.After-passes-number = search in
-    let x : tie.Start = search in
-    let swaps = x .args .swaps .now in
-    sym
-    (decided x (n .passes-number .ensures) (search)
-    ∙ rw (le-ltb 32 (length swaps) (omega arith), found-place (noSwap 4) swaps (omega arith)))
+    by-block (lens x) (x .args .buf .now) (last x) (n .block-number .ensures) (search)
 
 returns-4 : tie.Need-returns-4
 returns-4 c =
-    let n : tie.After-passes-number = search in
     let x : tie.Start = search in
-    let swaps = x .args .swaps .now in
-    sym (decided x (n .passes-number .ensures) (search) ∙ rw (le-ltb 32 (length swaps) (omega arith), no-place (noSwap 4) swaps (omega arith)))
+    sym (room x (search via) (omega arith) (omega arith) ∙ rw (lt-ltb (length (scratch x)) (chainNeed (lens x) (swaps x)) (omega arith)))
+
+returns-5 : tie.Need-returns-5
+returns-5 c =
+    let x : tie.Start = search in
+    sym (room x (search via) (omega arith) (omega arith) ∙ rw (le-ltb (length (scratch x)) (chainNeed (lens x) (swaps x)) (omega arith)))
 
 pub chain-number-spec : {M : Type 1} → statement M
-chain-number-spec = tie.close (tie.spec (search needs) returns (search needs) returns-2 returns-3 returns-4)
+chain-number-spec =
+    tie.close
+    (tie.spec
+    (search needs)
+    returns
+    (λ c. long (search) (search via) (omega arith))
+    (search needs)
+    (λ c. bad (search) (search via) (omega arith) (omega arith))
+    (search needs)
+    returns-4
+    returns-5)

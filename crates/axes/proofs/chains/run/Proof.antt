@@ -7,17 +7,17 @@ use lib.ListN.{length, getD}
 use borrow.Author.Needs.{needs}
 use Rattle.orders.proofs.Numbers.{number-below}
 use Rattle.refusals.proofs.Scratch.{cleared-length}
-use Rattle.axes.proofs.Accepted.{ChainAccepted, accepts-chain, good-swap, block-room}
-use Rattle.axes.proofs.Progress.{Progress, begin, still-accepted, one-swap, finished}
+use Rattle.axes.proofs.Accepted.{ChainAccepted, accepts-chain, good-swap}
+use Rattle.axes.proofs.Progress.{Progress, begin, still-accepted, still-room, one-swap, finished}
 use Rattle.axes.proofs.chains.run.Statement.{statement}
 use Rattle.axes.proofs.chains.run.Tie as tie
 
 abbrev Inv-loop : tie.InvT-loop
-Inv-loop buf₀ scratch₀ swaps lens stands₀ order₀ i₀ i-end buf scratch stands order i =
-    (i-end ≡ length swaps) × (i ≤ length swaps) × Progress 4 lens swaps buf₀ scratch₀ i buf scratch (stands .lens) order
+Inv-loop buf₀ scratch₀ swaps stands₀ order₀ i₀ i-end buf scratch stands order i =
+    (i-end ≡ length swaps) × (i ≤ length swaps) × Progress 4 (stands₀ .lens) swaps buf₀ scratch₀ i buf scratch (stands .lens) order
 
 abbrev μ-loop : tie.MeasureT-loop
-μ-loop buf₀ scratch₀ swaps lens stands₀ order₀ i₀ i-end buf scratch stands order i = length swaps - i
+μ-loop buf₀ scratch₀ swaps stands₀ order₀ i₀ i-end buf scratch stands order i = length swaps - i
 
 -- the places that the answers look back to
 abbrev Start : Type 0
@@ -43,7 +43,11 @@ swap-at-requires : tie.Need-swap-at-requires Inv-loop μ-loop
 swap-at-requires c κs =
     let l : Loop = search in
     let x : Start = search in
-    (good x (l .loop .i) (omega arith), still-accepted _ (axes x) _ _ _ (l .loop .inv .2) (accepts x))
+    record {
+      place = good x (l .loop .i) (omega arith);
+      block = still-accepted _ (axes x) _ _ _ (l .loop .inv .2) (accepts x);
+      room = still-room _ (axes x) _ _ _ (l .loop .inv .2) (accepts x) (omega arith);
+    }
 
 next-order-requires : tie.Need-next-order-requires Inv-loop μ-loop
 next-order-requires c κs =
@@ -56,24 +60,26 @@ loop-again c =
     let n : tie.After-swapped Inv-loop μ-loop = search in
     let s : tie.After-swap-at Inv-loop μ-loop = search in
     let l : Loop = search in
-    let made = s .swap-at .ensures in
-    (refl, omega arith, one-swap _ (axes (search)) _ _ _ (l .loop .inv .2) (omega arith) (made .0) (made .1 .0) (made .1 .1) (n .swapped .ensures) (c .next-order .ensures))
+    let x : Start = search in
+    let made = s .swap-at .ensures in (
+      refl,
+      omega arith,
+      one-swap _ (axes x) _ _ _ (l .loop .inv .2) (accepts x) (omega arith) (made .0) (made .1) (n .swapped .ensures) (c .next-order .ensures),
+    )
 
 same-length : tie.Need-same-length Inv-loop μ-loop
 same-length c = let l : Loop = search in l .loop .inv .2 .words .same
 
 returns : tie.Need-returns Inv-loop μ-loop
 returns c =
-    let z : tie.After-clear Inv-loop μ-loop = search in
-    let n : tie.After-longest-of Inv-loop μ-loop = search in
     let l : Loop = search in
     let x : Start = search in
-    finished _ (axes x) _ _ _ (l .loop .inv .2) (omega arith) (accepts x) (n .longest-of .ensures) (z .clear .ensures)
+    finished _ (axes x) _ _ _ (l .loop .inv .2) (omega arith) (accepts x)
 
 same-length-2 : tie.Need-same-length-2 Inv-loop μ-loop
 same-length-2 c =
     let x : Start = search in
-    ap length (returns (search) .block .zeroed refl) ∙ cleared-length _ (le-refl _) (block-room (accepts x .block))
+    ap length (returns (search) .block .zeroed refl) ∙ cleared-length _ (le-refl _) (accepts x .room)
 
 pub run-spec : {M : Type 1} → statement M
 run-spec =
@@ -90,9 +96,6 @@ run-spec =
     (search needs)
     (search needs)
     loop-again
-    (λ c. let x : Start = search in omega (arith, axes x))
-    (search needs)
-    (search needs)
     same-length
     same-length-2
     returns)

@@ -17,8 +17,8 @@ module _ (x : tie.Start) where
   axes : length (x .args .shape .lens) ≡ 4
   axes = search needs
 
-  block : BlockAccepted (x .args .shape .lens) (x .args .buf .now) (x .args .scratch .now)
-  block = block-accepted _ _ _ (x .pre .1)
+  block : BlockAccepted (x .args .shape .lens) (x .args .buf .now)
+  block = block-accepted _ _ (x .pre .block)
 
 array-share-prefix-lens : tie.Need-array-share-prefix-lens
 array-share-prefix-lens c = let x : tie.Start = search in omega (arith, axes x)
@@ -37,7 +37,7 @@ returns c =
     let four = axes x in
     let end = take-all (4 - (k + 2)) (drop (k + 2) l) (omega (arith, length-drop (k + 2) l)) in
     let chunk = after .words-of2 .ensures ∙ ap (λ (t : List ℕ). capped (volume t)) end in
-    swap-leaves l four k (omega arith) (block x) (before .words-of .ensures) chunk (w .swap .ensures)
+    swap-leaves l four k (omega arith) (block x) _ (x .pre .room) (before .words-of .ensures) chunk (w .swap .ensures)
 
 pub swap-at-spec : {M : Type 1} → statement M
 swap-at-spec =

@@ -1,0 +1,60 @@
+-- `need_of` meets its contract: the need of a chain is read off the entry lengths. The loop's invariant: the longest axis so far and the
+-- need of the swaps left give the need.
+use mathlib.Core.Path.{_≡_}
+use mathlib.Core.List.{List}
+use Prim.Native.Nat.{ℕ, _+_, _<_, _≤_, _-_, max}
+use native.Mathlib.Omega.{arith}
+use lib.ListN.{length, drop, getD}
+use borrow.Author.Needs.{needs}
+use Rattle.lists.proofs.Front.{drop-next, drop-end}
+use Rattle.orders.specs.Needs.{exchanged, entryNeed}
+use Rattle.orders.proofs.Needs.{need-at-entry}
+use Rattle.checks.proofs.need_of.Statement.{statement}
+use Rattle.checks.proofs.need_of.Tie as tie
+
+abbrev Inv-loop : tie.InvT-loop
+Inv-loop lens swaps most₀ i₀ i-end most i = (i ≤ length swaps) × (max most (entryNeed lens (drop i swaps)) ≡ entryNeed lens swaps)
+
+abbrev μ-loop : tie.MeasureT-loop
+μ-loop lens swaps most₀ i₀ i-end most i = length swaps - i
+
+abbrev Loop : Type 0
+Loop = tie.At-loop Inv-loop μ-loop
+
+entry-next : (ds c : List ℕ) (i : ℕ) → i < length c → entryNeed ds (drop i c) ≡ max (exchanged (getD c i 0) ds) (entryNeed ds (drop (i + 1) c))
+unfolding entryNeed
+entry-next ds c i h = rw (drop-next c i h)
+
+entry-none : (ds c : List ℕ) (i : ℕ) → length c ≤ i → entryNeed ds (drop i c) ≡ 0
+unfolding entryNeed
+entry-none ds c i h = rw (drop-end c i h)
+
+loop-again : tie.Need-loop-again Inv-loop μ-loop
+loop-again c =
+    let l : Loop = search in
+    let s : tie.Start Inv-loop μ-loop = search in
+    (omega arith, omega (arith, entry-next (s .args .lens .now) (s .args .swaps .now) (l .loop .i) (omega arith)))
+
+returns : tie.Need-returns Inv-loop μ-loop
+returns c =
+    let l : Loop = search in
+    let s : tie.Start Inv-loop μ-loop = search in
+    let lens = s .args .lens .now in
+    let swaps = s .args .swaps .now in
+    omega (arith, entry-none lens swaps (l .loop .i) (omega arith), need-at-entry lens swaps)
+
+pub need-of-spec : {M : Type 1} → statement M
+need-of-spec =
+    tie.close
+    (tie.spec
+    Inv-loop
+    μ-loop
+    (λ c. (omega arith, omega arith))
+    (search needs)
+    (search needs)
+    (search needs)
+    (search needs)
+    (search needs)
+    (search needs)
+    loop-again
+    returns)
