@@ -4,7 +4,7 @@ use mathlib.Core.Path.{_≡_, refl, sym, ap, _∙_, subst}
 use mathlib.Core.List.{List}
 use mathlib.Core.Logic.{⊎-elim}
 use Prim.Native.Nat.{ℕ, _+_, _-_, _<_, _≤_}
-use native.Mathlib.Nat.{not-suc-le-zero}
+use native.Mathlib.Nat.{not-suc-le-zero, zero-add}
 use native.Mathlib.Omega.{arith}
 use lib.ListN.{length, getD, set, length-set}
 use lib.Seq.{getD-set-same, getD-set-other}
@@ -45,6 +45,15 @@ filled-on {to} {word} {to′} {word′} {count} {size} {o} {xs} {ys} {zs} apart 
       (lt-or-ge j o);
   others = λ p n. g .others p (λ t d e. n (o + t) (omega arith) (to-is t d ∙ e)) ∙ f .others p (λ j d. n j (omega arith));
 }
+
+-- two runs of stores, one after the other
+pub filled-two : {to word to₁ word₁ to₂ word₂ : ℕ → ℕ} {count r s : ℕ} {xs ys zs : List ℕ} → Apart to count → r + s ≡ count
+    → ((t : ℕ) → t < r → to t ≡ to₁ t) → ((t : ℕ) → t < r → word t ≡ word₁ t)
+    → ((t : ℕ) → t < s → to (r + t) ≡ to₂ t) → ((t : ℕ) → t < s → word (r + t) ≡ word₂ t)
+    → Filled to₁ word₁ r xs ys → Filled to₂ word₂ s ys zs → Filled to word count xs zs
+filled-two {to} {word} {count = count} {r} {s} {xs} {ys} {zs} apart e to-1 word-1 to-2 word-2 f g =
+    let first : Filled to word (0 + r) xs ys = filled-on apart (omega arith) (λ t d. ap to (zero-add t) ∙ to-1 t d) (λ t d. ap word (zero-add t) ∙ word-1 t d) (filled-none to word xs) f in
+    subst (λ (k : ℕ). Filled to word k xs zs) e (filled-on apart (omega arith) to-2 word-2 (rw (zero-add r) at first) g)
 
 -- all words of a line are stored: it stands in scratch
 pub all-lifted : {l : Line} {k : ℕ} {to from : ℕ → ℕ} {xs scratch held : List ℕ} → ((j : ℕ) → j < l .count → to j < l .count)

@@ -1,20 +1,21 @@
 -- The walks that the functions hold are those of the passes (by the laws of crate walks); and a group of a walk on its way.
 use mathlib.Core.Path.{_≡_, refl, sym, ap, _∙_, subst}
-use mathlib.Core.Bool.{Bool, cond}
+use mathlib.Core.Bool.{Bool, true, false, cond, _&&_, true≢false}
 use mathlib.Core.List.{List}
 use Prim.Native.Nat.{ℕ, _+_, _*_, _-_, _/_, _%_, _<_, _≤_}
 use native.Mathlib.Omega.{arith}
-use native.Mathlib.Nat.{mod-lt, mul-comm, one-mul, zero-mul, zero-add, add-mul, mul-le-mul-right}
+use native.Mathlib.Nat.{mod-lt, mod-eq-of-lt, add-mod-right, mul-one, mul-comm, one-mul, zero-mul, zero-add, add-mul, mul-le-mul-right}
 use lib.Dec.{eqb}
-use lib.ListN.{length}
-use borrow.Author.Tests.{ne-eqb}
+use lib.ListN.{length, getD}
+use borrow.Author.Tests.{eqb-true, ne-eqb}
 use Rattle.flat.specs.Passes.{rowGroup, columnGroup, row1, column2, row3}
 use Rattle.flat.proofs.Sides.{Sides, sides-are}
 use Rattle.walks.specs.Walk.{walk, starts}
 use Rattle.walks.proofs.Steps.{starts-next, starts-lt}
 use Rattle.walks.proofs.Passes.{row1-walk, row1-start, column2-walk, column2-alone, row3-walk, row3-alone}
-use Rattle.passes.specs.Lines.{paired}
-use Rattle.passes.specs.ThroughScratch.{Grouped, OfPass, Inside, Apart, GroupFits, startOf, stands, Follows, alone}
+use Rattle.passes.specs.Lines.{paired, posOn}
+use Rattle.passes.specs.ThroughScratch.{Grouped, OfPass, Inside, Apart, GroupFits, Filled, Lifted, startOf, stands, Follows, alone}
+use Rattle.passes.proofs.Filled.{filled-two, all-lifted}
 use Rattle.passes.specs.declared.line.GroupedSides.{GroupedSides}
 use Rattle.passes.specs.declared.line.Line.{Line}
 use Rattle.passes.specs.declared.walk.Walk.{Walk}
@@ -101,6 +102,55 @@ module _ {w : Walk} {count : ℕ} {f : ℕ → ℕ} (y : Follows w count f) (g :
     inside = rw (y .round) inside;
     room = omega (arith, y .round);
   })
+
+-- two tests that both hold
+both : (t u : Bool) → (t && u) ≡ true → (t ≡ true) × (u ≡ true)
+both true u e = (refl, e)
+both false u e = absurd (true≢false (sym e))
+
+-- a straight walk is two runs: up to its modulus, and from 0 on
+module _ {w : Walk} (l : Line) {f : ℕ → ℕ} (y : Follows w (l .count) f) (straight : (eqb (w .step) 1 && eqb (w .groups) 1) ≡ true) where
+  one-by-one : (t : ℕ) → t < l .count → f t ≡ (w .first + t) % w .modulus
+  unfolding walk starts
+  one-by-one t h =
+      let e : w .step ≡ 1 = eqb-true _ _ (both (eqb (w .step) 1) (eqb (w .groups) 1) straight .0) in
+      let g : w .groups ≡ 1 = eqb-true _ _ (both (eqb (w .step) 1) (eqb (w .groups) 1) straight .1) in
+      let size : w .size ≡ l .count = sym (one-mul (w .size)) ∙ ap (λ (z : ℕ). z * w .size) (sym g) ∙ y .whole in
+      ap f (sym (ap (λ (z : ℕ). z + t) (zero-mul (w .size)) ∙ zero-add t))
+      ∙ y .pairs 0 t (omega arith) (omega arith)
+      ∙ ap (λ (z : ℕ). (w .first + z) % w .modulus) (ap (λ (z : ℕ). t * z) e ∙ mul-one t)
+
+  first-run : (t : ℕ) → t < w .modulus - w .first → f t ≡ w .first + t
+  first-run t h = one-by-one t (omega (arith, y .round)) ∙ mod-eq-of-lt (omega arith)
+
+  second-run : (t : ℕ) → t < w .first → f (w .modulus - w .first + t) ≡ t
+  second-run t h =
+      let q = w .modulus in
+      let low = y .low in
+      one-by-one (q - w .first + t) (omega (arith, y .round))
+      ∙ ap (λ (z : ℕ). z % q) (omega arith)
+      ∙ add-mod-right t q
+      ∙ mod-eq-of-lt (omega arith)
+
+  runs-whole : w .modulus - w .first + w .first ≡ l .count
+  runs-whole = omega (arith, y .low, y .round)
+
+  module _ {xs scratch held held′ : List ℕ} where
+    pub straight-gathered : Filled (λ t. 0 + t) (λ t. getD xs (posOn l (w .first + t)) 0) (w .modulus - w .first) scratch held
+        → Filled (λ t. w .modulus - w .first + t) (λ t. getD xs (posOn l (0 + t)) 0) (w .first) held held′ → Lifted l (λ k. k) f xs scratch held′
+    straight-gathered a b =
+        all-lifted (λ j d. d)
+        (filled-two (λ i j _ _ e. e) runs-whole (λ t d. sym (zero-add t)) (λ t d. ap (λ (z : ℕ). getD xs (posOn l z) 0) (first-run t d)) (λ t d. refl)
+        (λ t d. ap (λ (z : ℕ). getD xs (posOn l z) 0) (second-run t d ∙ sym (zero-add t))) a b)
+        refl
+
+    pub straight-scattered : Apart f (l .count) → ((k : ℕ) → k < l .count → f k < l .count)
+        → Filled (λ t. w .first + t) (λ t. getD xs (posOn l (0 + t)) 0) (w .modulus - w .first) scratch held
+        → Filled (λ t. 0 + t) (λ t. getD xs (posOn l (w .modulus - w .first + t)) 0) (w .first) held held′ → Lifted l f (λ k. k) xs scratch held′
+    straight-scattered apart within a b =
+        all-lifted within
+        (filled-two apart runs-whole first-run (λ t d. ap (λ (z : ℕ). getD xs (posOn l z) 0) (sym (zero-add t))) (λ t d. second-run t d ∙ sym (zero-add t)) (λ t d. refl) a b)
+        refl
 
 -- the walk that the test of the pass picks is that of the line
 module _ {w : Walk} (m n : ℕ) (l : Line) (o : OfPass m n l) where

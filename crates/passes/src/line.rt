@@ -29,6 +29,18 @@ pub(crate) struct Line {
     pub count: usize,
 }
 
+// Scratch receives, from place `to` on, the words of the line from place `from` on.
+fn copy_run(buf: &[u32], scratch: &mut [u32], l: Line, from: usize, to: usize, size: usize)
+    requires { ⌜ Inside l (from + size) (now buf) × (from + size ≤ length (now scratch)) × (to + size ≤ length (now scratch)) ⌝ }
+    ensures { λ _. ⌜ Filled (λ t. to + t) (λ t. getD (now (buf .entry)) (posOn l (from + t)) 0) size (now (scratch .entry)) (now (scratch .exit)) ⌝ }
+{
+    let start = l.start;
+    let stride = l.stride;
+    for t in 0..size {
+        scratch[to + t] = buf[start + stride * (from + t)];
+    }
+}
+
 // Scratch receives, from place `from` on, the words of a group that starts at `place`.
 fn gather_group(buf: &[u32], scratch: &mut [u32], l: Line, w: Walk, from: usize, place: usize)
     requires { ⌜ GroupFits l w from place (now buf) (now scratch) ⌝ }
@@ -49,6 +61,12 @@ fn gather(buf: &[u32], scratch: &mut [u32], s: GroupedSides, l: Line)
     ensures { λ _. ⌜ Lifted l (λ k. k) (paired (s .m) (s .n) (l .pass) (l .index)) (now (buf .entry)) (now (scratch .entry)) (now (scratch .exit)) ⌝ }
 {
     let w = walk::walk_of(s, l);
+    if walk::straight(w) {
+        let rest = w.modulus - w.first;
+        copy_run(buf, scratch, l, w.first, 0, rest);
+        copy_run(buf, scratch, l, 0, rest, w.first);
+        return;
+    }
     let mut from = 0;
     let mut place = w.first;
     for g in 0..w.groups {
@@ -78,6 +96,12 @@ fn scatter(buf: &[u32], scratch: &mut [u32], s: GroupedSides, l: Line)
     ensures { λ _. ⌜ Lifted l (paired (s .m) (s .n) (l .pass) (l .index)) (λ k. k) (now (buf .entry)) (now (scratch .entry)) (now (scratch .exit)) ⌝ }
 {
     let w = walk::walk_of(s, l);
+    if walk::straight(w) {
+        let rest = w.modulus - w.first;
+        copy_run(buf, scratch, l, 0, w.first, rest);
+        copy_run(buf, scratch, l, rest, 0, w.first);
+        return;
+    }
     let mut from = 0;
     let mut place = w.first;
     for g in 0..w.groups {

@@ -1,7 +1,7 @@
 // Walks: the places that a pass pairs with those of a line, group by group, with no division for a word or a group.
 use crate::line::GroupedSides;
 use crate::line::Line;
-ghost use mathlib.Core.Bool.{cond};
+ghost use mathlib.Core.Bool.{cond, _&&_};
 ghost use mathlib.Core.Path.{_≡_};
 ghost use Prim.Native.Nat.{ℕ, _+_, _%_, _<_, _≤_};
 ghost use lib.Dec.{eqb};
@@ -42,6 +42,16 @@ pub(crate) fn next_start(w: Walk, g: usize, place: usize) -> usize
         return 0;
     }
     step_on(place, w.shift, w.modulus)
+}
+
+// Whether a walk goes through its places one by one in one group: it is then two runs, up to its modulus and from 0 on.
+pub(crate) fn straight(w: Walk) -> bool
+    ensures { λ r. ⌜ r ≡ (eqb (w .step) 1 && eqb (w .groups) 1) ⌝ }
+{
+    if w.step != 1 {
+        return false;
+    }
+    w.groups == 1
 }
 
 // A walk in one group, over as many places as its modulus.

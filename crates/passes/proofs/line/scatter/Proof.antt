@@ -9,7 +9,7 @@ use Rattle.passes.specs.Lines.{posOn, paired}
 use Rattle.passes.specs.ThroughScratch.{Follows, Apart, GroupFits, Filled, startOf, stands}
 use Rattle.walks.specs.Walk.{starts}
 use Rattle.passes.proofs.Filled.{filled-none, filled-on, all-lifted}
-use Rattle.passes.proofs.Walks.{start-on, group-inside, group-apart, group-fits}
+use Rattle.passes.proofs.Walks.{straight-scattered, start-on, group-inside, group-apart, group-fits}
 use Rattle.passes.proofs.line.scatter.Statement.{statement}
 use Rattle.passes.proofs.line.scatter.Tie as tie
 
@@ -36,8 +36,9 @@ Loop = tie.At-loop Inv-loop μ-loop
 -- the group at hand
 fits : (c : tie.In-loop Inv-loop μ-loop)
     → let l = c .before in
-    let a = l .before .before .before .before .args in
-    GroupFits (a .l) (l .before .walk-of .result) (l .loop .from) (l .loop .place) (a .buf .now) (l .loop .scratch)
+    let w = l .before .before .before in
+    let a = w .before .before .before .args in
+    GroupFits (a .l) (w .walk-of .result) (l .loop .from) (l .loop .place) (a .buf .now) (l .loop .scratch)
 fits c =
     let l : Loop = search in
     let w : Walked = search in
@@ -46,9 +47,44 @@ fits c =
     let v = l .loop .inv in
     group-fits y (l .loop .g) (omega arith) (v .1) (v .2) (x .pre .1 .inside) (rw (v .3 _ y (x .pre .1 .apart) .same) (x .pre .1 .room))
 
+-- the two runs of a straight walk
+abbrev First : Type 0
+First = tie.After-copy-run Inv-loop μ-loop
+
+abbrev Second : Type 0
+Second = tie.After-copy-run2 Inv-loop μ-loop
+
+copy-run-requires : tie.Need-copy-run-requires Inv-loop μ-loop
+copy-run-requires c κs =
+    let w : Walked = search in
+    let x : Start = search in
+    let y = w .walk-of .ensures in
+    (λ k h. x .pre .1 .inside k (omega (arith, y)), omega (arith, y), omega (arith, y))
+
+copy-run-requires-2 : tie.Need-copy-run-requires-2 Inv-loop μ-loop
+copy-run-requires-2 c κs =
+    let a : First = search in
+    let w : Walked = search in
+    let x : Start = search in
+    let y = w .walk-of .ensures in
+    let e = a .copy-run .ensures .same in
+    (λ k h. x .pre .1 .inside k (omega (arith, y)), omega (arith, y, e), omega (arith, y, e))
+
+returns : tie.Need-returns Inv-loop μ-loop
+returns c =
+    let b : Second = search in
+    let a : First = search in
+    let t : tie.Then1 Inv-loop μ-loop = search in
+    let s : tie.After-straight Inv-loop μ-loop = search in
+    let w : Walked = search in
+    let x : Start = search in
+    straight-scattered (x .args .l) (w .walk-of .ensures) (sym (s .straight .ensures) ∙ t .if1 .taken) (x .pre .1 .apart) (x .pre .1 .within) (a .copy-run .ensures) (b .copy-run2 .ensures)
+
 loop-holds : tie.Need-loop-holds Inv-loop μ-loop
 unfolding starts
-loop-holds c = (omega arith, sym (zero-mul _), refl, λ f h d. rw (zero-mul (c .walk-of .result .size)) (filled-none _ _ _))
+loop-holds c =
+    let w : Walked = search in
+    (omega arith, sym (zero-mul _), refl, λ f h d. rw (zero-mul (w .walk-of .result .size)) (filled-none _ _ _))
 
 loop-again : tie.Need-loop-again Inv-loop μ-loop
 loop-again c =
@@ -71,8 +107,8 @@ loop-again c =
           (v .3 f y apart) (n .scatter-group .ensures)),
     )
 
-returns : tie.Need-returns Inv-loop μ-loop
-returns c =
+returns-2 : tie.Need-returns-2 Inv-loop μ-loop
+returns-2 c =
     let l : Loop = search in
     let w : Walked = search in
     let x : Start = search in
@@ -94,6 +130,12 @@ scatter-spec =
     Inv-loop
     μ-loop
     (λ c κs. let x : Start = search in (x .pre .0, x .pre .1 .of-pass))
+    (λ c κs. search needs)
+    (λ c. let w : Walked = search in omega (arith, w .walk-of .ensures))
+    copy-run-requires
+    copy-run-requires-2
+    (λ c. let b : Second = search in let a : First = search in b .copy-run2 .ensures .same ∙ a .copy-run .ensures .same)
+    returns
     loop-holds
     scatter-group-requires
     (λ c. omega (arith, fits (search)))
@@ -103,4 +145,4 @@ scatter-spec =
     (search needs)
     loop-again
     (λ c. let l : Loop = search in let w : Walked = search in let x : Start = search in l .loop .inv .3 _ (w .walk-of .ensures) (x .pre .1 .apart) .same)
-    returns)
+    returns-2)
