@@ -36,7 +36,10 @@ enum {
     ZIB_LONG_SHEET = 9,     /* a sheet has more than 16,384 bytes */
     ZIB_BAD_LINE = 10,      /* a sheet line is malformed, missing or left over; place is its line number, from 1 */
     ZIB_LARGE_SHEET = 11,   /* a sheet's lengths multiply to more than 1,024 */
-    ZIB_SHORT_BYTES = 24    /* the byte buffer is shorter than the result sheet */
+    ZIB_BAD_COLUMN = 16,    /* a column number is above the last camera (removing) or above the camera count (adding) */
+    ZIB_NO_ROOM = 17,       /* the buffer lacks room for the block with one camera more */
+    ZIB_SHORT_BYTES = 24,   /* the byte buffer is shorter than the result sheet */
+    ZIB_OTHER_COLUMN = 25   /* the column's length isn't the frame count */
 };
 
 /*
@@ -57,6 +60,32 @@ uint32_t zib_turn_back(uint32_t *buffer, size_t buffer_words, uint32_t *scratch,
  * Answers 0, or the first of 1, 2, 3 that holds.
  */
 uint32_t zib_turn_halves(uint32_t *buffer, size_t buffer_words, size_t m, size_t n);
+
+/* What zib_repeats answers: a count, 0 in a refusal. */
+struct zib_home {
+    uint32_t number;
+    size_t count;
+};
+
+/*
+ * How often a turn with the same m and n is repeated, at least once, until every block of that shape is home.
+ * It takes a multiplication and a remainder a repeat, at most mn - 2 of them. Answers 0, or the first of 1, 2 that holds.
+ */
+struct zib_home zib_repeats(size_t m, size_t n);
+
+/*
+ * A block of one row a frame and one column a camera. Removing a column (from 0): the others close up, the freed words at the
+ * block's end become zero. Refused with 1 also where it is the only camera. Answers 0, or the first of 1, 2, 3, 16 that holds.
+ */
+uint32_t zib_remove_camera(uint32_t *buffer, size_t buffer_words, size_t frames, size_t cameras, size_t column);
+
+/*
+ * Adds a column at a place (from 0 to the camera count), using the words that follow the block, whatever they hold. `words` has one
+ * word a frame and is only read; it must not overlap the buffer. Refused with 1 also where there are 4,096 cameras.
+ * Answers 0, or the first of 1, 2 (the size before, then the size after), 3, 16, 17, 25 that holds.
+ */
+uint32_t zib_add_camera(uint32_t *buffer, size_t buffer_words, size_t frames, size_t cameras, size_t column, const uint32_t *words,
+                        size_t word_count);
 
 /*
  * Four axes. A block has axes 0 to 3 with these lengths, the last fastest. Swap k (0, 1 or 2) exchanges the axes at

@@ -40,6 +40,9 @@ enum {
     READ_SHEET = 7,
     WRITE_SHEET = 8,
     JOB = 9,
+    REPEATS = 10,
+    REMOVE_CAMERA = 11,
+    ADD_CAMERA = 12,
     /* these touch what they must not, to show that the guards bite */
     WRITE_PAST_END = 100,
     READ_PAST_END = 101,
@@ -114,6 +117,11 @@ static void give_written(struct zib_written w) {
     give(w.bytes);
 }
 
+static void give_home(struct zib_home h) {
+    give(h.number);
+    give(h.count);
+}
+
 static void make_rooms(void) {
     size_t page = (size_t)sysconf(_SC_PAGESIZE);
     for (int k = 0; k < MOST_BUFFERS; k++) {
@@ -177,6 +185,15 @@ static void run(uint64_t call) {
         break;
     case JOB:
         give(zib_job(buffers[0].at, buffers[0].bytes, words(1), words(2), buffers[3].at));
+        break;
+    case REPEATS:
+        give_home(zib_repeats(numbers[0], numbers[1]));
+        break;
+    case REMOVE_CAMERA:
+        give(zib_remove_camera(words(0), word_count(0), numbers[0], numbers[1], numbers[2]));
+        break;
+    case ADD_CAMERA:
+        give(zib_add_camera(words(0), word_count(0), numbers[0], numbers[1], numbers[2], words(1), word_count(1)));
         break;
     case WRITE_PAST_END:
         at[buffers[0].bytes] = 1;

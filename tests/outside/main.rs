@@ -2,11 +2,13 @@
 // Usage: outside [--short] DRIVER-COMMAND...
 mod axes;
 mod bench;
+mod cameras;
 mod driver;
 mod flat;
 mod guards;
 mod random;
 mod reference;
+mod repeats;
 mod sheets;
 mod text;
 
@@ -18,12 +20,14 @@ fn main() {
     if short {
         command.remove(0);
     }
-    println!("seeds {} to {}{}", SEED, SEED + 2, if short { ", short form" } else { "" });
+    println!("seeds {} to {}{}", SEED, SEED + 4, if short { ", short form" } else { "" });
     let mut t = bench::Bench::new(driver::Driver::new(&command), short);
     guards::all(&mut t);
     flat::all(&mut t, SEED);
     axes::all(&mut t, SEED + 1);
     sheets::all(&mut t, SEED + 2);
+    repeats::all(&mut t, SEED + 3);
+    cameras::all(&mut t, SEED + 4);
     let well = t.driver.end();
     t.verdict(well, || "the driver did not end well".to_string());
     println!("{} passed, {} failed", t.passed, t.failed);

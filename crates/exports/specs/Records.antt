@@ -3,10 +3,12 @@ use Rattle.axes.specs.declared.Answer.{Answer as Below-Answer}
 use Rattle.axes.specs.declared.Planned.{Planned as Below-Planned}
 use Rattle.sheet.specs.declared.Sheet.{Sheet as Below-Sheet}
 use Rattle.sheet.specs.declared.Written.{Written as Below-Written}
+use Rattle.home.specs.declared.Home.{Home as Below-Home}
 use Rattle.exports.specs.declared.Answer.{Answer}
 use Rattle.exports.specs.declared.Planned.{Planned}
 use Rattle.exports.specs.declared.Sheet.{Sheet}
 use Rattle.exports.specs.declared.Written.{Written}
+use Rattle.exports.specs.declared.Home.{Home}
 
 -- what a chain or a direct request answers
 abbrev pub answered : Answer → Below-Answer
@@ -23,3 +25,7 @@ sheetRead r = record { number = r .number; place = r .place; lens = r .lens; swa
 -- what the sheet writer answers
 abbrev pub sheetWritten : Written → Below-Written
 sheetWritten r = record { number = r .number; count = r .count }
+
+-- what the count of repeats answers
+abbrev pub homeAfter : Home → Below-Home
+homeAfter r = record { number = r .number; count = r .count }

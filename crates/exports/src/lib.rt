@@ -5,7 +5,9 @@ ghost use Rattle.axes.specs.Promises.{ChainPromise, RequestPromise, PlanPromise
 ghost use Rattle.sheet.specs.Reader.{ReadAs};
 ghost use Rattle.sheet.specs.Writer.{WrittenAs};
 ghost use Rattle.job.specs.Job.{Done};
-ghost use Rattle.exports.specs.Records.{answered, planned, sheetRead, sheetWritten};
+ghost use Rattle.home.specs.Promise.{RepeatsPromise};
+ghost use Rattle.cameras.specs.Promises.{RemovePromise, AddPromise};
+ghost use Rattle.exports.specs.Records.{answered, planned, sheetRead, sheetWritten, homeAfter};
 
 // The lengths of four axes, last axis fastest.
 #[repr(C)]
@@ -44,6 +46,13 @@ pub struct Sheet {
 // What the sheet writer answers.
 #[repr(C)]
 pub struct Written {
+    pub number: u32,
+    pub count: usize,
+}
+
+// What the count of repeats answers.
+#[repr(C)]
+pub struct Home {
     pub number: u32,
     pub count: usize,
 }
@@ -176,4 +185,43 @@ pub extern "C" fn zib_job(
     ensures { λ r. ⌜ Done (now (bytes .entry)) (now (words .entry)) (now (scratch .entry)) (now (out .entry)) r (now (words .exit)) (now (scratch .exit)) (now (out .exit)) ⌝ }
 {
     job::job(bytes, words, scratch, out)
+}
+
+// How often the turn of m by n is repeated until every block of that shape is home.
+#[no_mangle]
+pub extern "C" fn zib_repeats(m: usize, n: usize) -> Home
+    ensures { λ r. ⌜ RepeatsPromise m n (homeAfter r) ⌝ }
+{
+    let h = home::repeats(m, n);
+    Home {
+        number: h.number,
+        count: h.count,
+    }
+}
+
+// Removes a camera's column from a block of frames by cameras words.
+#[no_mangle]
+pub extern "C" fn zib_remove_camera(
+    buf: &mut [u32],
+    frames: usize,
+    cameras: usize,
+    column: usize,
+) -> u32
+    ensures { λ r. ⌜ RemovePromise frames cameras column (now (buf .entry)) r (now (buf .exit)) ⌝ }
+{
+    cameras::remove(buf, frames, cameras, column)
+}
+
+// Adds a camera's column to a block of frames by cameras words.
+#[no_mangle]
+pub extern "C" fn zib_add_camera(
+    buf: &mut [u32],
+    frames: usize,
+    cameras: usize,
+    column: usize,
+    words: &[u32],
+) -> u32
+    ensures { λ r. ⌜ AddPromise frames cameras column (now (words .entry)) (now (buf .entry)) r (now (buf .exit)) ⌝ }
+{
+    cameras::add(buf, frames, cameras, column, words)
 }

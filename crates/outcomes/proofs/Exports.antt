@@ -10,15 +10,19 @@ use Rattle.axes.specs.declared.Answer.{Answer as Below-Answer}
 use Rattle.axes.specs.declared.Planned.{Planned as Below-Planned}
 use Rattle.sheet.specs.declared.Sheet.{Sheet as Below-Sheet}
 use Rattle.sheet.specs.declared.Written.{Written as Below-Written}
+use Rattle.home.specs.declared.Home.{Home as Below-Home}
 use Rattle.exports.specs.declared.Answer.{Answer}
 use Rattle.exports.specs.declared.Planned.{Planned}
 use Rattle.exports.specs.declared.Sheet.{Sheet}
 use Rattle.exports.specs.declared.Written.{Written}
+use Rattle.exports.specs.declared.Home.{Home}
 use Rattle.passes.proofs.OneOutcome as passes
 use Rattle.halves.proofs.OneOutcome as halves
 use Rattle.axes.proofs.OneOutcome as axes-outcome
 use Rattle.sheet.proofs.OneOutcome as sheets
 use Rattle.job.proofs.OneOutcome as jobs
+use Rattle.home.proofs.OneOutcome as homes
+use Rattle.cameras.proofs.OneOutcome as cameras
 use Rattle.exports.proofs.zib_turn.Kinds as turn-kinds
 use Rattle.exports.proofs.zib_turn.Reads as turn
 use Rattle.exports.proofs.zib_turn_back.Kinds as turn-back-kinds
@@ -37,6 +41,12 @@ use Rattle.exports.proofs.zib_write_sheet.Kinds as write-sheet-kinds
 use Rattle.exports.proofs.zib_write_sheet.Reads as write-sheet
 use Rattle.exports.proofs.zib_job.Kinds as job-kinds
 use Rattle.exports.proofs.zib_job.Reads as job
+use Rattle.exports.proofs.zib_repeats.Kinds as repeats-kinds
+use Rattle.exports.proofs.zib_repeats.Reads as repeats
+use Rattle.exports.proofs.zib_remove_camera.Kinds as remove-kinds
+use Rattle.exports.proofs.zib_remove_camera.Reads as remove
+use Rattle.exports.proofs.zib_add_camera.Kinds as add-kinds
+use Rattle.exports.proofs.zib_add_camera.Reads as add
 
 -- a record of the interface from that of the call below, field by field
 abbrev as-answer : Below-Answer → Answer
@@ -47,6 +57,9 @@ as-plan r = record { number = r .number; swaps = r .swaps; len = r .len }
 
 abbrev as-sheet : Below-Sheet → Sheet
 as-sheet r = record { number = r .number; place = r .place; lens = r .lens; swaps = r .swaps; count = r .count }
+
+abbrev as-home : Below-Home → Home
+as-home r = record { number = r .number; count = r .count }
 
 abbrev as-wrote : Below-Written → Written
 as-wrote r = record { number = r .number; count = r .count }
@@ -86,3 +99,15 @@ write-sheet-once κs a r r′ s s′ p q = let e = sheets.write-once p q in (ap 
 pub job-once : (κs : Lfts 4) (a : Dens κs job-kinds.ps) (r r′ : ℕ) (s s′ : AtExit (endedOf 4 job-kinds.ps job-kinds.r) κs)
     → job.Post κs a r s → job.Post κs a r′ s′ → (r ≡ r′) × (s .1 .0 .now ≡ s′ .1 .0 .now) × (s .1 .1 .0 .now ≡ s′ .1 .1 .0 .now) × (s .1 .1 .1 .0 .now ≡ s′ .1 .1 .1 .0 .now)
 job-once κs a r r′ s s′ p q = jobs.job-once p q
+
+pub repeats-once : (κs : Lfts 0) (a : Dens κs repeats-kinds.ps) (r r′ : Home) (s s′ : AtExit (endedOf 0 repeats-kinds.ps repeats-kinds.r) κs)
+    → repeats.Post κs a r s → repeats.Post κs a r′ s′ → r ≡ r′
+repeats-once κs a r r′ s s′ p q = ap as-home (homes.repeats-once p q)
+
+pub remove-camera-once : (κs : Lfts 1) (a : Dens κs remove-kinds.ps) (r r′ : ℕ) (s s′ : AtExit (endedOf 1 remove-kinds.ps remove-kinds.r) κs)
+    → remove.Post κs a r s → remove.Post κs a r′ s′ → (r ≡ r′) × (s .0 .now ≡ s′ .0 .now)
+remove-camera-once κs a r r′ s s′ p q = cameras.remove-once (a .1 .0) (a .1 .1 .0) (a .1 .1 .1 .0) p q
+
+pub add-camera-once : (κs : Lfts 2) (a : Dens κs add-kinds.ps) (r r′ : ℕ) (s s′ : AtExit (endedOf 2 add-kinds.ps add-kinds.r) κs)
+    → add.Post κs a r s → add.Post κs a r′ s′ → (r ≡ r′) × (s .0 .now ≡ s′ .0 .now)
+add-camera-once κs a r r′ s s′ p q = cameras.add-once (a .1 .0) (a .1 .1 .0) (a .1 .1 .1 .0) p q

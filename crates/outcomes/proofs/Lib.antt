@@ -20,3 +20,7 @@ pub mod RefutedPlan
 pub mod RefutedRead
 pub mod RefutedWrite
 pub mod RefutedJob
+-- the count of repeats: one outcome, and wrong ones refuted
+pub mod Repeats
+-- removing and adding a camera: one outcome, and wrong ones refuted
+pub mod Cameras

@@ -1,0 +1,72 @@
+-- Removing and adding undo each other: a column removed and the same words added at the same place restore every word; a column added and
+-- removed restores the block. Each column of the larger block is the new one or one of the smaller block, moved past it.
+use mathlib.Core.Path.{_≡_, refl, sym, ap, _∙_}
+use mathlib.Core.List.{List}
+use mathlib.Core.Logic.{_⊎_, inl, inr, ⊎-elim}
+use Prim.Native.Nat.{ℕ, suc, _+_, _*_, _-_, _/_, _%_, _<_, _≤_}
+use native.Mathlib.Nat.{div-lt-iff-lt-mul, mod-lt, div-add-mod', mul-comm}
+use native.Mathlib.Omega.{arith}
+use lib.ListN.{length, getD}
+use lib.Seq.{ext-getD}
+use Rattle.lists.proofs.Decide.{lt-or-ge, eq-or-ne}
+use Rattle.cameras.specs.Columns.{past, Removed, Added}
+use Rattle.cameras.proofs.OneRow.{past-before, past-after, at}
+
+-- a column of the larger block: column k, or column j of the smaller one
+pub record Other (n k c : ℕ) : Type 0 where
+  pub j : ℕ
+  pub low : j < n
+  pub is : past k j ≡ c
+
+pub column-is : (n k c : ℕ) → k ≤ n → c < suc n → (c ≡ k) ⊎ Other n k c
+column-is n k c low h =
+    ⊎-elim
+    (λ (e : c ≡ k). inl e)
+    (λ (e : c ≡ k → ⊥).
+    ⊎-elim
+    (λ (b : c < k). inr (record { j = c; low = omega arith; is = past-before k c b }))
+    (λ (b : k ≤ c). inr (record { j = c - 1; low = omega arith; is = past-after k (c - 1) (omega arith) ∙ omega arith }))
+    (lt-or-ge c k))
+    (eq-or-ne c k)
+
+-- what holds at every row and column of a block holds at every offset of it
+pub by-cells : (frames n : ℕ) (xs ys : List ℕ) → ((i j : ℕ) → i < frames → j < n → getD xs (i * n + j) 0 ≡ getD ys (i * n + j) 0)
+    → (p : ℕ) → p < frames * n → getD xs p 0 ≡ getD ys p 0
+by-cells frames n xs ys f p h =
+    let wide : 0 < n = ⊎-elim (λ (w : 0 < n). w) (λ (w : n ≤ 0). let z : n ≡ 0 = omega arith in absurd (omega (arith, ap (λ (k : ℕ). frames * k) z))) (lt-or-ge 0 n) in
+    let cell : p ≡ p / n * n + p % n = sym (div-add-mod' p n) in
+    at xs cell ∙ f (p / n) (p % n) (div-lt-iff-lt-mul wide .1 h) (mod-lt p wide) ∙ at ys (sym cell)
+
+-- a word of the larger block by its row and its column, where the column was added
+added-cell : {frames n k : ℕ} {column ys zs : List ℕ} → k ≤ n → Added frames n k column ys zs → (ws : List ℕ)
+    → ((i : ℕ) → i < frames → getD column i 0 ≡ getD ws (i * suc n + k) 0)
+    → ((i j : ℕ) → i < frames → j < n → getD ys (i * n + j) 0 ≡ getD ws (i * suc n + past k j) 0)
+    → (i c : ℕ) → i < frames → c < suc n → getD zs (i * suc n + c) 0 ≡ getD ws (i * suc n + c) 0
+added-cell {n = n} {k} {zs = zs} low a ws new old i c h g =
+    ⊎-elim
+    (λ (e : c ≡ k). at zs (ap (λ (z : ℕ). i * suc n + z) e) ∙ a .new i h ∙ new i h ∙ at ws (ap (λ (z : ℕ). i * suc n + z) (sym e)))
+    (λ (o : Other n k c).
+    at zs (ap (λ (z : ℕ). i * suc n + z) (sym (o .is)))
+    ∙ a .opened i (o .j) h (o .low)
+    ∙ old i (o .j) h (o .low)
+    ∙ at ws (ap (λ (z : ℕ). i * suc n + z) (o .is)))
+    (column-is n k c low g)
+
+-- removing a column and adding the same words at the same place restores every word, the freed ones too
+pub restored : {frames n k : ℕ} {column xs ys zs : List ℕ} → k ≤ n → Removed frames n k xs ys
+    → ((i : ℕ) → i < frames → getD column i 0 ≡ getD xs (i * suc n + k) 0) → Added frames n k column ys zs → zs ≡ xs
+restored {frames} {n} {xs = xs} {zs = zs} low r words a =
+    ext-getD 0 zs xs (a .same ∙ r .same)
+    (λ p _.
+    ⊎-elim
+    (λ (h : p < frames * suc n). by-cells frames (suc n) zs xs (added-cell low a xs words (λ i j g f. r .closed i j g f)) p h)
+    (λ (h : frames * suc n ≤ p). a .tail p h ∙ r .tail p h)
+    (lt-or-ge p (frames * suc n)))
+
+-- adding a column and removing it restores the block; the words that it used are zero, those past them as they were
+module _ {frames n k : ℕ} {column xs ys zs : List ℕ} (a : Added frames n k column xs ys) (r : Removed frames n k ys zs) where
+  pub block-restored : (p : ℕ) → p < frames * n → getD zs p 0 ≡ getD xs p 0
+  block-restored = by-cells frames n zs xs (λ i j h g. r .closed i j h g ∙ a .opened i j h g)
+
+  pub tail-restored : (p : ℕ) → frames * suc n ≤ p → getD zs p 0 ≡ getD xs p 0
+  tail-restored p h = r .tail p h ∙ a .tail p h

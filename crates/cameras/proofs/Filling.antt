@@ -1,0 +1,57 @@
+-- A stretch of the buffer filled word by word, from the front or from the back: what is filled holds its values, the rest stands.
+use mathlib.Core.Path.{_≡_, refl, sym, ap, _∙_}
+use mathlib.Core.List.{List}
+use mathlib.Core.Logic.{⊎-elim}
+use Prim.Native.Nat.{ℕ, _+_, _<_, _≤_}
+use native.Mathlib.Omega.{arith}
+use lib.ListN.{length, getD, set, length-set}
+use lib.Seq.{getD-set-same, getD-set-other}
+use Rattle.lists.proofs.Decide.{eq-or-ne}
+use Rattle.cameras.specs.Moves.{Stretch}
+
+-- the places from lo up to hi are filled
+pub record Filled (to lo hi : ℕ) (value : ℕ → ℕ) (xs ys : List ℕ) : Type 0 where
+  pub same : length ys ≡ length xs
+  pub holds : (p : ℕ) → lo ≤ p → p < hi → getD ys (to + p) 0 ≡ value p
+  pub below : (q : ℕ) → q < to + lo → getD ys q 0 ≡ getD xs q 0
+  pub above : (q : ℕ) → to + hi ≤ q → getD ys q 0 ≡ getD xs q 0
+
+module _ {to : ℕ} {value : ℕ → ℕ} {xs : List ℕ} where
+  pub nothing-filled : (k : ℕ) → Filled to k k value xs xs
+  nothing-filled k = record { same = refl; holds = λ p l h. absurd (omega arith); below = λ q h. refl; above = λ q h. refl }
+
+  pub all-filled : {lo hi count : ℕ} {ys : List ℕ} → Filled to lo hi value xs ys → lo ≡ 0 → hi ≡ count → Stretch to count value xs ys
+  all-filled f first last = record {
+    same = f .same;
+    holds = λ p h. f .holds p (omega arith) (omega arith);
+    below = λ q h. f .below q (omega arith);
+    above = λ q h. f .above q (omega arith);
+  }
+
+  module _ {lo hi : ℕ} {ys : List ℕ} where
+    -- one place more at the back
+    pub filled-up : Filled to lo hi value xs ys → (v : ℕ) → v ≡ value hi → lo ≤ hi → to + hi < length xs → Filled to lo (hi + 1) value xs (set ys (to + hi) v)
+    filled-up f v e l h = record {
+      same = length-set ys (to + hi) v ∙ f .same;
+      holds = λ p a b.
+          ⊎-elim
+          (λ (z : p ≡ hi). ap (λ (k : ℕ). getD (set ys (to + hi) v) (to + k) 0) z ∙ getD-set-same ys (to + hi) v 0 (omega (arith, f .same)) ∙ e ∙ ap value (sym z))
+          (λ (z : p ≡ hi → ⊥). getD-set-other ys (to + hi) (to + p) v 0 (λ y. z (omega arith)) ∙ f .holds p a (omega arith))
+          (eq-or-ne p hi);
+      below = λ q g. getD-set-other ys (to + hi) q v 0 (λ y. omega arith) ∙ f .below q g;
+      above = λ q g. getD-set-other ys (to + hi) q v 0 (λ y. omega arith) ∙ f .above q (omega arith);
+    }
+
+  module _ {lo next hi : ℕ} {ys : List ℕ} where
+    -- one place more at the front
+    pub filled-down : Filled to next hi value xs ys → next ≡ lo + 1 → (v : ℕ) → v ≡ value lo → lo < hi → to + hi ≤ length xs → Filled to lo hi value xs (set ys (to + lo) v)
+    filled-down f n v e l h = record {
+      same = length-set ys (to + lo) v ∙ f .same;
+      holds = λ p a b.
+          ⊎-elim
+          (λ (z : p ≡ lo). ap (λ (k : ℕ). getD (set ys (to + lo) v) (to + k) 0) z ∙ getD-set-same ys (to + lo) v 0 (omega (arith, f .same)) ∙ e ∙ ap value (sym z))
+          (λ (z : p ≡ lo → ⊥). getD-set-other ys (to + lo) (to + p) v 0 (λ y. z (omega arith)) ∙ f .holds p (omega arith) b)
+          (eq-or-ne p lo);
+      below = λ q g. getD-set-other ys (to + lo) q v 0 (λ y. omega arith) ∙ f .below q (omega arith);
+      above = λ q g. getD-set-other ys (to + lo) q v 0 (λ y. omega arith) ∙ f .above q g;
+    }

@@ -1,0 +1,14 @@
+-- a stretch of the buffer filled word by word, from either end
+pub mod Filling
+-- a row that closes up over a column, and one that opens for a word
+pub mod OneRow
+-- the rows one after the other
+pub mod AllRows
+-- what the checks tell where none holds
+pub mod Accepted
+-- rows closed up and words zeroed are the block without the column
+pub mod Removed
+-- removing and adding undo each other
+pub mod Back
+-- any two outcomes coincide, and freed room is always enough
+pub mod OneOutcome

@@ -1,0 +1,94 @@
+-- Any two outcomes that removing or adding allows coincide, and after an accepted removal adding to what is left can be refused by 16 or
+-- 25 only: freed room is always enough.
+use mathlib.Core.Path.{_≡_, refl, sym, ap, _∙_}
+use mathlib.Core.Bool.{Bool, true, false, cond}
+use mathlib.Core.List.{List, [], _∷_}
+use mathlib.Core.Logic.{_⊎_, inl, inr, ⊎-elim}
+use Prim.Native.Nat.{ℕ, suc, _+_, _*_, _-_, _<_, _≤_}
+use native.Mathlib.Omega.{arith}
+use lib.Dec.{ltb, eqb}
+use lib.ListN.{length, getD}
+use lib.Seq.{ext-getD}
+use borrow.Author.Tests.{le-ltb}
+use Rattle.lists.proofs.Decide.{lt-or-ge, eq-or-ne}
+use Rattle.layout.specs.Layout.{volume}
+use Rattle.refusals.specs.FirstOf.{Check, firstOf}
+use Rattle.flat.specs.Turn.{sides}
+use Rattle.flat.proofs.Turn.{volume-two}
+use Rattle.cameras.specs.Columns.{past, Removed, Added}
+use Rattle.cameras.specs.Promises.{removeChecks, addChecks, noColumn, otherLength, badCameras, Changed, RemovePromise, AddPromise}
+use Rattle.cameras.proofs.OneRow.{at}
+use Rattle.cameras.proofs.Back.{by-cells, column-is, Other}
+use Rattle.cameras.proofs.Accepted.{Removes, removes, lengths-left, adds}
+
+one-removed : {frames n k : ℕ} {xs ys zs : List ℕ} → Removed frames n k xs ys → Removed frames n k xs zs → ys ≡ zs
+one-removed {frames} {n} {k} {xs} {ys} {zs} r s =
+    ext-getD 0 ys zs (r .same ∙ sym (s .same))
+    (λ p _.
+    ⊎-elim
+    (λ (h : p < frames * n). by-cells frames n ys zs (λ i j g f. r .closed i j g f ∙ sym (s .closed i j g f)) p h)
+    (λ (h : frames * n ≤ p).
+    ⊎-elim
+    (λ (g : p < frames * suc n). r .freed p h g ∙ sym (s .freed p h g))
+    (λ (g : frames * suc n ≤ p). r .tail p g ∙ sym (s .tail p g))
+    (lt-or-ge p (frames * suc n)))
+    (lt-or-ge p (frames * n)))
+
+one-added : {frames n k : ℕ} {column xs ys zs : List ℕ} → k ≤ n → Added frames n k column xs ys → Added frames n k column xs zs → ys ≡ zs
+one-added {frames} {n} {k} {column} {xs} {ys} {zs} low r s =
+    ext-getD 0 ys zs (r .same ∙ sym (s .same))
+    (λ p _.
+    ⊎-elim
+    (λ (h : p < frames * suc n). by-cells frames (suc n) ys zs cell p h)
+    (λ (h : frames * suc n ≤ p). r .tail p h ∙ sym (s .tail p h))
+    (lt-or-ge p (frames * suc n)))
+  where
+    cell : (i c : ℕ) → i < frames → c < suc n → getD ys (i * suc n + c) 0 ≡ getD zs (i * suc n + c) 0
+    cell i c h g =
+        ⊎-elim
+        (λ (e : c ≡ k). let o = ap (λ (z : ℕ). i * suc n + z) e in at ys o ∙ r .new i h ∙ sym (s .new i h) ∙ at zs (sym o))
+        (λ (o : Other n k c).
+        let e = ap (λ (z : ℕ). i * suc n + z) (o .is) in
+        at ys (sym e) ∙ r .opened i (o .j) h (o .low) ∙ sym (s .opened i (o .j) h (o .low)) ∙ at zs e)
+        (column-is n k c low g)
+
+-- two outcomes of one promise, where two right ones of an accepted call are equal
+one-change : {checks : List Check} {Right : List ℕ → Type 0} {before ys zs : List ℕ} {r r′ : ℕ} → (firstOf checks ≡ 0 → Right ys → Right zs → ys ≡ zs)
+    → Changed checks Right before r ys → Changed checks Right before r′ zs → (r ≡ r′) × (ys ≡ zs)
+one-change {r = r} {r′} one p q =
+    let e : r ≡ r′ = p .number-is ∙ sym (q .number-is) in
+    ⊎-elim
+    (λ (z : r ≡ 0). (e, one (sym (p .number-is) ∙ z) (p .words z) (q .words (sym e ∙ z))))
+    (λ (n : r ≡ 0 → ⊥). (e, p .kept n ∙ sym (q .kept (λ z. n (e ∙ z)))))
+    (eq-or-ne r 0)
+
+pub remove-once : (frames cameras k : ℕ) {r r′ : ℕ} {xs ys zs : List ℕ} → RemovePromise frames cameras k xs r ys → RemovePromise frames cameras k xs r′ zs
+    → (r ≡ r′) × (ys ≡ zs)
+remove-once frames cameras k p q = one-change (λ _. one-removed) p q
+
+pub add-once : (frames cameras k : ℕ) {r r′ : ℕ} {column xs ys zs : List ℕ} → AddPromise frames cameras k column xs r ys → AddPromise frames cameras k column xs r′ zs
+    → (r ≡ r′) × (ys ≡ zs)
+add-once frames cameras k {column = column} {xs} p q = one-change (λ e. one-added (adds frames cameras k column xs e .low)) p q
+
+-- what is left to be refused
+place-or-length : (a b : Bool) → let number = cond {A = ℕ} a 16 (cond b 25 0) in (number ≡ 0) ⊎ ((number ≡ 16) ⊎ (number ≡ 25))
+place-or-length true b = inr (inl refl)
+place-or-length false true = inr (inr refl)
+place-or-length false false = inl refl
+
+-- after an accepted removal a column can be added to what is left: only its place or its length can be wrong
+pub room-enough : (frames cameras k place : ℕ) (column xs ys : List ℕ) → firstOf (removeChecks frames cameras k xs) ≡ 0 → length ys ≡ length xs
+    → let number = firstOf (addChecks frames (cameras - 1) place column ys) in (number ≡ 0) ⊎ ((number ≡ 16) ⊎ (number ≡ 25))
+room-enough f c k place column xs ys e same =
+    let r = removes f c k xs e in
+    let before = volume-two f (c - 1) in
+    let after = volume-two f (c - 1 + 1) in
+    let less : f * (c - 1) ≤ f * suc (c - 1) = omega arith in
+    rw (
+      lengths-left f c k xs e,
+      le-ltb 1048576 (volume (sides f (c - 1))) (omega (arith, r .few)),
+      le-ltb 1048576 (volume (sides f (c - 1 + 1))) (omega (arith, r .few)),
+      le-ltb (length ys) (volume (sides f (c - 1))) (omega (arith, r .fits)),
+      le-ltb (length ys) (volume (sides f (c - 1 + 1))) (omega (arith, r .fits)),
+    )
+    (place-or-length (noColumn (c - 1) place) (otherLength f column))

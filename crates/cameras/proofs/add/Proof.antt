@@ -1,0 +1,28 @@
+-- `add` meets its contract: refused by the checks, or the rows open for the column.
+use mathlib.Core.Path.{_≡_}
+use borrow.Author.Needs.{needs}
+use Rattle.lists.proofs.Via.{via}
+use Rattle.refusals.specs.FirstOf.{firstOf}
+use Rattle.cameras.specs.Promises.{addChecks}
+use Rattle.cameras.proofs.Accepted.{Adds, adds, refused, accepted}
+use Rattle.cameras.proofs.add.Statement.{statement}
+use Rattle.cameras.proofs.add.Tie as tie
+
+-- what the checks tell of the arguments where none holds
+checked : (s : tie.Start) → let a = s .args in firstOf (addChecks (a .frames) (a .cameras) (a .column) (a .words .now) (a .buf .now)) ≡ 0
+    → Adds (a .frames) (a .cameras) (a .column) (a .words .now) (a .buf .now)
+checked s = adds _ _ _ _ _
+
+returns-2 : tie.Need-returns-2
+returns-2 c = let o : tie.After-open = search in accepted (search via) (o .open .ensures)
+
+pub add-spec : {M : Type 1} → statement M
+add-spec =
+    tie.close
+    (tie.spec
+    (search needs)
+    (search needs)
+    (λ c. search refused)
+    (λ c κs. let h = checked (search) (search via) in (h .low, h .fits, h .long))
+    (search needs)
+    returns-2)

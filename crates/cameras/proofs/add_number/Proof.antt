@@ -1,0 +1,173 @@
+-- `add_number` meets its contract: each test is that of a check, in its order; the words before and after are products.
+use mathlib.Core.Path.{_≡_, refl, sym, ap, _∙_}
+use mathlib.Core.Bool.{Bool, true, false, cond, _||_}
+use mathlib.Core.List.{[], _∷_}
+use Prim.Native.Nat.{ℕ, _+_, _*_, _<_, _≤_}
+use native.Mathlib.Nat.{mul-le-mul}
+use native.Mathlib.Omega.{arith}
+use lib.Dec.{ltb}
+use lib.ListN.{length}
+use borrow.Author.Needs.{needs}
+use borrow.Author.Tests.{lt-ltb, le-ltb, eq-eqb, ne-eqb}
+use Rattle.lists.proofs.Via.{via}
+use Rattle.layout.specs.Layout.{volume}
+use Rattle.refusals.specs.Conditions.{outOfRange}
+use Rattle.refusals.proofs.Conditions.{InRange, in-range, range-above}
+use Rattle.refusals.proofs.Conditions.InRange.{none, more}
+use Rattle.flat.specs.Turn.{sides}
+use Rattle.flat.proofs.Turn.{volume-two}
+use Rattle.cameras.specs.Promises.{badCameras}
+use Rattle.cameras.proofs.add_number.Statement.{statement}
+use Rattle.cameras.proofs.add_number.Tie as tie
+
+-- a camera count above 4,095 leaves no room for one more
+last-bad : (a b c : Bool) → c ≡ true → (a || (b || (c || false))) ≡ true
+last-bad true b c e = refl
+last-bad false true c e = refl
+last-bad false false c e = rw e
+
+-- no length is bad: frames and cameras are few
+low : (f n : ℕ) → badCameras f n (n + 1) ≡ false → (f ≤ 4096) × (n ≤ 4096)
+low f n e = go (in-range _ e)
+  where
+    go : InRange (f ∷ n ∷ (n + 1) ∷ []) → (f ≤ 4096) × (n ≤ 4096)
+    go (more pf ff (more pn fn r)) = (ff, fn)
+
+-- the size after is too large, whether or not the size before is
+either-way : (t : Bool) → cond {A = ℕ} t 2 2 ≡ 2
+either-way true = refl
+either-way false = refl
+
+returns : tie.Need-returns
+returns c =
+    let s : tie.Start = search in
+    rw (last-bad (outOfRange (s .args .frames)) (outOfRange (s .args .cameras)) (outOfRange (s .args .cameras + 1)) (range-above (s .args .cameras + 1) (λ e. omega arith) (omega arith)))
+
+returns-2 : tie.Need-returns-2
+returns-2 c =
+    let s : tie.Start = search in
+    let bad : badCameras (s .args .frames) (s .args .cameras) (s .args .cameras + 1) ≡ true = search via in
+    rw bad
+
+mul-size : tie.Need-mul-size
+mul-size c =
+    let s : tie.Start = search in
+    let l = low (s .args .frames) (s .args .cameras) (search via) in
+    record { fits = omega (arith, mul-le-mul (l .0) (l .1)) }
+
+add-room : tie.Need-add-room
+add-room c =
+    let s : tie.Start = search in
+    let l = low (s .args .frames) (s .args .cameras) (search via) in
+    omega (arith, mul-le-mul (l .0) (l .1))
+
+returns-3 : tie.Need-returns-3
+returns-3 c =
+    let s : tie.Start = search in
+    let f = s .args .frames in
+    let n = s .args .cameras in
+    let good : badCameras f n (n + 1) ≡ false = search via in
+    let after = volume-two f (n + 1) in
+    rw (good, lt-ltb 1048576 (volume (sides f (n + 1))) (omega arith)) (sym (either-way (ltb 1048576 (volume (sides f n)))))
+
+returns-4 : tie.Need-returns-4
+returns-4 c =
+    let s : tie.Start = search in
+    let f = s .args .frames in
+    let n = s .args .cameras in
+    let good : badCameras f n (n + 1) ≡ false = search via in
+    let before = volume-two f n in
+    let after = volume-two f (n + 1) in
+    rw (
+      good,
+      le-ltb 1048576 (volume (sides f n)) (omega arith),
+      le-ltb 1048576 (volume (sides f (n + 1))) (omega arith),
+      lt-ltb (length (s .args .buf .now)) (volume (sides f n)) (omega arith),
+    )
+
+returns-5 : tie.Need-returns-5
+returns-5 c =
+    let s : tie.Start = search in
+    let f = s .args .frames in
+    let n = s .args .cameras in
+    let good : badCameras f n (n + 1) ≡ false = search via in
+    let before = volume-two f n in
+    let after = volume-two f (n + 1) in
+    rw (
+      good,
+      le-ltb 1048576 (volume (sides f n)) (omega arith),
+      le-ltb 1048576 (volume (sides f (n + 1))) (omega arith),
+      le-ltb (length (s .args .buf .now)) (volume (sides f n)) (omega arith),
+      lt-ltb n (s .args .column) (omega arith),
+    )
+
+returns-6 : tie.Need-returns-6
+returns-6 c =
+    let s : tie.Start = search in
+    let f = s .args .frames in
+    let n = s .args .cameras in
+    let good : badCameras f n (n + 1) ≡ false = search via in
+    let before = volume-two f n in
+    let after = volume-two f (n + 1) in
+    rw (
+      good,
+      le-ltb 1048576 (volume (sides f n)) (omega arith),
+      le-ltb 1048576 (volume (sides f (n + 1))) (omega arith),
+      le-ltb (length (s .args .buf .now)) (volume (sides f n)) (omega arith),
+      le-ltb n (s .args .column) (omega arith),
+      lt-ltb (length (s .args .buf .now)) (volume (sides f (n + 1))) (omega arith),
+    )
+
+returns-7 : tie.Need-returns-7
+returns-7 c =
+    let s : tie.Start = search in
+    let f = s .args .frames in
+    let n = s .args .cameras in
+    let good : badCameras f n (n + 1) ≡ false = search via in
+    let before = volume-two f n in
+    let after = volume-two f (n + 1) in
+    rw (
+      good,
+      le-ltb 1048576 (volume (sides f n)) (omega arith),
+      le-ltb 1048576 (volume (sides f (n + 1))) (omega arith),
+      le-ltb (length (s .args .buf .now)) (volume (sides f n)) (omega arith),
+      le-ltb n (s .args .column) (omega arith),
+      le-ltb (length (s .args .buf .now)) (volume (sides f (n + 1))) (omega arith),
+      ne-eqb (length (s .args .words .now)) f (search),
+    )
+
+returns-8 : tie.Need-returns-8
+returns-8 c =
+    let s : tie.Start = search in
+    let f = s .args .frames in
+    let n = s .args .cameras in
+    let good : badCameras f n (n + 1) ≡ false = search via in
+    let before = volume-two f n in
+    let after = volume-two f (n + 1) in
+    rw (
+      good,
+      le-ltb 1048576 (volume (sides f n)) (omega arith),
+      le-ltb 1048576 (volume (sides f (n + 1))) (omega arith),
+      le-ltb (length (s .args .buf .now)) (volume (sides f n)) (omega arith),
+      le-ltb n (s .args .column) (omega arith),
+      le-ltb (length (s .args .buf .now)) (volume (sides f (n + 1))) (omega arith),
+      eq-eqb (length (s .args .words .now)) f (search),
+    )
+
+pub add-number-spec : {M : Type 1} → statement M
+add-number-spec =
+    tie.close
+    (tie.spec
+    returns
+    (search needs)
+    (search needs)
+    (search needs)
+    returns-2
+    mul-size
+    add-room
+    returns-3
+    returns-4
+    returns-5
+    returns-6
+    returns-7
+    returns-8)

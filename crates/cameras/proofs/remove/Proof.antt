@@ -1,0 +1,49 @@
+-- `remove` meets its contract: refused by the checks, or the rows close up and the freed words are zeroed.
+use mathlib.Core.Path.{_≡_}
+use Prim.Native.Nat.{_-_}
+use native.Mathlib.Omega.{arith}
+use borrow.Author.Needs.{needs}
+use Rattle.lists.proofs.Via.{via}
+use Rattle.refusals.specs.FirstOf.{firstOf}
+use Rattle.cameras.specs.Promises.{removeChecks}
+use Rattle.cameras.proofs.Accepted.{Removes, removes, refused, accepted}
+use Rattle.cameras.proofs.Removed.{removed}
+use Rattle.cameras.proofs.remove.Statement.{statement}
+use Rattle.cameras.proofs.remove.Tie as tie
+
+-- what the checks tell of the arguments where none holds
+checked : (s : tie.Start) → let a = s .args in firstOf (removeChecks (a .frames) (a .cameras) (a .column) (a .buf .now)) ≡ 0
+    → Removes (a .frames) (a .cameras) (a .cameras - 1) (a .column) (a .buf .now)
+checked s = removes _ _ _ _
+
+mul-zero : tie.Need-mul-zero
+mul-zero c =
+    let h = checked (search) (search via) in
+    omega (arith, h)
+
+zero-requires : tie.Need-zero-requires
+zero-requires c κs =
+    let r : tie.After-close = search in
+    let h = checked (search) (search via) in
+    omega (arith, h, r .close .ensures .same)
+
+returns-2 : tie.Need-returns-2
+returns-2 c =
+    let z : tie.After-zero = search in
+    let r : tie.After-close = search in
+    accepted (search via) (removed (r .close .ensures) (z .zero .ensures))
+
+pub remove-spec : {M : Type 1} → statement M
+remove-spec =
+    tie.close
+    (tie.spec
+    (search needs)
+    (search needs)
+    (λ c. search refused)
+    (λ c. omega (arith, checked (search) (search via)))
+    (λ c κs. let h = checked (search) (search via) in (h .low, h .fits))
+    (λ c. omega (arith, checked (search) (search via)))
+    mul-zero
+    zero-requires
+    (search needs)
+    returns-2)

@@ -1,0 +1,16 @@
+-- the first number that passes a test
+pub mod First
+-- of n + 1 numbers below n two are equal
+pub mod Pigeons
+-- a one-to-one map brings every number home, and again at the multiples of the first time
+pub mod Orbit
+-- the map of offsets takes i·n + j to j·m + i and is one to one
+pub mod Goes
+-- the flat turn is the map of offsets
+pub mod Sent
+-- the map of offsets applied h times multiplies by m to the power h
+pub mod Powers
+-- turns bring every block back exactly when the power leaves 1
+pub mod Turns
+-- the fewest repeats, and that n by m takes as many as m by n
+pub mod Fewest
