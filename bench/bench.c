@@ -25,8 +25,8 @@
 
 enum { MOST_WORDS = 1 << 20, LONGEST = 4096, ROUNDS = 21, STRETCH = 200000 /* words in a timed stretch, at least */ };
 
-const struct shape shapes[SHAPES] = {{64, 15},    {64, 16},    {256, 256},   {1000, 1000}, {1024, 1024},
-                                     {4096, 256}, {256, 4096}, {1000, 1047}, {4096, 16}};
+const struct shape shapes[SHAPES] = {{64, 15},     {64, 16},    {40, 40},    {256, 256},   {1000, 1000},
+                                     {1024, 1024}, {4096, 256}, {256, 4096}, {1000, 1047}, {4096, 16}};
 struct found found[MOST_METHODS][SHAPES];
 
 static size_t m, n; /* the shape of this round */
@@ -77,6 +77,14 @@ static void passes(void) { zib_turn(block, m * n, scratch, LONGEST, m, n); }
 static void reverse(void) { zib_turn_back(block, m * n, scratch, LONGEST, m, n); }
 static void halves(void) { zib_turn_halves(block, m * n, m, n); }
 
+#ifdef EARLIER
+/* the same calls of an earlier revision, renamed in its archive by bench/compare */
+uint32_t earlier_turn(uint32_t *, size_t, uint32_t *, size_t, size_t, size_t);
+uint32_t earlier_turn_back(uint32_t *, size_t, uint32_t *, size_t, size_t, size_t);
+static void earlier_passes(void) { earlier_turn(block, m * n, scratch, LONGEST, m, n); }
+static void earlier_reverse(void) { earlier_turn_back(block, m * n, scratch, LONGEST, m, n); }
+#endif
+
 #ifdef RIVALS
 static fftwf_plan estimated, measured;
 
@@ -115,6 +123,10 @@ const struct method methods[] = {
     {"FFTW in place, ESTIMATE", "buffers of its own", "#98df8a", fftw_estimate, TURNS},
     {"FFTW in place, MEASURE", "buffers of its own", "#2ca02c", fftw_measure, TURNS},
     {"OpenBLAS simatcopy", "the block again", "#ff7f0e", openblas, TURNS},
+#endif
+#ifdef EARLIER
+    {"before, passes", "max(m, n) words", "#000000", earlier_passes, TURNS},
+    {"before, reverse", "max(m, n) words", "#000000", earlier_reverse, TURNS_BACK},
 #endif
 };
 const size_t method_count = sizeof methods / sizeof methods[0];

@@ -3,6 +3,8 @@ pub mod Flat
 pub mod Axes
 pub mod Sheets
 pub mod Exports
+-- the checks, and the shape with two axes exchanged: one answer, and wrong ones refuted
+pub mod Checks
 -- demand 2: passes and recursion leave the same words
 pub mod Methods
 -- demand 3 about the contract of the chain as the checker reads it

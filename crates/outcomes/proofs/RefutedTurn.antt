@@ -51,6 +51,21 @@ pub pass-3-without-group : {s : List ℕ} → Leaves 0 (0 ∷ 4 ∷ 1 ∷ 5 ∷ 
 unfolding at pick volume longest
 pass-3-without-group p = misplaced (p .words refl) (0 ∷ 2 ∷ []) tt tt
 
+-- the correction of pass 3 left out at the multiples of a, where a is 2: 4 by 2 holding 0 to 7
+pub correction-left-out : {s : List ℕ} → TurnPromise 4 2 block scratch 0 (0 ∷ 2 ∷ 4 ∷ 6 ∷ 0 ∷ 2 ∷ 4 ∷ 6 ∷ 8 ∷ []) s → ⊥
+unfolding at pick volume longest
+correction-left-out p = misplaced (p .words refl) (0 ∷ 1 ∷ []) tt tt
+
+-- the row of pass 2 not begun again at 0 where it reaches m: two words exchanged
+pub row-goes-past-m : {s : List ℕ} → Leaves 0 (0 ∷ 4 ∷ 1 ∷ 5 ∷ 3 ∷ 6 ∷ 2 ∷ 7 ∷ 8 ∷ []) s → ⊥
+unfolding at pick volume longest
+row-goes-past-m p = misplaced (p .words refl) (0 ∷ 2 ∷ []) tt tt
+
+-- one column of pass 1 skipped that does not stand still, column b
+pub moving-column-skipped : {s : List ℕ} → Leaves 0 (0 ∷ 4 ∷ 1 ∷ 5 ∷ 6 ∷ 2 ∷ 3 ∷ 7 ∷ 8 ∷ []) s → ⊥
+unfolding at pick volume longest
+moving-column-skipped p = misplaced (p .words refl) (0 ∷ 2 ∷ []) tt tt
+
 -- offset x followed to x·m modulo mn − 1, the last word sent to 0: it stays last
 pub last-word-to-0 : {s : List ℕ} → Leaves 0 (7 ∷ 4 ∷ 1 ∷ 5 ∷ 2 ∷ 6 ∷ 3 ∷ 7 ∷ 8 ∷ []) s → ⊥
 unfolding at pick volume longest

@@ -36,6 +36,12 @@ pub turns-forth : {s : List ℕ} → Leaves 0 (0 ∷ 3 ∷ 1 ∷ 4 ∷ 2 ∷ 5 �
 unfolding at pick volume longest
 turns-forth p = misplaced (p .words refl) (0 ∷ 1 ∷ []) tt tt
 
+-- one column of pass 1 skipped that does not stand still: 2 by 4, column 2
+pub moving-column-skipped : {s : List ℕ}
+    → TurnBackPromise 2 4 (0 ∷ 1 ∷ 2 ∷ 3 ∷ 4 ∷ 5 ∷ 6 ∷ 7 ∷ []) scratch 0 (0 ∷ 2 ∷ 5 ∷ 6 ∷ 1 ∷ 3 ∷ 4 ∷ 7 ∷ []) s → ⊥
+unfolding at pick volume longest
+moving-column-skipped p = misplaced (p .words refl) (2 ∷ 0 ∷ []) tt tt
+
 -- the word past the block changed
 pub tail-word-changed : {s : List ℕ} → Leaves 0 (0 ∷ 2 ∷ 4 ∷ 1 ∷ 3 ∷ 5 ∷ 0 ∷ []) s → ⊥
 unfolding volume longest

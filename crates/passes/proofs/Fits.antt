@@ -6,7 +6,8 @@ use mathlib.Core.Logic.{⊎-elim}
 use Prim.Native.Nat.{ℕ, _+_, _*_, _-_, _<_, _≤_}
 use native.Mathlib.Omega.{arith}
 use native.Mathlib.Nat.{mul-pos, le-trans}
-use lib.Dec.{lit<}
+use mathlib.Core.Bool.{false}
+use lib.Dec.{lit<, eqb}
 use lib.ListN.{length}
 use lib.Arith.{digits-lt}
 use Rattle.lists.proofs.Decide.{lt-or-ge}
@@ -15,7 +16,7 @@ use Rattle.refusals.specs.Scratch.{need}
 use Rattle.flat.specs.Turn.{sides}
 use Rattle.flat.proofs.Sides.{sides-are, row1-lt, column2-lt, row3-lt, rows1-apart, columns-apart, rows3-apart}
 use Rattle.passes.specs.Lines.{column, row, lineAt, paired}
-use Rattle.passes.specs.ThroughScratch.{Fits, Lies, Past}
+use Rattle.passes.specs.ThroughScratch.{Apart, Fits, Lies, Past}
 use Rattle.passes.specs.declared.line.Line.{Line}
 use Rattle.passes.proofs.Strided.{line1, line2, line3, column-at, row-at}
 
@@ -33,27 +34,25 @@ every-line m n base chunk P first second third t h =
     (lt-or-ge t (n + m)))
     (lt-or-ge t n)
 
-module _ {m n base chunk : ℕ} {xs scratch : List ℕ} (hm : 0 < m) (hn : 0 < n) (fm : m ≤ 4096) (fn : n ≤ 4096) (y : Lies m n base chunk xs scratch) where
+module _ {m n base chunk : ℕ} {xs scratch : List ℕ} (hm : 0 < m) (hn : 0 < n) (y : Lies m n base chunk xs scratch) where
   -- a column, whose pass pairs its rows by f
-  column-fits : (p j : ℕ) → j < n → ((k : ℕ) → k < m → paired m n p j k < m)
-      → ((i k : ℕ) → i < m → k < m → paired m n p j i ≡ paired m n p j k → i ≡ k) → Fits m n (column m n base chunk p j) xs scratch
-  column-fits p j h w a = record {
+  column-fits : (p j : ℕ) → eqb p 2 ≡ false → j < n → ((k : ℕ) → k < m → paired m n p j k < m) → Apart (paired m n p j) m
+      → Fits m n (column m n base chunk p j) xs scratch
+  column-fits p j e h w a = record {
+    of-pass = rw e (refl, h);
     inside = λ k d. subst (λ (z : ℕ). z < length xs) (sym (column-at m n base chunk p j k)) (y .inside (k * n + j) (digits-lt d h));
     step = mul-pos (y .apart) hn;
     room = y .rows;
-    short = fm;
-    low = omega arith;
     within = w;
     apart = a;
   }
 
   row-fits : (i : ℕ) → i < m → Fits m n (row n base chunk i) xs scratch
   row-fits i h = record {
+    of-pass = (refl, h);
     inside = λ k d. subst (λ (z : ℕ). z < length xs) (sym (row-at m n base chunk i k)) (y .inside (i * n + k) (digits-lt h d));
     step = y .apart;
     room = y .columns;
-    short = fn;
-    low = omega arith;
     within = λ k d. column2-lt m n i k hn;
     apart = λ j k a b. columns-apart (sides-are m n hm hn) i j k a b;
   }
@@ -62,9 +61,9 @@ module _ {m n base chunk : ℕ} {xs scratch : List ℕ} (hm : 0 < m) (hn : 0 < n
   line-fits =
       let s = sides-are m n hm hn in
       every-line m n base chunk (λ l. Fits m n l xs scratch)
-      (λ j h. column-fits 1 j h (λ k d. row1-lt m n k j hm) (λ i k d e. rows1-apart s j i k d e))
+      (λ j h. column-fits 1 j refl h (λ k d. row1-lt m n k j hm) (λ i k d e. rows1-apart s j i k d e))
       row-fits
-      (λ j h. column-fits 3 j h (λ k d. row3-lt m n k j hm) (λ i k d e. rows3-apart s j i k h d e))
+      (λ j h. column-fits 3 j refl h (λ k d. row3-lt m n k j hm) (λ i k d e. rows3-apart s j i k h d e))
 
 -- a line is no longer than what the call needs of scratch
 pub side-need : (m n : ℕ) → (m ≤ need (sides m n)) × (n ≤ need (sides m n))

@@ -3,24 +3,25 @@
 use mathlib.Core.Path.{_≡_, refl, sym, _∙_, subst}
 use mathlib.Core.List.{List}
 use Prim.Native.Nat.{ℕ, _+_, _<_, _≤_}
-use native.Mathlib.Nat.{add-zero}
+use native.Mathlib.Nat.{le-refl}
 use native.Mathlib.Omega.{arith}
 use lib.ListN.{length}
 use Rattle.refusals.specs.Scratch.{need}
 use Rattle.flat.specs.Turn.{sides}
+use Rattle.flat.specs.Passes.{columnGroup}
 use Rattle.passes.specs.Lines.{LineMoved, skipped, lineCount, lineOf}
 use Rattle.passes.specs.ThroughScratch.{Grouped, Lies, Fits, Past, TurnedAt}
 use Rattle.passes.specs.declared.line.GroupedSides.{GroupedSides}
 use Rattle.passes.proofs.Fits.{line-fits, line-short, past-none, past-more, lies-in}
-use Rattle.passes.proofs.Strided.{LineStep, skipped-le, lines-turn}
+use Rattle.passes.proofs.Strided.{LineStep, skipped-le, groups-le, lines-turn}
 use Rattle.passes.proofs.Ran.{Ran, ran-more}
 use Rattle.passes.proofs.Ran.Ran.{done, more}
 
 module _ (s : GroupedSides) (base chunk : ℕ) where
-  -- after the first l lines
+  -- after the first l lines, those that stand still left out
   pub record Forth (b₀ sc₀ : List ℕ) (l : ℕ) (b sc : List ℕ) : Type 0 where
     pub few : l ≤ lineCount (s .m) (s .n)
-    pub ran : Ran (LineStep (s .m) (s .n) base chunk) (skipped (s .m) (s .n) + l) (skipped (s .m) (s .n)) b₀ b
+    pub ran : Ran (LineStep (s .m) (s .n) base chunk) (skipped (s .m) (s .n) + l) (columnGroup (s .m) (s .n)) b₀ b
     pub same : length b ≡ length b₀
     pub past : Past (need (sides (s .m) (s .n))) sc₀ sc
 
@@ -32,20 +33,23 @@ module _ (s : GroupedSides) (base chunk : ℕ) where
     pub past : Past (need (sides (s .m) (s .n))) sc₀ sc
 
 module _ {s : GroupedSides} {base chunk : ℕ} {b₀ sc₀ : List ℕ} (sound : Grouped s) (lies : Lies (s .m) (s .n) base chunk b₀ sc₀) where
+  left-out : (skipped (s .m) (s .n) ≤ columnGroup (s .m) (s .n)) × (columnGroup (s .m) (s .n) ≤ s .n)
+  left-out = (skipped-le (s .m) (s .n) (sound .m-pos) (sound .n-pos), groups-le (s .m) (s .n) (sound .m-pos) (sound .n-pos))
+
   -- a line that is left fits
   pub going-fits : (l : ℕ) (b sc : List ℕ) → l < lineCount (s .m) (s .n) → length b ≡ length b₀ → Past (need (sides (s .m) (s .n))) sc₀ sc
       → Fits (s .m) (s .n) (lineOf (s .m) (s .n) base chunk l) b sc
   going-fits l b sc h e p =
-      line-fits (sound .m-pos) (sound .n-pos) (sound .m-few) (sound .n-few) (lies-in b₀ sc₀ b sc e (p .same) lies)
-      (skipped (s .m) (s .n) + l) (omega (arith, skipped-le (s .m) (s .n)))
+      line-fits (sound .m-pos) (sound .n-pos) (lies-in b₀ sc₀ b sc e (p .same) lies)
+      (skipped (s .m) (s .n) + l) (omega (arith, left-out))
 
   going-short : (l : ℕ) → l < lineCount (s .m) (s .n) → lineOf (s .m) (s .n) base chunk l .count ≤ need (sides (s .m) (s .n))
-  going-short l h = line-short (s .m) (s .n) base chunk (skipped (s .m) (s .n) + l) (omega (arith, skipped-le (s .m) (s .n)))
+  going-short l h = line-short (s .m) (s .n) base chunk (skipped (s .m) (s .n) + l) (omega (arith, left-out))
 
-  pub forth-none : Forth s base chunk b₀ sc₀ 0 b₀ sc₀
-  forth-none = record {
-    few = omega arith;
-    ran = subst (λ (z : ℕ). Ran (LineStep (s .m) (s .n) base chunk) z (skipped (s .m) (s .n)) b₀ b₀) (sym (add-zero (skipped (s .m) (s .n)))) done;
+  pub forth-none : {l : ℕ} → skipped (s .m) (s .n) + l ≡ columnGroup (s .m) (s .n) → Forth s base chunk b₀ sc₀ l b₀ sc₀
+  forth-none e = record {
+    few = omega (arith, left-out);
+    ran = subst (λ (z : ℕ). Ran (LineStep (s .m) (s .n) base chunk) z (columnGroup (s .m) (s .n)) b₀ b₀) (sym e) done;
     same = refl;
     past = past-none (need (sides (s .m) (s .n))) sc₀;
   }
@@ -55,7 +59,7 @@ module _ {s : GroupedSides} {base chunk : ℕ} {b₀ sc₀ : List ℕ} (sound : 
       → Forth s base chunk b₀ sc₀ (l + 1) b′ sc′
   forth-more {l} {b′ = b′} h f m p = record {
     few = h′;
-    ran = subst (λ (z : ℕ). Ran (LineStep (s .m) (s .n) base chunk) z (skipped (s .m) (s .n)) b₀ b′) (omega arith) (ran-more (f .ran) m);
+    ran = subst (λ (z : ℕ). Ran (LineStep (s .m) (s .n) base chunk) z (columnGroup (s .m) (s .n)) b₀ b′) (omega arith) (ran-more (f .ran) m);
     same = m .same ∙ f .same;
     past = past-more (going-short l h) (f .past) p;
   }
@@ -65,13 +69,13 @@ module _ {s : GroupedSides} {base chunk : ℕ} {b₀ sc₀ : List ℕ} (sound : 
 
   pub forth-all : {l : ℕ} {b sc : List ℕ} → l ≡ lineCount (s .m) (s .n) → Forth s base chunk b₀ sc₀ l b sc → TurnedAt (s .m) (s .n) base chunk b₀ b
   forth-all {l} {b} e f =
-      lines-turn (s .m) (s .n) base chunk (sound .m-pos) (sound .n-pos) (lies .apart)
-      (subst (λ (z : ℕ). Ran (LineStep (s .m) (s .n) base chunk) z (skipped (s .m) (s .n)) b₀ b) (omega (arith, skipped-le (s .m) (s .n))) (f .ran))
+      lines-turn (s .m) (s .n) base chunk (sound .m-pos) (sound .n-pos) (lies .apart) (columnGroup (s .m) (s .n)) (le-refl _)
+      (subst (λ (z : ℕ). Ran (LineStep (s .m) (s .n) base chunk) z (columnGroup (s .m) (s .n)) b₀ b) (omega (arith, left-out)) (f .ran))
 
   pub home-all : Home s base chunk b₀ sc₀ (lineCount (s .m) (s .n)) b₀ sc₀
   home-all = record {
     few = omega arith;
-    ran = subst (λ (z : ℕ). Ran (LineStep (s .m) (s .n) base chunk) (s .n + s .m + s .n) z b₀ b₀) (omega (arith, skipped-le (s .m) (s .n))) done;
+    ran = subst (λ (z : ℕ). Ran (LineStep (s .m) (s .n) base chunk) (s .n + s .m + s .n) z b₀ b₀) (omega (arith, left-out)) done;
     same = refl;
     past = past-none (need (sides (s .m) (s .n))) sc₀;
   }
@@ -87,9 +91,8 @@ module _ {s : GroupedSides} {base chunk : ℕ} {b₀ sc₀ : List ℕ} (sound : 
   }
     where
       h′ : skipped (s .m) (s .n) + l < s .n + s .m + s .n
-      h′ = omega (arith, skipped-le (s .m) (s .n))
+      h′ = omega (arith, left-out)
 
-  pub home-none : {b sc : List ℕ} → Home s base chunk b₀ sc₀ 0 b sc → TurnedAt (s .m) (s .n) base chunk b b₀
-  home-none {b} f =
-      lines-turn (s .m) (s .n) base chunk (sound .m-pos) (sound .n-pos) (lies .apart)
-      (subst (λ (z : ℕ). Ran (LineStep (s .m) (s .n) base chunk) (s .n + s .m + s .n) z b b₀) (add-zero (skipped (s .m) (s .n))) (f .ran))
+  pub home-none : {l : ℕ} {b sc : List ℕ} → skipped (s .m) (s .n) + l ≡ columnGroup (s .m) (s .n) → Home s base chunk b₀ sc₀ l b sc
+      → TurnedAt (s .m) (s .n) base chunk b b₀
+  home-none {l} e f = lines-turn (s .m) (s .n) base chunk (sound .m-pos) (sound .n-pos) (lies .apart) (skipped (s .m) (s .n) + l) (omega arith) (f .ran)

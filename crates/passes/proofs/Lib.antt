@@ -1,5 +1,7 @@
--- a loop that stores word after word at places no two of which are one
-pub mod Filling
+-- a loop that stores word after word, or group after group, at places no two of which are one
+pub mod Filled
+-- the walks of the passes, and a group of a walk
+pub mod Walks
 -- a line lifted into scratch and put back has moved, forwards or home
 pub mod Lifted
 -- families of words moved one after the other, none sharing an offset

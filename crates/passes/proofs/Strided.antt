@@ -1,17 +1,17 @@
 -- The lines of a block turn it where it lies: the lines of each pass are a family, so the passes of the block are passes in
 -- the sense of crate flat, and those are the turn.
-use mathlib.Core.Path.{_≡_, refl, sym, ap, _∙_, subst, subst₂}
-use mathlib.Core.Bool.{Bool, true, false}
+use mathlib.Core.Path.{_≡_, refl, sym, ap, _∙_, subst}
+use mathlib.Core.Bool.{Bool, true, false, cond}
 use mathlib.Core.List.{List}
-use Prim.Native.Nat.{ℕ, _+_, _*_, _/_, _%_, _<_, _≤_}
+use Prim.Native.Nat.{ℕ, zero, suc, _+_, _*_, _/_, _%_, _<_, _≤_}
 use native.Mathlib.Omega.{arith}
-use native.Mathlib.Nat.{mul-comm, mul-assoc, mul-add, eq-of-mul-eq-mul-left, mod-lt, div-add-mod', div-lt-iff-lt-mul, div-one, div-eq-of-lt, add-zero, mod-eq-of-lt}
+use native.Mathlib.Nat.{mul-comm, mul-assoc, mul-add, eq-of-mul-eq-mul-left, mod-lt, div-add-mod', div-lt-iff-lt-mul, div-eq-of-lt, mul-one, le-mul-of-pos-right, add-zero, mod-eq-of-lt}
 use lib.Dec.{ltb}
 use lib.ListN.{length, getD}
 use lib.Arith.{digits-div, digits-mod, digits-lt}
 use borrow.Author.Tests.{lt-ltb, le-ltb, ltb-false}
 use Rattle.numbers.specs.Gcd.{gcdOf}
-use Rattle.flat.specs.Passes.{row1, column2, row3, Pass1, Pass2, Pass3}
+use Rattle.flat.specs.Passes.{columnGroup, row1, column2, row3, Pass1, Pass2, Pass3}
 use Rattle.flat.proofs.Sides.{Sides, sides-are, row1-lt, column2-lt, row3-lt}
 use Rattle.flat.proofs.Passes.{followed}
 use Rattle.passes.specs.Lines.{Moved, column, row, lineAt, skipped, posOn, LineMoved}
@@ -19,7 +19,7 @@ use Rattle.passes.specs.ThroughScratch.{TurnedAt}
 use Rattle.passes.specs.declared.line.Line.{Line}
 use Rattle.passes.proofs.Family.{Family}
 use Rattle.passes.proofs.Ran.{Ran, cut, ran-some}
-use Rattle.passes.proofs.Ran.Ran.{done, more}
+use Rattle.passes.proofs.Ran.Ran.{more}
 
 module _ (m n base chunk : ℕ) where
   -- where the word of row i and column j stands
@@ -61,29 +61,20 @@ moved-at {count} {pos} {pos′} {to} {from} {xs} {ys} e m = record {
   others = λ p h. m .others p (λ k d q. h k d (sym (e k) ∙ q));
 }
 
--- a run of no step changes nothing
-nothing-ran : {P : ℕ → List ℕ → List ℕ → Type 0} {e : ℕ} {xs ys : List ℕ} → Ran P e e xs ys → xs ≡ ys
-nothing-ran {P} {e} r = go r refl
-  where
-    go : {l : ℕ} {zs ws : List ℕ} → Ran P e l zs ws → l ≡ e → zs ≡ ws
-    go done q = refl
-    go (more h p r) q = absurd (omega arith)
-
--- how many columns of pass 1 are left out
-skipped-none : (m n : ℕ) → ltb 1 (gcdOf m n) ≡ true → skipped m n ≡ 0
+-- of the n columns of pass 1 the first b stand still, and no more are left out: all of them only where b is n
+pub skipped-le : (m n : ℕ) → 0 < m → 0 < n → skipped m n ≤ columnGroup m n
 unfolding skipped
-skipped-none m n q = rw q
-
-skipped-all : (m n : ℕ) → ltb 1 (gcdOf m n) ≡ false → skipped m n ≡ n
-unfolding skipped
-skipped-all m n q = rw q
-
-pub skipped-le : (m n : ℕ) → skipped m n ≤ n
-skipped-le m n = go (ltb 1 (gcdOf m n)) refl
+skipped-le m n hm hn = go (ltb 1 (gcdOf m n)) refl
   where
-    go : (t : Bool) → ltb 1 (gcdOf m n) ≡ t → skipped m n ≤ n
-    go true q = omega (arith, skipped-none m n q)
-    go false q = omega (arith, skipped-all m n q)
+    go : (t : Bool) → ltb 1 (gcdOf m n) ≡ t → cond t 0 n ≤ columnGroup m n
+    go true q = omega arith
+    go false q =
+        let s = sides-are m n hm hn in
+        let e : gcdOf m n ≡ 1 = omega (arith, s .c-pos, ltb-false 1 (gcdOf m n) q) in
+        omega (arith, s .columns, ap (λ (z : ℕ). columnGroup m n * z) e, mul-one (columnGroup m n))
+
+pub groups-le : (m n : ℕ) → 0 < m → 0 < n → columnGroup m n ≤ n
+groups-le m n hm hn = let s = sides-are m n hm hn in omega (arith, le-mul-of-pos-right {m = gcdOf m n} (columnGroup m n) (s .c-pos), s .columns)
 
 module _ (m n base chunk : ℕ) (hm : 0 < m) (hn : 0 < n) (hc : 0 < chunk) where
   s : Sides m n
@@ -132,9 +123,9 @@ module _ (m n base chunk : ℕ) (hm : 0 < m) (hn : 0 < n) (hc : 0 < chunk) where
     pub pass : P (cells xs) (cells ys)
     pub others : (p : ℕ) → ((i j : ℕ) → i < m → j < n → cellAt m n base chunk i j ≡ p → ⊥) → getD ys p 0 ≡ getD xs p 0
 
-  passed1 : {xs ys : List ℕ} → Ran (LineStep m n base chunk) (0 + n) 0 xs ys → Passed (Pass1 m n) xs ys
-  passed1 r =
-      let f = ran-some (LineStep m n base chunk) 0 (columns (row1 m n) (λ i j. row1-lt m n i j hm)) step1 r in
+  passed1 : {xs ys : List ℕ} → Ran (LineStep m n base chunk) n 0 xs ys → Passed (Pass1 m n) xs ys
+  passed1 {xs} {ys} r =
+      let f = ran-some (LineStep m n base chunk) 0 (columns (row1 m n) (λ i j. row1-lt m n i j hm)) step1 (subst (λ (z : ℕ). Ran (LineStep m n base chunk) z 0 xs ys) (omega arith) r) in
       record { same = f .same; pass = λ i j a b. f .placed j i b a; others = λ p h. f .others p (λ u k a b e. h k u b a e) }
 
   passed2 : {xs ys : List ℕ} → Ran (LineStep m n base chunk) (n + m) n xs ys → Passed (Pass2 m n) xs ys
@@ -147,35 +138,28 @@ module _ (m n base chunk : ℕ) (hm : 0 < m) (hn : 0 < n) (hc : 0 < chunk) where
       let f = ran-some (LineStep m n base chunk) (n + m) (columns (row3 m n) (λ i j. row3-lt m n i j hm)) step3 r in
       record { same = f .same; pass = λ i j a b. f .placed j i b a; others = λ p h. f .others p (λ u k a b e. h k u b a e) }
 
-  -- where the sides share no factor pass 1 leaves every word where it is
-  alone : gcdOf m n ≡ 1 → (i j : ℕ) → i < m → j < n → row1 m n i j ≡ i
+  -- the columns of pass 1 before column b stand still
+  still : (t : ℕ) (xs : List ℕ) → t < columnGroup m n → LineStep m n base chunk t xs xs
   unfolding row1
-  alone e i j a b =
-      ap (λ (z : ℕ). (i + j / (n / z)) % m) e
-      ∙ ap (λ (z : ℕ). (i + j / z) % m) (div-one n)
-      ∙ ap (λ (z : ℕ). (i + z) % m) (div-eq-of-lt b)
-      ∙ ap (λ (z : ℕ). z % m) (add-zero i)
-      ∙ mod-eq-of-lt a
+  still t xs h = subst (λ (l : Line). LineMoved m n l xs xs) (sym (line1 m n base chunk t (omega (arith, groups-le m n hm hn)))) (record {
+    same = refl;
+    placed = λ k d.
+        let e : row1 m n k t ≡ k = ap (λ (z : ℕ). (k + z) % m) (div-eq-of-lt h) ∙ ap (λ (z : ℕ). z % m) (add-zero k) ∙ mod-eq-of-lt d in
+        ap (λ (z : ℕ). getD xs (posOn (column m n base chunk 1 t) z) 0) (sym e);
+    others = λ p d. refl;
+  })
 
-  -- the lines before pass 2
-  first-lines : {xs ys : List ℕ} → Ran (LineStep m n base chunk) n (skipped m n) xs ys → Passed (Pass1 m n) xs ys
-  first-lines {xs} {ys} r = go (ltb 1 (gcdOf m n)) refl
-    where
-      left-out : skipped m n ≡ n → gcdOf m n ≡ 1 → Passed (Pass1 m n) xs ys
-      left-out e g =
-          subst (λ (zs : List ℕ). Passed (Pass1 m n) xs zs) (nothing-ran (subst (λ (z : ℕ). Ran (LineStep m n base chunk) n z xs ys) e r))
-          (record { same = refl; pass = λ i j a b. ap (λ (z : ℕ). cells xs z j) (sym (alone g i j a b)); others = λ p h. refl })
-
-      go : (t : Bool) → ltb 1 (gcdOf m n) ≡ t → Passed (Pass1 m n) xs ys
-      go true q = passed1 (subst₂ (λ (z w : ℕ). Ran (LineStep m n base chunk) z w xs ys) (omega arith) (skipped-none m n q) r)
-      go false q = left-out (skipped-all m n q) (let c = s .c-pos in let d = ltb-false 1 (gcdOf m n) q in omega arith)
+  -- so a run that begins with one of them, or right after them, is a run from line 0
+  from-first : {e : ℕ} {xs ys : List ℕ} (l : ℕ) → l ≤ columnGroup m n → columnGroup m n ≤ e → Ran (LineStep m n base chunk) e l xs ys → Ran (LineStep m n base chunk) e 0 xs ys
+  from-first zero h k r = r
+  from-first {e} {xs} (suc l) h k r = let d : l < e = omega arith in from-first l (omega arith) k (more d (still l xs h) r)
 
   -- the lines of the block turn it
-  pub lines-turn : {xs ws : List ℕ} → Ran (LineStep m n base chunk) (n + m + n) (skipped m n) xs ws → TurnedAt m n base chunk xs ws
-  lines-turn {xs} {ws} r =
-      let c = cut n (skipped-le m n) (omega arith) r in
+  pub lines-turn : {xs ws : List ℕ} (l : ℕ) → l ≤ columnGroup m n → Ran (LineStep m n base chunk) (n + m + n) l xs ws → TurnedAt m n base chunk xs ws
+  lines-turn {xs} {ws} l few r =
+      let c = cut n (omega arith) (omega arith) (from-first l few (omega (arith, groups-le m n hm hn)) r) in
       let d = cut (n + m) (omega arith) (omega arith) (c .rest) in
-      let p = first-lines (c .front) in
+      let p = passed1 (c .front) in
       let q = passed2 (d .front) in
       let t = passed3 (d .rest) in
       let within : (k : ℕ) → k < m * n → (k / n < m) × (k % n < n) = λ k h. (div-lt-iff-lt-mul hn .1 h, mod-lt k hn) in

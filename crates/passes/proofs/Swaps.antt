@@ -4,7 +4,7 @@ use mathlib.Core.Path.{_≡_, sym, ap, ap₂, _∙_, subst}
 use mathlib.Core.List.{List, [], _∷_}
 use Prim.Native.Nat.{ℕ, _+_, _*_, _/_, _%_, _<_, _≤_}
 use native.Mathlib.Omega.{arith}
-use native.Mathlib.Nat.{mul-comm, mul-assoc, mul-add, add-mul, mul-one, mod-lt, div-add-mod', div-lt-iff-lt-mul, pos-of-ne-zero, le-trans, le-mul-of-pos-right, mul-pos}
+use native.Mathlib.Nat.{mul-comm, mul-assoc, mul-add, add-mul, mul-one, one-mul, mod-lt, div-add-mod', div-lt-iff-lt-mul, pos-of-ne-zero, le-trans, le-mul-of-pos-right, mul-pos}
 use lib.ListN.{length, getD}
 use lib.Arith.{digits-div, digits-mod, digits-lt}
 use mathlib.Core.Bool.{false, _||_}
@@ -19,10 +19,10 @@ use Rattle.flat.specs.Turn.{sides}
 use Rattle.layout.specs.Layout.{volume, Within, at, pick, Laid}
 use Rattle.layout.specs.Layout.Within.{none, more}
 use Rattle.layout.proofs.Offsets.{at-lt}
-use Rattle.passes.specs.ThroughScratch.{Lies, AllLie}
+use Rattle.passes.specs.ThroughScratch.{Lies, AllLie, TurnedAt}
 use Rattle.passes.proofs.Fits.{side-need}
 use Rattle.passes.specs.Promises.{swapBlock, middle, noBlock, swapChecks}
-use Rattle.passes.proofs.Family.{Family, Some}
+use Rattle.passes.proofs.Family.{Family, Some, some-more}
 
 -- a word of the swap, by its block, row, column and word: its offset
 pub swap-at : (outer m n chunk e i j u : ℕ) → e * (m * n * chunk) + u + chunk * (i * n + j) ≡ at (swapBlock outer m n chunk) (e ∷ i ∷ j ∷ u ∷ [])
@@ -45,6 +45,17 @@ swap-volume outer m n chunk =
 -- where block t of an adjacent swap lies: t counts the words after the two axes within the blocks before them
 abbrev pub swapBase : ℕ → ℕ → ℕ → ℕ → ℕ
 swapBase m n chunk t = t / chunk * (m * n * chunk) + t % chunk
+
+-- the next word after the two axes, and past the last one the next block before them
+pub next-word : (t chunk : ℕ) → t % chunk + 1 < chunk → (t / chunk ≡ (t + 1) / chunk) × (t % chunk + 1 ≡ (t + 1) % chunk)
+next-word t chunk h =
+    let e : t / chunk * chunk + (t % chunk + 1) ≡ t + 1 = omega (arith, div-add-mod' t chunk) in
+    (sym (digits-div (t / chunk) h) ∙ ap (λ (z : ℕ). z / chunk) e, sym (digits-mod (t / chunk) h) ∙ ap (λ (z : ℕ). z % chunk) e)
+
+pub next-block : (t chunk : ℕ) → 0 < chunk → chunk ≤ t % chunk + 1 → (t / chunk + 1 ≡ (t + 1) / chunk) × (0 ≡ (t + 1) % chunk)
+next-block t chunk hc h =
+    let e : (t / chunk + 1) * chunk + 0 ≡ t + 1 = omega (arith, div-add-mod' t chunk, mod-lt t hc, add-mul (t / chunk) 1 chunk, one-mul chunk) in
+    (sym (digits-div (t / chunk + 1) hc) ∙ ap (λ (z : ℕ). z / chunk) e, sym (digits-mod (t / chunk + 1) hc) ∙ ap (λ (z : ℕ). z % chunk) e)
 
 -- where word p of block t stands, where it goes and whence it comes
 abbrev pub posOf : ℕ → ℕ → ℕ → ℕ → ℕ → ℕ
@@ -98,6 +109,12 @@ module _ (outer m n chunk : ℕ) (hm : 0 < m) (hn : 0 < n) (hc : 0 < chunk) wher
           = sym (digits-div (t / chunk * (m * n) + k) (mod-lt t hc)) ∙ ap (λ (z : ℕ). z / chunk) q ∙ digits-div (u / chunk * (m * n) + j) (mod-lt u hc) in
           let e′ : t / chunk ≡ u / chunk = sym (digits-div (t / chunk) hk) ∙ ap (λ (z : ℕ). z / (m * n)) d ∙ digits-div (u / chunk) hj in
           sym (div-add-mod' t chunk) ∙ ap₂ (λ (x y : ℕ). x * chunk + y) e′ r ∙ div-add-mod' u chunk
+
+  -- one block more, where it lies
+  pub block-more : {t base word : ℕ} {xs ys zs : List ℕ} → t < outer * chunk → base ≡ t / chunk * (m * n * chunk) → word ≡ t % chunk
+      → Some (outer * chunk) (m * n) (posOf m n chunk) (toOf m n) fromOf t xs ys → TurnedAt m n (base + word) chunk ys zs
+      → Some (outer * chunk) (m * n) (posOf m n chunk) (toOf m n) fromOf (t + 1) xs zs
+  block-more h b w f t = some-more blocks h f (rw (b, w) at t)
 
   -- all blocks turned are the swap
   pub swapped : (xs ys : List ℕ) → Some (outer * chunk) (m * n) (posOf m n chunk) (toOf m n) fromOf (outer * chunk) xs ys

@@ -1,17 +1,22 @@
 -- These definitions serve only the contracts of private functions: a reader of the promises can pass over them.
 -- What the functions that move lines and blocks through scratch ask and leave. Assumes nothing: these are definitions.
+use mathlib.Core.Bool.{cond}
 use mathlib.Core.Path.{_≡_}
 use mathlib.Core.List.{List}
 use Prim.Native.Nat.{ℕ, _+_, _*_, _/_, _%_, _<_, _≤_}
+use lib.Dec.{eqb}
 use lib.ListN.{length, getD}
+use Rattle.numbers.specs.Gcd.{gcdOf}
 use Rattle.refusals.specs.Scratch.{need}
 use Rattle.flat.specs.Turn.{sides}
 use Rattle.flat.specs.Passes.{rowGroup, columnGroup}
+use Rattle.walks.specs.Walk.{walk, starts}
 use Rattle.passes.specs.Lines.{Moved, paired, posOn, skipped}
 use Rattle.passes.specs.declared.line.GroupedSides.{GroupedSides}
 use Rattle.passes.specs.declared.line.Line.{Line}
+use Rattle.passes.specs.declared.walk.Walk.{Walk}
 
--- sides from 1 to 4,096, with a = m / c and b = n / c for their greatest common divisor c
+-- sides from 1 to 4,096, with their greatest common divisor c, a = m / c and b = n / c, and what each leaves modulo the other
 pub record Grouped (s : GroupedSides) : Type 0 where
   pub m-pos : 0 < s .m
   pub n-pos : 0 < s .n
@@ -19,17 +24,66 @@ pub record Grouped (s : GroupedSides) : Type 0 where
   pub n-few : s .n ≤ 4096
   pub a-is : s .a ≡ rowGroup (s .m) (s .n)
   pub b-is : s .b ≡ columnGroup (s .m) (s .n)
+  pub c-is : s .c ≡ gcdOf (s .m) (s .n)
+  pub down-is : s .down ≡ s .n % s .m
+  pub across-is : s .across ≡ s .m % s .n
   pub skipped-is : s .skipped ≡ skipped (s .m) (s .n)
+
+-- where group g of a walk starts
+abbrev pub startOf : Walk → ℕ → ℕ
+startOf w g = starts (w .first) (w .shift) (w .modulus) (w .restart) g
+
+-- where a walk stands t steps after `place`
+abbrev pub stands : Walk → ℕ → ℕ → ℕ
+stands w place t = walk place (w .step) (w .modulus) t
+
+-- a walk in one group, over as many places as its modulus
+abbrev pub alone : ℕ → ℕ → ℕ → Walk
+alone first step modulus = record { first = first; step = step; modulus = modulus; size = modulus; groups = 1; shift = 0; restart = 0 }
+
+-- a walk goes over `count` places and pairs each, place t of group g, as f does
+pub record Follows (w : Walk) (count : ℕ) (f : ℕ → ℕ) : Type 0 where
+  pub low : w .first < w .modulus
+  pub short : w .step ≤ w .modulus
+  pub shifts : w .shift ≤ w .modulus
+  pub round : w .modulus ≡ count
+  pub whole : w .groups * w .size ≡ count
+  pub pairs : (g t : ℕ) → g < w .groups → t < w .size → f (g * w .size + t) ≡ stands w (startOf w g) t
+
+-- the first `count` places of the line lie in the buffer
+abbrev pub Inside : Line → ℕ → List ℕ → Type 0
+Inside l count xs = (k : ℕ) → k < count → posOn l k < length xs
+
+-- a group that starts at `place` can be walked: its places from `from` on lie on the line, the line in the buffer, and scratch has room for it
+pub record GroupFits (l : Line) (w : Walk) (from place : ℕ) (xs scratch : List ℕ) : Type 0 where
+  pub low : place < w .modulus
+  pub short : w .step ≤ w .modulus
+  pub on-line : from + w .size ≤ w .modulus
+  pub inside : Inside l (w .modulus) xs
+  pub room : w .modulus ≤ length scratch
+
+-- f has `count` different values
+abbrev pub Apart : (ℕ → ℕ) → ℕ → Type 0
+Apart f count = (j k : ℕ) → j < count → k < count → f j ≡ f k → j ≡ k
+
+-- the line is one that its pass has: a row of n words in pass 2, else a column of m words
+abbrev pub OfPass : ℕ → ℕ → Line → Type 0
+OfPass m n l = (l .count ≡ cond (eqb (l .pass) 2) n m) × (l .index < cond (eqb (l .pass) 2) m n)
 
 -- the line lies in the buffer, scratch has room for it, and its pass pairs its places one to one
 pub record Fits (m n : ℕ) (l : Line) (xs scratch : List ℕ) : Type 0 where
-  pub inside : (k : ℕ) → k < l .count → posOn l k < length xs
+  pub of-pass : OfPass m n l
+  pub inside : Inside l (l .count) xs
   pub step : 0 < l .stride
   pub room : l .count ≤ length scratch
-  pub short : l .count ≤ 4096
-  pub low : l .index ≤ 4096
   pub within : (k : ℕ) → k < l .count → paired m n (l .pass) (l .index) k < l .count
-  pub apart : (j k : ℕ) → j < l .count → k < l .count → paired m n (l .pass) (l .index) j ≡ paired m n (l .pass) (l .index) k → j ≡ k
+  pub apart : Apart (paired m n (l .pass) (l .index)) (l .count)
+
+-- `count` words are stored, word k at place `to k`; what stands at every other place is as it was
+pub record Filled (to word : ℕ → ℕ) (count : ℕ) (before after : List ℕ) : Type 0 where
+  pub same : length after ≡ length before
+  pub placed : (k : ℕ) → k < count → getD after (to k) 0 ≡ word k
+  pub others : (p : ℕ) → ((k : ℕ) → k < count → to k ≡ p → ⊥) → getD after p 0 ≡ getD before p 0
 
 -- scratch holds the line: in place `to k` the word of the line's place `from k`; scratch past the line is as it was
 pub record Lifted (l : Line) (to from : ℕ → ℕ) (xs scratch held : List ℕ) : Type 0 where
@@ -38,10 +92,8 @@ pub record Lifted (l : Line) (to from : ℕ → ℕ) (xs scratch held : List ℕ
   pub rest : (k : ℕ) → l .count ≤ k → getD held k 0 ≡ getD scratch k 0
 
 -- the line has received the words of scratch; every other word stands
-pub record Returned (l : Line) (scratch xs ys : List ℕ) : Type 0 where
-  pub same : length ys ≡ length xs
-  pub placed : (k : ℕ) → k < l .count → getD ys (posOn l k) 0 ≡ getD scratch k 0
-  pub others : (p : ℕ) → ((k : ℕ) → k < l .count → posOn l k ≡ p → ⊥) → getD ys p 0 ≡ getD xs p 0
+abbrev pub Returned : Line → List ℕ → List ℕ → List ℕ → Type 0
+Returned l scratch xs ys = Filled (posOn l) (λ k. getD scratch k 0) (l .count) xs ys
 
 -- scratch past its first n words is as it was
 pub record Past (n : ℕ) (before after : List ℕ) : Type 0 where

@@ -4,6 +4,7 @@ mod line;
 mod refusal;
 mod scratch;
 mod turning;
+mod walk;
 
 ghost use Rattle.passes.specs.Promises.{TurnPromise, TurnBackPromise, SwapPromise, ClearPromise};
 

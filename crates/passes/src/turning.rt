@@ -3,38 +3,43 @@ use crate::gcd;
 use crate::line;
 use crate::line::GroupedSides;
 use crate::line::Line;
+ghost use mathlib.Core.Bool.{cond};
 ghost use mathlib.Core.Path.{_≡_};
-ghost use Prim.Native.Nat.{_<_, _≤_};
+ghost use Prim.Native.Nat.{_+_, _<_, _≤_};
+ghost use lib.Dec.{ltb};
 ghost use Rattle.layout.specs.Layout.{Laid};
 ghost use Rattle.flat.specs.Turn.{sides};
+ghost use Rattle.flat.specs.Passes.{columnGroup};
 ghost use Rattle.refusals.specs.Scratch.{need};
-ghost use Rattle.passes.specs.Lines.{lineCount, lineOf};
+ghost use Rattle.passes.specs.Lines.{lineCount, lineOf, skipped};
 ghost use Rattle.passes.specs.ThroughScratch.{Grouped, Lies, AllLie, Past, TurnedAt};
 ghost use Rattle.passes.specs.Promises.{swapBlock, middle};
 
-// The sides of an m by n block, with their quotients by their greatest common divisor.
+// How many columns of pass 1 are left out: all n of them where the sides share no factor above 1.
+fn left_out(n: usize, c: usize) -> usize
+    ensures { λ r. ⌜ r ≡ cond (ltb 1 c) 0 n ⌝ }
+{
+    if 1 < c {
+        return 0;
+    }
+    n
+}
+
+// The sides of an m by n block, with all that a line needs of them.
 pub(crate) fn group_sides(m: usize, n: usize) -> GroupedSides
     requires { ⌜ (0 < m) × (0 < n) × (m ≤ 4096) × (n ≤ 4096) ⌝ }
     ensures { λ r. ⌜ (r .m ≡ m) × (r .n ≡ n) × Grouped r ⌝ }
 {
     let c = gcd::gcd(m, n);
-    let a = m / c;
-    let b = n / c;
-    if 1 < c {
-        return GroupedSides {
-            m,
-            n,
-            a,
-            b,
-            skipped: 0,
-        };
-    }
     GroupedSides {
         m,
         n,
-        a,
-        b,
-        skipped: n,
+        a: m / c,
+        b: n / c,
+        c,
+        down: n % m,
+        across: m % n,
+        skipped: left_out(n, c),
     }
 }
 
@@ -44,6 +49,14 @@ fn line_count(s: GroupedSides) -> usize
     ensures { λ r. ⌜ r ≡ lineCount (s .m) (s .n) ⌝ }
 {
     s.n + s.m + s.n - s.skipped
+}
+
+// The first line that moves: the columns of pass 1 before column b stand still, and where pass 1 is left out b is n.
+fn first_moved(s: GroupedSides) -> usize
+    requires { ⌜ Grouped s ⌝ }
+    ensures { λ r. ⌜ skipped (s .m) (s .n) + r ≡ columnGroup (s .m) (s .n) ⌝ }
+{
+    s.b - s.skipped
 }
 
 // Line l of a block, counted from 0 across the passes.
@@ -94,8 +107,9 @@ pub(crate) fn turn_at(
     requires { ⌜ Grouped s × Lies (s .m) (s .n) base chunk (now buf) (now scratch) ⌝ }
     ensures { λ _. ⌜ TurnedAt (s .m) (s .n) base chunk (now (buf .entry)) (now (buf .exit)) × Past (need (sides (s .m) (s .n))) (now (scratch .entry)) (now (scratch .exit)) ⌝ }
 {
+    let first = first_moved(s);
     let count = line_count(s);
-    for l in 0..count {
+    for l in first..count {
         let line = line_of(s, base, chunk, l);
         line::forth(buf, scratch, s, line);
     }
@@ -112,8 +126,9 @@ pub(crate) fn turn_home_at(
     requires { ⌜ Grouped s × Lies (s .m) (s .n) base chunk (now buf) (now scratch) ⌝ }
     ensures { λ _. ⌜ TurnedAt (s .m) (s .n) base chunk (now (buf .exit)) (now (buf .entry)) × Past (need (sides (s .m) (s .n))) (now (scratch .entry)) (now (scratch .exit)) ⌝ }
 {
+    let first = first_moved(s);
     let mut l = line_count(s);
-    while 0 < l {
+    while first < l {
         l -= 1;
         let line = line_of(s, base, chunk, l);
         line::back(buf, scratch, s, line);
@@ -133,8 +148,15 @@ pub(crate) fn turn_all(
 {
     let words = s.m * s.n * chunk;
     let count = outer * chunk;
+    let mut base = 0;
+    let mut word = 0;
     for t in 0..count {
-        let base = t / chunk * words + t % chunk;
-        turn_at(buf, scratch, s, base, chunk);
+        turn_at(buf, scratch, s, base + word, chunk);
+        word += 1;
+        if word < chunk {
+            continue;
+        }
+        word = 0;
+        base += words;
     }
 }

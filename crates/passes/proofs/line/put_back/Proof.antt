@@ -6,12 +6,13 @@ use native.Mathlib.Omega.{arith}
 use borrow.Author.Needs.{needs}
 use lib.ListN.{length, getD}
 use Rattle.passes.specs.Lines.{posOn}
-use Rattle.passes.proofs.Filling.{Filling, filling-more, all-returned}
+use Rattle.passes.specs.ThroughScratch.{Apart, Filled}
+use Rattle.passes.proofs.Filled.{filled-none, filled-more}
 use Rattle.passes.proofs.line.put_back.Statement.{statement}
 use Rattle.passes.proofs.line.put_back.Tie as tie
 
 abbrev Inv-loop : tie.InvT-loop
-Inv-loop buf₀ scratch start stride k₀ k-end buf k = (k ≤ k-end) × Filling (λ j. start + stride * j) (λ j. getD scratch j 0) k-end k buf₀ buf
+Inv-loop buf₀ scratch start stride k₀ k-end buf k = (k ≤ k-end) × Filled (λ j. start + stride * j) (λ j. getD scratch j 0) k buf₀ buf
 
 abbrev μ-loop : tie.MeasureT-loop
 μ-loop buf₀ scratch start stride k₀ k-end buf k = k-end - k
@@ -21,17 +22,21 @@ inside : (c : tie.In-loop Inv-loop μ-loop) → let a = c .before .before .args 
 inside c = let x : tie.Start Inv-loop μ-loop = search in x .pre .0 _ (omega arith)
 
 -- no two places of a line are one
-apart : (start stride : ℕ) → 0 < stride → (i j : ℕ) → start + stride * i ≡ start + stride * j → i ≡ j
-apart start stride h i j e = eq-of-mul-eq-mul-left stride h i j (omega arith)
+apart : (start stride count : ℕ) → 0 < stride → Apart (λ j. start + stride * j) count
+apart start stride count h i j _ _ e = eq-of-mul-eq-mul-left stride h i j (omega arith)
 
 loop-again : tie.Need-loop-again Inv-loop μ-loop
 loop-again c =
     let l : tie.At-loop Inv-loop μ-loop = search in
     let x : tie.Start Inv-loop μ-loop = search in
-    (omega arith, filling-more (λ i j _ _ e. apart (x .args .l .start) (x .args .l .stride) (x .pre .1) i j e) (omega arith) (inside (search)) (l .loop .inv .1))
+    (omega arith, filled-more (apart (x .args .l .start) (x .args .l .stride) (x .args .l .count) (x .pre .1)) (omega arith) (inside (search)) (l .loop .inv .1))
 
 returns : tie.Need-returns Inv-loop μ-loop
-returns c = let l : tie.At-loop Inv-loop μ-loop = search in all-returned (l .loop .inv .1) (omega arith)
+returns c =
+    let l : tie.At-loop Inv-loop μ-loop = search in
+    let x : tie.Start Inv-loop μ-loop = search in
+    let e : l .loop .k ≡ x .args .l .count = omega arith in
+    rw e at (l .loop .inv .1)
 
 pub put-back-spec : {M : Type 1} → statement M
 put-back-spec =
@@ -39,7 +44,7 @@ put-back-spec =
     (tie.spec
     Inv-loop
     μ-loop
-    (search needs)
+    (λ c. (omega arith, filled-none _ _ _))
     (search needs)
     (search needs)
     (λ c. omega (arith, inside (search)))

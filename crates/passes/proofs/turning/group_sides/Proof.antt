@@ -1,12 +1,11 @@
 -- `group_sides` meets its contract: the quotients by the greatest common divisor, and whether pass 1 is left out.
-use mathlib.Core.Path.{_≡_, refl, ap}
+use mathlib.Core.Bool.{cond}
+use mathlib.Core.Path.{_≡_, refl, ap, _∙_}
 use Prim.Native.Nat.{ℕ, _/_, _<_}
 use borrow.Author.Needs.{needs}
-use borrow.Author.Tests.{lt-ltb, le-ltb}
-use Rattle.numbers.specs.Gcd.{gcdOf}
+use lib.Dec.{ltb}
 use Rattle.flat.proofs.Sides.{sides-are}
 use Rattle.passes.specs.Lines.{skipped}
-use Rattle.passes.specs.ThroughScratch.{Grouped}
 use Rattle.passes.proofs.turning.group_sides.Statement.{statement}
 use Rattle.passes.proofs.turning.group_sides.Tie as tie
 
@@ -16,30 +15,26 @@ divisor c =
     let x : tie.Start = search in
     rw (c .gcd .ensures) (sides-are (x .args .m) (x .args .n) (x .pre .0) (x .pre .1) .c-pos)
 
--- the sides divided by it, whatever is left out
-grouped : (x : tie.Start) {c s : ℕ} → c ≡ gcdOf (x .args .m) (x .args .n) → s ≡ skipped (x .args .m) (x .args .n)
-    → Grouped (record { m = x .args .m; n = x .args .n; a = x .args .m / c; b = x .args .n / c; skipped = s })
-grouped x g e = record {
-  m-pos = x .pre .0;
-  n-pos = x .pre .1;
-  m-few = x .pre .2;
-  n-few = x .pre .3;
-  a-is = ap (λ (z : ℕ). x .args .m / z) g;
-  b-is = ap (λ (z : ℕ). x .args .n / z) g;
-  skipped-is = e;
-}
-
 returns : tie.Need-returns
 unfolding skipped
 returns c =
     let g : tie.After-gcd = search in
-    (refl, refl, grouped (search) (g .gcd .ensures) (rw (lt-ltb 1 _ (rw (g .gcd .ensures) at (c .if1 .taken)))))
-
-returns-2 : tie.Need-returns-2
-unfolding skipped
-returns-2 c =
-    let g : tie.After-gcd = search in
-    (refl, refl, grouped (search) (g .gcd .ensures) (rw (le-ltb 1 _ (rw (g .gcd .ensures) at (c .if1 .left)))))
+    let x : tie.Start = search in (
+      refl,
+      refl,
+      record {
+        m-pos = x .pre .0;
+        n-pos = x .pre .1;
+        m-few = x .pre .2;
+        n-few = x .pre .3;
+        a-is = ap (λ (z : ℕ). x .args .m / z) (g .gcd .ensures);
+        b-is = ap (λ (z : ℕ). x .args .n / z) (g .gcd .ensures);
+        c-is = g .gcd .ensures;
+        down-is = refl;
+        across-is = refl;
+        skipped-is = c .left-out .ensures ∙ ap (λ (z : ℕ). cond (ltb 1 z) 0 (x .args .n)) (g .gcd .ensures);
+      },
+    )
 
 pub group-sides-spec : {M : Type 1} → statement M
-group-sides-spec = tie.close (tie.spec (search needs) divisor divisor returns returns-2)
+group-sides-spec = tie.close (tie.spec (search needs) (λ c. divisor (search)) (λ c. divisor (search)) (search needs) (search needs) (search needs) returns)

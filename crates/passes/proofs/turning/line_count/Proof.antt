@@ -1,14 +1,17 @@
 -- `line_count` meets its contract: no more columns are left out than pass 1 has.
 use Prim.Native.Nat.{_≤_}
+use native.Mathlib.Nat.{le-trans}
 use native.Mathlib.Omega.{arith}
 use borrow.Author.Needs.{needs}
-use Rattle.passes.proofs.Strided.{skipped-le}
+use Rattle.passes.proofs.Strided.{skipped-le, groups-le}
 use Rattle.passes.proofs.turning.line_count.Statement.{statement}
 use Rattle.passes.proofs.turning.line_count.Tie as tie
 
 -- the columns that are left out are some of the n
 few : (x : tie.Start) → x .args .s .skipped ≤ x .args .s .n
-few x = rw (x .pre .skipped-is) (skipped-le (x .args .s .m) (x .args .s .n))
+few x =
+    let g = x .pre in
+    rw (g .skipped-is) (le-trans (skipped-le _ _ (g .m-pos) (g .n-pos)) (groups-le _ _ (g .m-pos) (g .n-pos)))
 
 pub line-count-spec : {M : Type 1} → statement M
 line-count-spec = tie.close (tie.spec (search needs) (search needs) (λ c. omega (arith, few (search))) (search needs))

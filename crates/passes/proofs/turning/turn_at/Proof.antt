@@ -1,4 +1,4 @@
--- `turn_at` meets its contract: after l lines the block has run through l steps; all of them are the turn.
+-- `turn_at` meets its contract: after l lines the block has run through l steps, of which the first stand still; all of them are the turn.
 use mathlib.Core.Path.{_≡_}
 use Prim.Native.Nat.{_-_}
 use native.Mathlib.Omega.{arith}
@@ -9,10 +9,10 @@ use Rattle.passes.proofs.turning.turn_at.Statement.{statement}
 use Rattle.passes.proofs.turning.turn_at.Tie as tie
 
 abbrev Inv-loop : tie.InvT-loop
-Inv-loop buf₀ scratch₀ s base chunk count l₀ buf scratch l = (count ≡ lineCount (s .m) (s .n)) × Forth s base chunk buf₀ scratch₀ l buf scratch
+Inv-loop buf₀ scratch₀ s base chunk first count l₀ buf scratch l = (count ≡ lineCount (s .m) (s .n)) × Forth s base chunk buf₀ scratch₀ l buf scratch
 
 abbrev μ-loop : tie.MeasureT-loop
-μ-loop buf₀ scratch₀ s base chunk count l₀ buf scratch l = count - l
+μ-loop buf₀ scratch₀ s base chunk first count l₀ buf scratch l = count - l
 
 -- the places that the answers look back to
 abbrev Start : Type 0
@@ -25,7 +25,10 @@ abbrev Line : Type 0
 Line = tie.After-line-of Inv-loop μ-loop
 
 loop-holds : tie.Need-loop-holds Inv-loop μ-loop
-loop-holds c = let x : Start = search in (c .line-count .ensures, forth-none (x .pre .0) (x .pre .1))
+loop-holds c =
+    let f : tie.After-first-moved Inv-loop μ-loop = search in
+    let x : Start = search in
+    (c .line-count .ensures, forth-none (x .pre .0) (x .pre .1) (f .first-moved .ensures))
 
 forth-requires : tie.Need-forth-requires Inv-loop μ-loop
 forth-requires c κs =
@@ -56,6 +59,7 @@ turn-at-spec =
     (tie.spec
     Inv-loop
     μ-loop
+    (search needs)
     (search needs)
     loop-holds
     (search needs)

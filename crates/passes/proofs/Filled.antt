@@ -1,0 +1,65 @@
+-- A loop that stores word k at place `to k`, for k = 0, 1, ..: one store more, and one group of stores more, where no two places are one.
+-- The loops over a line (gather, scatter, put back) are instances.
+use mathlib.Core.Path.{_≡_, refl, sym, ap, _∙_, subst}
+use mathlib.Core.List.{List}
+use mathlib.Core.Logic.{⊎-elim}
+use Prim.Native.Nat.{ℕ, _+_, _-_, _<_, _≤_}
+use native.Mathlib.Nat.{not-suc-le-zero, zero-add}
+use native.Mathlib.Omega.{arith}
+use lib.ListN.{length, getD, set, length-set}
+use lib.Seq.{getD-set-same, getD-set-other}
+use Rattle.lists.proofs.Decide.{eq-or-ne, lt-or-ge}
+use Rattle.passes.specs.Lines.{posOn}
+use Rattle.passes.specs.ThroughScratch.{Apart, Filled, Lifted}
+use Rattle.passes.specs.declared.line.Line.{Line}
+
+pub filled-none : (to word : ℕ → ℕ) (xs : List ℕ) → Filled to word 0 xs xs
+filled-none to word xs = record { same = refl; placed = λ k h. absurd (not-suc-le-zero h); others = λ p h. refl }
+
+pub filled-more : {to word : ℕ → ℕ} {count k : ℕ} {before now : List ℕ} → Apart to count
+    → k < count → to k < length before → Filled to word k before now → Filled to word (k + 1) before (set now (to k) (word k))
+filled-more {to} {word} {count} {k} {before} {now} apart h inside f = record {
+  same = length-set now (to k) (word k) ∙ f .same;
+  placed = λ j l. ⊎-elim
+      (λ (e : j ≡ k). rw e (getD-set-same now (to k) (word k) 0 (rw (f .same) inside)))
+      (λ (d : j ≡ k → ⊥).
+      getD-set-other now (to k) (to j) (word k) 0 (λ e. d (apart j k (omega arith) h e)) ∙ f .placed j (omega arith))
+      (eq-or-ne j k);
+  others = λ p g. getD-set-other now (to k) p (word k) 0 (λ e. g k (omega arith) (sym e)) ∙ f .others p (λ j l. g j (omega arith));
+}
+
+-- a group of stores more: its words and places are those from o on
+pub filled-on : {to word to′ word′ : ℕ → ℕ} {count size o : ℕ} {xs ys zs : List ℕ} → Apart to count → o + size ≤ count
+    → ((t : ℕ) → t < size → to (o + t) ≡ to′ t) → ((t : ℕ) → t < size → word (o + t) ≡ word′ t)
+    → Filled to word o xs ys → Filled to′ word′ size ys zs → Filled to word (o + size) xs zs
+filled-on {to} {word} {to′} {word′} {count} {size} {o} {xs} {ys} {zs} apart h to-is word-is f g = record {
+  same = g .same ∙ f .same;
+  placed = λ j l. ⊎-elim
+      (λ (a : j < o).
+      g .others (to j) (λ t d e. let q = apart (o + t) j (omega arith) (omega arith) (to-is t d ∙ e) in omega arith) ∙ f .placed j a)
+      (λ (a : o ≤ j).
+      let t = j - o in
+      let d : t < size = omega arith in
+      let e : o + t ≡ j = omega arith in
+      subst (λ (k : ℕ). getD zs (to k) 0 ≡ word k) e (ap (λ (z : ℕ). getD zs z 0) (to-is t d) ∙ g .placed t d ∙ sym (word-is t d)))
+      (lt-or-ge j o);
+  others = λ p n. g .others p (λ t d e. n (o + t) (omega arith) (to-is t d ∙ e)) ∙ f .others p (λ j d. n j (omega arith));
+}
+
+-- two runs of stores, one after the other
+pub filled-two : {to word to₁ word₁ to₂ word₂ : ℕ → ℕ} {count r s : ℕ} {xs ys zs : List ℕ} → Apart to count → r + s ≡ count
+    → ((t : ℕ) → t < r → to t ≡ to₁ t) → ((t : ℕ) → t < r → word t ≡ word₁ t)
+    → ((t : ℕ) → t < s → to (r + t) ≡ to₂ t) → ((t : ℕ) → t < s → word (r + t) ≡ word₂ t)
+    → Filled to₁ word₁ r xs ys → Filled to₂ word₂ s ys zs → Filled to word count xs zs
+filled-two {to} {word} {count = count} {r} {s} {xs} {ys} {zs} apart e to-1 word-1 to-2 word-2 f g =
+    let first : Filled to word (0 + r) xs ys = filled-on apart (omega arith) (λ t d. ap to (zero-add t) ∙ to-1 t d) (λ t d. ap word (zero-add t) ∙ word-1 t d) (filled-none to word xs) f in
+    subst (λ (k : ℕ). Filled to word k xs zs) e (filled-on apart (omega arith) to-2 word-2 (rw (zero-add r) at first) g)
+
+-- all words of a line are stored: it stands in scratch
+pub all-lifted : {l : Line} {k : ℕ} {to from : ℕ → ℕ} {xs scratch held : List ℕ} → ((j : ℕ) → j < l .count → to j < l .count)
+    → Filled to (λ j. getD xs (posOn l (from j)) 0) k scratch held → k ≡ l .count → Lifted l to from xs scratch held
+all-lifted within f e = record {
+  same = f .same;
+  placed = λ j d. f .placed j (omega arith);
+  rest = λ p d. f .others p (λ j g q. omega (arith, within j (omega arith)));
+}

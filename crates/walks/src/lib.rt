@@ -1,0 +1,1 @@
+// Lines walked without a division: definitions and laws, no function.
