@@ -244,6 +244,10 @@ module _ (r k : ℕ) (h : k < orderCount r) where
   pub plan-places : length (planOf (orderOf r k)) ≤ planPlaces r
   plan-places = rw (length-plan (orderOf r k)) falling-places
 
+-- no order of four axes has more than six pairs out of order
+pub at-most-six : (k : ℕ) → k < orderCount 4 → falling (orderOf 4 k) ≤ 6
+at-most-six k h = falling-places 4 k h
+
 none-below : {n : ℕ} (l : List ℕ) → length l ≤ 0 → Below n l
 none-below [] h = empty
 none-below (a ∷ l) h = absurd (not-suc-le-zero h)

@@ -1,5 +1,5 @@
 -- `axes::plan` meets its promise: its test is check 7, and the swaps computed are the plan's. That they fit into six places is what
--- `falling-places` says at four axes.
+-- `at-most-six` says.
 use mathlib.Core.Path.{_≡_, refl, sym, ap, ap₂, _∙_}
 use mathlib.Core.List.{List, _++_}
 use Prim.Native.Nat.{ℕ, _-_}
@@ -9,7 +9,7 @@ use borrow.Author.Needs.{needs}
 use borrow.Author.Tests.{lt-ltb, le-ltb}
 use Rattle.orders.specs.Numbers.{orderOf}
 use Rattle.orders.specs.Plans.{falling, planned, planOf}
-use Rattle.orders.proofs.Plans.{length-plan, falling-places}
+use Rattle.orders.proofs.Plans.{length-plan, at-most-six}
 use Rattle.refusals.specs.Calls.{planChecks}
 use Rattle.refusals.proofs.FirstOf.{First, Silent, first-is, silent-zero}
 use Rattle.axes.specs.declared.Planned.{Planned}
@@ -26,7 +26,7 @@ planned-swaps-requires : tie.Need-planned-swaps-requires
 planned-swaps-requires c =
     let s : tie.After-order-of = search in
     let x : tie.Start = search in
-    omega (arith, c .falling-pairs .ensures ∙ ap falling (s .order-of .ensures), falling-places 4 (x .args .order) (omega arith))
+    omega (arith, c .falling-pairs .ensures ∙ ap falling (s .order-of .ensures), at-most-six (x .args .order) (omega arith))
 
 returns-2 : tie.Need-returns-2
 returns-2 c =
