@@ -1,12 +1,14 @@
 -- The promise of the whole job. A refused sheet: its line always fits. A right sheet: neither the chain nor the writer can refuse it, since
 -- the block has at most 1,024 words, no chain needs more than its longest axis, no axis is longer than that, and 16,384 bytes suffice for
--- its result sheet; the words are the computed layout, since two layouts of one order are equal.
-use mathlib.Core.Path.{_≡_, ap, _∙_}
+-- its result sheet; the chain is lent the block's part of the buffer, and what it makes of it is the computed layout, since two layouts
+-- of one order are equal.
+use mathlib.Core.Path.{_≡_, refl, sym, ap, ap₂, _∙_}
 use mathlib.Core.Bool.{false}
 use mathlib.Core.List.{List, [], _∷_, _++_}
 use Prim.Native.Nat.{ℕ, _≤_}
 use native.Mathlib.Omega.{arith}
-use lib.ListN.{length, drop, length-append, length-drop}
+use lib.ListN.{length, take, drop, length-append, length-drop}
+use lib.Seq.{take-at, drop-at}
 use borrow.Author.Tests.{le-ltb}
 use Rattle.layout.specs.Layout.{volume, pick, Laid, laid}
 use Rattle.layout.proofs.Picks.{length-pick}
@@ -17,6 +19,8 @@ use Rattle.orders.proofs.Layouts.{chain-volume, chain-once, chain-laid}
 use Rattle.orders.proofs.Numbers.{number-below}
 use Rattle.refusals.specs.Conditions.{badLength}
 use Rattle.refusals.proofs.Scratch.{chain-few}
+use Rattle.checks.specs.Words.{capped}
+use Rattle.checks.proofs.Capped.{capped-few}
 use Rattle.axes.specs.declared.Answer.{Answer}
 use Rattle.axes.specs.Promises.{ChainPromise}
 use Rattle.axes.proofs.Accepted.{ChainAccepted, chain-zero, block-after}
@@ -53,29 +57,49 @@ met-refused {out = out} {r = r} long t p =
       text-is = rw (t .means, full .0) (full .1);
     }
 
+-- the part of the buffer that holds the block of a right sheet
+record Part (words words₁ ws ds : List ℕ) (size : ℕ) : Type 0 where
+  size-is : size ≡ volume ds
+  same : length words₁ ≡ length words
+  words : take size words₁ ≡ ws
+  rest : drop size words₁ ≡ drop (volume ds) words
+
+pub block-part : {bytes words : List ℕ} {r : Sheet} {words₁ ws : List ℕ} {size : ℕ} → length words ≡ 1024 → Taken words bytes r words₁ ws
+    → size ≡ capped (volume (r .lens)) → Part words words₁ ws (r .lens) size
+block-part {words = words} {r} {words₁} {ws} {size} block t part =
+    let all : size ≡ volume (r .lens) = part ∙ capped-few (volume (r .lens)) (omega (arith, t .right .few-words)) in
+    let long : length ws ≡ size = t .right .block ∙ sym all in
+    record {
+      size-is = all;
+      same = ap length (t .stored)
+          ∙ length-append ws (drop (length ws) words)
+          ∙ omega (arith, length-drop (length ws) words, t .right .block, t .right .room);
+      words = ap (take size) (t .stored) ∙ take-at ws (drop (length ws) words) size long;
+      rest = ap (drop size) (t .stored) ∙ drop-at ws (drop (length ws) words) size long ∙ ap (λ (k : ℕ). drop k words) (t .right .block);
+    }
+
 -- a right sheet, its chain run and its result sheet written
-module _ {bytes words scratch out : List ℕ} {r : Sheet} {words₁ ws : List ℕ} {a : Answer} {words₂ scratch₂ : List ℕ} {w : Written} {out′ : List ℕ}
+module _ {bytes words scratch out : List ℕ} {r : Sheet} {words₁ ws : List ℕ} {size : ℕ} {a : Answer} {front scratch₂ : List ℕ} {w : Written} {out′ : List ℕ}
     (block : length words ≡ 1024) (room : length scratch ≡ 1024) (long : length out ≡ 16384)
-    (t : Taken words bytes r words₁ ws) (p : ChainPromise 4 (r .lens) (swapsOf r) words₁ scratch a words₂ scratch₂)
-    (q : WrittenAs (a .lens) (a .order) words₂ out w out′) where
+    (t : Taken words bytes r words₁ ws) (part : size ≡ capped (volume (r .lens)))
+    (p : ChainPromise 4 (r .lens) (swapsOf r) (take size words₁) scratch a front scratch₂)
+    (q : WrittenAs (a .lens) (a .order) (front ++ drop size words₁) out w out′) where
   abbrev ds : List ℕ
   ds = r .lens
 
   abbrev order : List ℕ
   order = named 4 (swapsOf r)
 
-  same : length words₁ ≡ length words
-  same =
-      ap length (t .stored)
-      ∙ length-append ws (drop (length ws) words)
-      ∙ omega (arith, length-drop (length ws) words, t .right .block, t .right .room)
+  -- the part of the buffer that the chain is lent
+  lent : take size words₁ ≡ ws
+  lent = block-part block t part .words
 
-  runs : ChainAccepted 4 ds words₁ scratch (swapsOf r)
+  runs : ChainAccepted 4 ds (take size words₁) scratch (swapsOf r)
   runs = record {
     block = record {
       lengths = t .right .lengths;
       words = le-ltb 1048576 (volume ds) (omega (arith, t .right .few-words));
-      buffer = le-ltb (length words₁) (volume ds) (omega (arith, same, t .right .few-words));
+      exact = ap length lent ∙ t .right .block;
     };
     short = le-ltb 32 (length (swapsOf r)) (t .right .few-swaps);
     swaps = t .right .swaps;
@@ -86,11 +110,19 @@ module _ {bytes words scratch out : List ℕ} {r : Sheet} {words₁ ws : List �
   pub chain-runs : a .number ≡ 0
   chain-runs = p .block .number-is ∙ chain-zero runs
 
-  laid-out : Laid ds order words₁ words₂
-  laid-out = p .block .words chain-runs
+  laid-out : Laid ds order ws front
+  laid-out = rw lent at (p .block .words chain-runs)
 
-  words-laid : words₂ ≡ laid ds order words₁
-  words-laid = chain-once ds (t .right .axes) (swapsOf r) laid-out (chain-laid ds (t .right .axes) (swapsOf r) words₁ (omega (arith, same, t .right .few-words)))
+  words-laid : front ≡ laid ds order ws
+  words-laid = chain-once ds (t .right .axes) (swapsOf r) laid-out (chain-laid ds (t .right .axes) (swapsOf r) ws (omega (arith, t .right .block)))
+
+  abbrev words₂ : List ℕ
+  words₂ = front ++ drop size words₁
+
+  as-many : length words₂ ≡ 1024
+  as-many =
+      length-append front (drop size words₁)
+      ∙ omega (arith, laid-out .same, t .right .block, length-drop size words₁, block-part block t part .size-is, block-part block t part .same, t .right .few-words)
 
   new-lengths : a .lens ≡ pick order ds
   new-lengths = ap (λ (s : Answer). s .lens) (p .given chain-runs)
@@ -100,7 +132,7 @@ module _ {bytes words scratch out : List ℕ} {r : Sheet} {words₁ ws : List �
 
   good-lengths : badLength (pick order ds) ≡ false
   good-lengths =
-      ap badLength (pick-named ds (swapsOf r) (t .right .axes)) ∙ block-after (runs .block) (swapsOf r) {ys = words₂} (laid-out .same) .lengths
+      ap badLength (pick-named ds (swapsOf r) (t .right .axes)) ∙ block-after (runs .block) (swapsOf r) refl .lengths
 
   few : volume (pick order ds) ≤ 1024
   few = omega (arith, chain-volume ds (t .right .axes) (swapsOf r), t .right .few-words)
@@ -114,7 +146,7 @@ module _ {bytes words scratch out : List ℕ} {r : Sheet} {words₁ ws : List �
   -- the writer never refuses
   writes : writerNumber (pick order ds) (numberOf 4 order) words₂ out ≡ 0
   writes =
-      number-0 {words = words₂} (record { lengths = good-lengths; few = few; enough = omega (arith, few, same, laid-out .same) }) (numberOf 4 order) out
+      number-0 {words = words₂} (record { lengths = good-lengths; few = few; enough = omega (arith, few, as-many) }) (numberOf 4 order) out
       (omega (arith, number-below 4 (swapsOf r))) (omega (arith, text-fits))
 
   promised : WrittenAs (pick order ds) (numberOf 4 order) words₂ out w out′
@@ -124,7 +156,7 @@ module _ {bytes words scratch out : List ℕ} {r : Sheet} {words₁ ws : List �
   full = in-full text out writes (promised .answers) (promised .bytes)
 
   words-of : words₂ ≡ jobWords (Outcome.accepted ds (swapsOf r) ws) words
-  words-of = words-laid ∙ ap (laid ds order) (t .stored)
+  words-of = ap₂ _++_ words-laid (block-part block t part .rest)
 
   text-of : text ≡ jobText (Outcome.accepted ds (swapsOf r) ws) words
   text-of = ap (resultText (pick order ds) (numberOf 4 order)) words-of

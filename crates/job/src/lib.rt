@@ -19,7 +19,8 @@ pub fn job(
     let lens = sheet.lens;
     let swaps = sheet.swaps;
     let count = sheet.count;
-    let answer = axes::chain(words, scratch, axes::Shape { lens }, &swaps[..count]);
+    let size = checks::words_of(&lens);
+    let answer = axes::chain(&mut words[..size], scratch, axes::Shape { lens }, &swaps[..count]);
     let turned = answer.lens;
     let written = sheet::write(turned, answer.order, words, out);
     written.count
