@@ -81,7 +81,7 @@ module _ {ds xs : List ℕ} (b : BlockAccepted ds xs) where
 pub never-six : (ds xs : List ℕ) (short : Bool) → firstOf (blockChecks ds xs ++ (check 4 short ∷ [])) ≡ 6 → ⊥
 never-six ds xs short = go (badLength ds) (tooManyWords ds) (shortBuffer ds xs) (longBuffer ds xs) short
   where
-    go : (a b c d e : Bool) → cond a 1 (cond b 2 (cond c 3 (cond d 13 (cond e 4 0)))) ≡ 6 → ⊥
+    go : (a b c d e : Bool) → _≡_ {A = ℕ} (cond a 1 (cond b 2 (cond c 3 (cond d 13 (cond e 4 0))))) 6 → ⊥
     go true b c d e n = omega arith
     go false true c d e n = omega arith
     go false false true d e n = omega arith

@@ -132,7 +132,7 @@ module _ {r : ℕ} (ds : List ℕ) (axes : length ds ≡ r) (k : ℕ) (h : k + 1
       let block = swapBlock outer m n chunk in
       let exact : length xs ≡ volume block = s .exact ∙ sym swap-volume in
       let scratch : shortScratch (need (sides m n)) ss ≡ false = le-ltb (length ss) (need (sides m n)) (omega (arith, swap-need)) in
-      let silent : Silent (swapChecks outer m n chunk xs ss) = 
+      let silent : Silent (swapChecks outer m n chunk xs ss) =
       more lengths (more words (more (not-short block xs exact) (more (not-long block xs exact) (more scratch none)))) in
       silent-zero silent
 

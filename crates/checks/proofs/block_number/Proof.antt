@@ -45,10 +45,11 @@ returns-3 c =
     let s : tie.Start = search in
     let lens = s .args .lens .now in
     let e = words s (search via) in
-    rw
-    (size-passed s (search via),
-    le-ltb (length (s .args .buf .now)) (volume lens) (omega arith),
-    lt-ltb (volume lens) (length (s .args .buf .now)) (omega arith))
+    rw (
+      size-passed s (search via),
+      le-ltb (length (s .args .buf .now)) (volume lens) (omega arith),
+      lt-ltb (volume lens) (length (s .args .buf .now)) (omega arith),
+    )
 
 returns-4 : tie.Need-returns-4
 returns-4 c =

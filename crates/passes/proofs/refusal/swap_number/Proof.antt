@@ -48,20 +48,22 @@ module _ (x : tie.Start) where
     long-buffer : w ≤ 1048576 → w < length (x .args .buf .now) → 13 ≡ firstOf checks
     long-buffer h k =
         let q = all h in
-        rw
-        (some,
-        le-ltb 1048576 words (omega arith),
-        le-ltb (length (x .args .buf .now)) words (omega arith),
-        lt-ltb words (length (x .args .buf .now)) (omega arith))
+        rw (
+          some,
+          le-ltb 1048576 words (omega arith),
+          le-ltb (length (x .args .buf .now)) words (omega arith),
+          lt-ltb words (length (x .args .buf .now)) (omega arith),
+        )
 
     scratch-decides : w ≤ 1048576 → length (x .args .buf .now) ≡ w → firstOf checks ≡ cond (shortScratch needed (x .args .scratch .now)) 4 0
     scratch-decides h k =
         let q = all h in
-        rw
-        (some,
-        le-ltb 1048576 words (omega arith),
-        le-ltb (length (x .args .buf .now)) words (omega arith),
-        le-ltb words (length (x .args .buf .now)) (omega arith))
+        rw (
+          some,
+          le-ltb 1048576 words (omega arith),
+          le-ltb (length (x .args .buf .now)) words (omega arith),
+          le-ltb words (length (x .args .buf .now)) (omega arith),
+        )
 
     short-scratch : w ≤ 1048576 → length (x .args .buf .now) ≡ w → length (x .args .scratch .now) < needed → 4 ≡ firstOf checks
     short-scratch h k l = sym (scratch-decides h k ∙ rw (lt-ltb (length (x .args .scratch .now)) needed l))
