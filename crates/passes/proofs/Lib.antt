@@ -22,5 +22,7 @@ pub mod Ticks
 pub mod Swaps
 -- any two outcomes that the promise of a call allows coincide
 pub mod OneOutcome
+-- any two outcomes of a tick coincide
+pub mod OneTick
 -- a turn and its reverse, either one first, restore every word
 pub mod ThereAndBack

@@ -3,25 +3,36 @@
 use mathlib.Core.Path.{_≡_, refl, sym, ap, _∙_, subst}
 use mathlib.Core.Bool.{cond}
 use mathlib.Core.List.{List, [], _∷_}
+use mathlib.Core.Logic.{⊎-elim}
 use Prim.Native.Nat.{ℕ, _+_, _<_, _≤_}
 use native.Mathlib.Omega.{arith}
 use lib.Dec.{ltb}
 use borrow.Author.Tests.{lt-ltb, le-ltb}
+use Rattle.lists.proofs.Decide.{eq-or-ne}
 use Rattle.refusals.specs.FirstOf.{check, firstOf}
-use Rattle.refusals.specs.Calls.{passesChecks}
+use Rattle.refusals.specs.Calls.{sizeChecks, passesChecks}
 use Rattle.refusals.specs.Scratch.{need, cleared}
 use Rattle.refusals.proofs.FirstOf.{refused-first, accepted-so-far}
 use Rattle.refusals.proofs.Calls.{passes-accepted}
+use Rattle.refusals.proofs.Conditions.{InRange, size-valid}
 use Rattle.refusals.proofs.Promise as promise
 use Rattle.flat.specs.Turn.{sides}
-use Rattle.passes.specs.Lines.{lineCount, lineOf, LineMoved}
+use Rattle.passes.specs.Lines.{skipped, lineCount, lineOf, LineMoved}
 use Rattle.passes.specs.ThroughScratch.{Grouped, Lies, Past, Fits}
 use Rattle.passes.specs.Ticks.{pastCount, tickChecks, LineTicked, TickPromise}
 use Rattle.passes.specs.declared.Ticked.{Ticked}
 use Rattle.passes.specs.declared.line.GroupedSides.{GroupedSides}
-use Rattle.passes.proofs.Accepted.{flat-accepted, flat-asked, past-cleared}
-use Rattle.passes.proofs.Fits.{past-none, past-more}
+use Rattle.passes.proofs.Accepted.{flat-accepted, flat-lies, flat-asked, past-cleared}
+use Rattle.passes.proofs.Fits.{line-fits, past-none, past-more}
+use Rattle.passes.proofs.Strided.{skipped-few}
 use Rattle.passes.proofs.Going.{going-fits, going-short}
+
+-- sides that pass the checks of a block's size
+pub sized-sides : (m n : ℕ) → firstOf (sizeChecks (sides m n)) ≡ 0 → (0 < m) × (0 < n) × (m ≤ 4096) × (n ≤ 4096)
+sized-sides m n e = go (size-valid (sides m n) [] e .0 .lengths)
+  where
+    go : InRange (sides m n) → (0 < m) × (0 < n) × (m ≤ 4096) × (n ≤ 4096)
+    go (InRange.more pm fm (InRange.more pn fn InRange.none)) = (pm, pn, fm, fn)
 
 -- the line count, of the sides as they were given
 pub counted : {m n count : ℕ} {s : GroupedSides} → (s .m ≡ m) × (s .n ≡ n) × Grouped s → count ≡ lineCount (s .m) (s .n) → count ≡ lineCount m n
@@ -82,3 +93,15 @@ module _ {m n done : ℕ} {s : GroupedSides} (is : (s .m ≡ m) × (s .n ≡ n) 
   tick-moved l p z =
       let past = past-more (going-short (asked .0) (asked .1) done h) (past-none (need (sides (s .m) (s .n))) sc) p in
       one-moved m n done b sc good (rw (is .0, is .1) at h) (rw (is .0, is .1) at l) (rw (is .0, is .1) at past) z
+
+-- what an accepted tick tells: the checks of the flat turn are passed, and a line that is left fits
+module _ (m n done : ℕ) (b sc : List ℕ) where
+  pub flat-passed : firstOf (tickChecks m n done b sc) ≡ 0 → firstOf (passesChecks (sides m n) b sc) ≡ 0
+  flat-passed e =
+      ⊎-elim (λ z. z) (λ k. absurd (k (sym (refused-first (passesChecks (sides m n) b sc) (check 12 (pastCount m n done) ∷ []) k) ∙ e)))
+      (eq-or-ne (firstOf (passesChecks (sides m n) b sc)) 0)
+
+  pub line-there : firstOf (passesChecks (sides m n) b sc) ≡ 0 → done < lineCount m n → Fits m n (lineOf m n 0 1 done) b sc
+  line-there good h =
+      let a = flat-accepted m n b sc good in
+      line-fits (a .m-pos) (a .n-pos) (flat-lies a) (skipped m n + done) (omega (arith, skipped-few m n (a .m-pos) (a .n-pos)))

@@ -4,13 +4,20 @@ use mathlib.Core.Path.{_≡_}
 use mathlib.Core.List.{List, [], _∷_, _++_}
 use Prim.Native.Nat.{ℕ, _+_, _<_, _≤_}
 use lib.Dec.{ltb}
-use Rattle.refusals.specs.FirstOf.{Check, check}
-use Rattle.refusals.specs.Calls.{passesChecks}
+use Rattle.refusals.specs.FirstOf.{Check, check, firstOf}
+use Rattle.refusals.specs.Calls.{sizeChecks, passesChecks}
 use Rattle.refusals.specs.Scratch.{need}
 use Rattle.refusals.specs.Promise.{Rearranged}
 use Rattle.flat.specs.Turn.{sides}
 use Rattle.passes.specs.Lines.{lineCount, lineOf, LineMoved}
+use Rattle.passes.specs.declared.LineCount.{LineCount}
 use Rattle.passes.specs.declared.Ticked.{Ticked}
+
+-- how many lines the turn of m by n has: 1, 2; a refusal's count is 0
+pub record LinesPromise (m n : ℕ) (l : LineCount) : Type 0 where
+  pub number-is : l .number ≡ firstOf (sizeChecks (sides m n))
+  pub given : l .number ≡ 0 → l .count ≡ lineCount m n
+  pub refusal : (l .number ≡ 0 → ⊥) → l .count ≡ 0
 
 -- 12: the lines done are more than the turn has
 abbrev pub pastCount : ℕ → ℕ → ℕ → Bool

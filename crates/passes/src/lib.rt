@@ -7,7 +7,7 @@ mod turning;
 mod walk;
 
 ghost use Rattle.passes.specs.Promises.{TurnPromise, TurnBackPromise, SwapPromise, ClearPromise};
-ghost use Rattle.passes.specs.Ticks.{TickPromise};
+ghost use Rattle.passes.specs.Ticks.{LinesPromise, TickPromise};
 
 // Turns the m by n block that fills a buffer, through scratch of max(m, n) words: 0, or 1, 2, 3, 13, 4.
 pub fn turn(buf: &mut [u32], scratch: &mut [u32], m: usize, n: usize) -> u32
@@ -37,6 +37,28 @@ pub fn turn_back(buf: &mut [u32], scratch: &mut [u32], m: usize, n: usize) -> u3
     turning::turn_home_at(buf, scratch, s, 0, 1);
     scratch::clear_longest(scratch, m, n);
     0
+}
+
+// How many lines a turn has: the number, and the count, 0 in a refusal.
+pub struct LineCount {
+    pub number: u32,
+    pub count: usize,
+}
+
+// The lines of the turn of an m by n block: n + m + n where the sides share a factor, m + n otherwise: 0, or 1, 2.
+pub fn lines(m: usize, n: usize) -> LineCount
+    ensures { λ r. ⌜ LinesPromise m n r ⌝ }
+{
+    let lens = [m, n];
+    let number = checks::size_number(&lens);
+    if number != 0 {
+        return LineCount { number, count: 0 };
+    }
+    let s = turning::group_sides(m, n);
+    LineCount {
+        number: 0,
+        count: turning::line_count(s),
+    }
 }
 
 // What a tick answers: its number, and the lines done after it.
