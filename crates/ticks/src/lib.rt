@@ -11,14 +11,14 @@ pub struct LineRecord {
 pub fn step(
     buf: &mut [u32],
     scratch: &mut [u32],
-    record: &mut LineRecord,
+    lines: &mut LineRecord,
     m: usize,
     n: usize,
 ) -> u32
-    ensures { λ r. ⌜ StepPromise m n (now (record .entry)) (now (buf .entry)) (now (scratch .entry)) r (now (record .exit)) (now (buf .exit)) (now (scratch .exit)) ⌝ }
+    ensures { λ r. ⌜ StepPromise m n (now (lines .entry)) (now (buf .entry)) (now (scratch .entry)) r (now (lines .exit)) (now (buf .exit)) (now (scratch .exit)) ⌝ }
 {
-    let done = record.done;
+    let done = lines.done;
     let ticked = passes::tick(buf, scratch, m, n, done);
-    record.done = ticked.done;
+    lines.done = ticked.done;
     ticked.number
 }
