@@ -58,7 +58,7 @@ flat-lies {m} {n} a = record {
 }
 
 -- turned there, it is turned
-flat-turned : (m n : ℕ) (xs ys : List ℕ) → TurnedAt m n 0 1 xs ys → Turn m n xs ys
+pub flat-turned : (m n : ℕ) (xs ys : List ℕ) → TurnedAt m n 0 1 xs ys → Turn m n xs ys
 flat-turned m n xs ys t =
     from-literal m n xs ys (t .same)
     (λ i j hi hj.

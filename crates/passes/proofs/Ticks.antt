@@ -56,7 +56,7 @@ module _ (m n done : ℕ) (b sc : List ℕ) where
     pub too-late : lineCount m n < done → 12 ≡ firstOf (tickChecks m n done b sc)
     too-late h = sym (decided ∙ rw (lt-ltb (lineCount m n) done h))
 
-    in-time : done ≤ lineCount m n → firstOf (tickChecks m n done b sc) ≡ 0
+    pub in-time : done ≤ lineCount m n → firstOf (tickChecks m n done b sc) ≡ 0
     in-time h = decided ∙ rw (le-ltb (lineCount m n) done h)
 
     -- no line is left: nothing has moved, and scratch is cleared
