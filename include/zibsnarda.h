@@ -32,7 +32,6 @@ enum {
     ZIB_LONG_CHAIN = 5,     /* the chain has more than 32 swaps */
     ZIB_BAD_SWAP = 6,       /* a swap number is above 2; place is the first such, from 0 */
     ZIB_BAD_ORDER = 7,      /* the order number is above 23 */
-    ZIB_LONG_PLAN = 8,      /* the plan of the order has more than six swaps; no order of four axes has */
     ZIB_LONG_SHEET = 9,     /* a sheet has more than 16,384 bytes */
     ZIB_BAD_LINE = 10,      /* a sheet line is malformed, missing or left over; place is its line number, from 1 */
     ZIB_LARGE_SHEET = 11,   /* a sheet's lengths multiply to more than 1,024 */
@@ -124,12 +123,12 @@ struct zib_answer zib_chain(uint32_t *buffer, size_t buffer_words, uint32_t *scr
 /*
  * Brings a block into the order with a number, by that order's plan. Scratch is as for zib_chain with that plan: as many
  * words as the longest axis that stands in falling order with another. No chain that names the order needs less.
- * Answers 0, or the first of 1, 2, 3, 7, 8, 4 that holds.
+ * Answers 0, or the first of 1, 2, 3, 7, 4 that holds.
  */
 struct zib_answer zib_request(uint32_t *buffer, size_t buffer_words, uint32_t *scratch, size_t scratch_words, struct zib_shape shape,
                               size_t order);
 
-/* The shortest chain that names an order and, among the shortest, the first in dictionary order. Answers 0, 7 or 8. */
+/* The shortest chain that names an order and, among the shortest, the first in dictionary order. Answers 0 or 7. */
 struct zib_planned zib_plan(size_t order);
 
 /*

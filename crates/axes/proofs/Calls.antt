@@ -7,7 +7,7 @@ use Prim.Native.Nat.{ℕ, _-_, _<_, _≤_}
 use native.Mathlib.Omega.{arith}
 use lib.ListN.{length, take, replicate, length-append}
 use lib.Seq.{take-at}
-use borrow.Author.Tests.{ltb-false, le-ltb, ne-eqb}
+use borrow.Author.Tests.{le-ltb, ne-eqb}
 use Rattle.layout.specs.Layout.{pick, Laid}
 use Rattle.layout.proofs.Picks.{Below}
 use Rattle.orders.specs.Chains.{named}
@@ -15,7 +15,7 @@ use Rattle.orders.specs.Numbers.{orderCount, orderOf, numberOf}
 use Rattle.orders.specs.Plans.{planOf, planPlaces}
 use Rattle.orders.specs.Needs.{planNeed}
 use Rattle.orders.proofs.Numbers.{number-order}
-use Rattle.orders.proofs.Plans.{plan-of-number, plan-of-number-below}
+use Rattle.orders.proofs.Plans.{plan-of-number, plan-of-number-below, plan-places}
 use Rattle.refusals.specs.FirstOf.{Check, check, firstOf}
 use Rattle.refusals.specs.Conditions.{shortScratch, badSwap, longChain}
 use Rattle.refusals.specs.Calls.{blockChecks, chainChecks, requestChecks, planChecks}
@@ -56,16 +56,16 @@ below-good : (r : ℕ) {c : List ℕ} → Below (r - 1) c → badSwap r c ≡ fa
 below-good r Below.empty = refl
 below-good r (Below.next {a} {o} h b) = rw (le-ltb (r - 2) a (omega arith)) (below-good r b)
 
--- a plan that was given
-module _ {r order : ℕ} {q : Planned} (p : PlanPromise r order q) (z : q .number ≡ 0) where
+-- a plan that was given, on so few axes that no plan is longer than a chain may be
+module _ {r order : ℕ} {q : Planned} (few : planPlaces r ≤ 32) (p : PlanPromise r order q) (z : q .number ≡ 0) where
   o : List ℕ
   o = orderOf r order
 
-  low-few : (order < orderCount r) × (length (planOf (orderOf r order)) ≤ 6)
-  low-few = go (calls.plan-accepted r order .0 (sym (p .number-is) ∙ z))
+  low : order < orderCount r
+  low = go (calls.plan-accepted r order .0 (sym (p .number-is) ∙ z))
     where
-      go : Silent (planChecks r order) → (order < orderCount r) × (length (planOf (orderOf r order)) ≤ 6)
-      go (Silent.more h (Silent.more k s)) = (is-order r order h, ltb-false 6 (length (planOf (orderOf r order))) k)
+      go : Silent (planChecks r order) → order < orderCount r
+      go (Silent.more h s) = is-order r order h
 
   plan-length : q .len ≡ length (planOf (orderOf r order))
   plan-length = ap (λ (t : Planned). t .len) (p .given z)
@@ -87,10 +87,10 @@ module _ {r order : ℕ} {q : Planned} (p : PlanPromise r order q) (z : q .numbe
   plan-count = plan-length ∙ ap length (sym plan-swaps)
 
   plan-short : longChain (planOf (orderOf r order)) ≡ false
-  plan-short = le-ltb 32 (length (planOf (orderOf r order))) (omega (arith, low-few .1))
+  plan-short = le-ltb 32 (length (planOf (orderOf r order))) (omega (arith, few, plan-places r order low))
 
   plan-good : badSwap r (planOf (orderOf r order)) ≡ false
-  plan-good = below-good r (plan-of-number-below r order (low-few .0))
+  plan-good = below-good r (plan-of-number-below r order low)
 
   -- the checks of its chain and of the request come to the same: those of the block, then the room that it needs
   module _ (ds xs ss : List ℕ) where
@@ -113,7 +113,7 @@ module _ {r order : ℕ} {q : Planned} (p : PlanPromise r order q) (z : q .numbe
   request-of-chain {ds} {xs} {ss} {ys} {ts} {a} c′ =
       let c : ChainPromise r ds (planOf o) xs ss a ys ts = subst (λ (t : List ℕ). ChainPromise r ds t xs ss a ys ts) plan-swaps c′ in
       let first = c .block .number-is ∙ plan-checks ds xs ss in
-      let names : named r (planOf o) ≡ o = plan-of-number r order (low-few .0) .names in
+      let names : named r (planOf o) ≡ o = plan-of-number r order low .names in
       let nowhere : refusedPlace r (a .number) (planOf o) ≡ 0 =
       rw (ne-eqb (a .number) 6 (λ e. omega (arith, first, block-few ds xs (shortScratch (planNeed r ds order) ss)))) in
       record {
@@ -127,6 +127,6 @@ module _ {r order : ℕ} {q : Planned} (p : PlanPromise r order q) (z : q .numbe
             c .given i
             ∙ ap₂ (λ (l : List ℕ) (k : ℕ). accepted l k (length (planOf o)))
             (ap (λ (t : List ℕ). pick t ds) names)
-            (ap (numberOf r) names ∙ number-order r order (low-few .0));
+            (ap (numberOf r) names ∙ number-order r order low);
         refusal = λ n. c .refusal n ∙ ap (refused r (a .number)) nowhere;
       }

@@ -16,12 +16,11 @@ use Rattle.lists.proofs.Decide.{eq-or-ne}
 use Rattle.layout.specs.Layout.{pick, Laid}
 use Rattle.orders.specs.Chains.{follow, named}
 use Rattle.orders.specs.Numbers.{orderCount, orderOf, numberOf}
-use Rattle.orders.specs.Plans.{planOf, planPlaces}
+use Rattle.orders.specs.Plans.{planPlaces}
 use Rattle.orders.specs.Needs.{chainNeed, planNeed}
 use Rattle.orders.proofs.Chains.{pick-named, follow-append, follow-home, joined, length-follow}
 use Rattle.orders.proofs.Layouts.{chain-joined, chain-home, chain-once}
 use Rattle.orders.proofs.Numbers.{number-below, order-number}
-use Rattle.orders.proofs.Plans.{plan-places}
 use Rattle.orders.proofs.Needs.{need-append, need-back}
 use Rattle.orders.proofs.PlanNeeds.{plan-least}
 use Rattle.refusals.specs.FirstOf.{Check, check, firstOf}
@@ -194,20 +193,19 @@ backwards-scratch axes p q e =
     let home = backwards axes p q e (omega (arith, as-long axes p e, ran axes p e .room)) in
     (home, scratch-back axes p e (q .block .zeroed (home .accepts)))
 
--- an order that one call answers, asked for in another, means the same layout, where its plan is one of at most six swaps
-module _ {r : ℕ} {ds c xs ss ss′ : List ℕ} {a a′ : Answer} {ys ts zs us : List ℕ} (axes : length ds ≡ r) (six : planPlaces r ≤ 6)
-    (p : ChainPromise r ds c xs ss a ys ts) (q : RequestPromise r ds (a .order) xs ss′ a′ zs us) (e : a .number ≡ 0) (room : planNeed r ds (a .order) ≤ length ss′) where
+-- an order that one call answers, asked for in another, means the same layout
+module _ {r : ℕ} {ds c xs ss ss′ : List ℕ} {a a′ : Answer} {ys ts zs us : List ℕ} (axes : length ds ≡ r) (p : ChainPromise r ds c xs ss a ys ts)
+    (q : RequestPromise r ds (a .order) xs ss′ a′ zs us) (e : a .number ≡ 0) (room : planNeed r ds (a .order) ≤ length ss′) where
   low : a .order < orderCount r
   low = rw (ap (λ (b : Answer). b .order) (p .given e)) (number-below r c)
 
   asked-accepted : a′ .number ≡ 0
   asked-accepted =
       let need = check 4 (shortScratch (planNeed r ds (a .order)) ss′) ∷ [] in
-      let few : Silent (planChecks r (a .order) ++ need) =
+      let silent : Silent (planChecks r (a .order) ++ need) =
       Silent.more (le-ltb (orderCount r - 1) (a .order) (omega (arith, low)))
-      (Silent.more (le-ltb 6 (length (planOf (orderOf r (a .order)))) (omega (arith, plan-places r (a .order) low)))
-      (Silent.more (le-ltb (length ss′) (planNeed r ds (a .order)) room) Silent.none)) in
-      q .block .number-is ∙ by-last ds xs (planChecks r (a .order) ++ need) (sym (block-zero (ran axes p e .block))) refl ∙ silent-zero few
+      (Silent.more (le-ltb (length ss′) (planNeed r ds (a .order)) room) Silent.none) in
+      q .block .number-is ∙ by-last ds xs (planChecks r (a .order) ++ need) (sym (block-zero (ran axes p e .block))) refl ∙ silent-zero silent
 
   -- scratch that was enough for the chain is enough for the request
   pub enough-asked : planNeed r ds (a .order) ≤ chainNeed ds c
@@ -242,17 +240,18 @@ other-scratch {needed = needed} ss′ {n = n} same p =
     ))
     (eq-or-ne n 0)
 
--- a request of a number leaves exactly what the chain of its plan leaves, answer and both slices, refused or not
-module _ {r : ℕ} {ds xs ss : List ℕ} {k : ℕ} {plan : Planned} {a a′ : Answer} {ys ts zs us : List ℕ} (axes : length ds ≡ r) (p : PlanPromise r k plan)
-    (z : plan .number ≡ 0) (q : RequestPromise r ds k xs ss a ys ts) where
+-- a request of a number leaves exactly what the chain of its plan leaves, answer and both slices, refused or not, where no plan is longer
+-- than a chain may be
+module _ {r : ℕ} {ds xs ss : List ℕ} {k : ℕ} {plan : Planned} {a a′ : Answer} {ys ts zs us : List ℕ} (axes : length ds ≡ r)
+    (few : planPlaces r ≤ 32) (p : PlanPromise r k plan) (z : plan .number ≡ 0) (q : RequestPromise r ds k xs ss a ys ts) where
   pub plan-leaves : ChainPromise r ds (take (plan .len) (plan .swaps)) xs ss a′ zs us → (a ≡ a′) × (ys ≡ zs) × (ts ≡ us)
-  plan-leaves c = request-once axes q (request-of-chain p z c)
+  plan-leaves c = request-once axes q (request-of-chain few p z c)
 
   -- and answer and words also where each has its own scratch, both enough
   pub plan-leaves-words : {ss′ : List ℕ} → ChainPromise r ds (take (plan .len) (plan .swaps)) xs ss′ a′ zs us → planNeed r ds k ≤ length ss
       → planNeed r ds k ≤ length ss′ → (a ≡ a′) × (ys ≡ zs)
   plan-leaves-words {ss′} c h h′ =
-      let d = request-of-chain p z c in
+      let d = request-of-chain few p z c in
       let same : firstOf (requestChecks r ds xs ss′ k) ≡ firstOf (requestChecks r ds xs ss k) =
       rw (le-ltb (length ss) (planNeed r ds k) h, le-ltb (length ss′) (planNeed r ds k) h′) in
       let (vs, block) = other-scratch ss same (d .block) in

@@ -59,13 +59,6 @@ pub fn plan(order: usize) -> Planned
     }
     let axes = tables::order_of(order);
     let count = axes.falling_pairs();
-    if count > 6 {
-        return Planned {
-            number: 8,
-            swaps: [0; 6],
-            len: 0,
-        };
-    }
     let swaps = axes.planned_swaps(count);
     Planned {
         number: 0,
@@ -103,7 +96,7 @@ pub fn chain(buf: &mut [u32], scratch: &mut [u32], shape: Shape, swaps: &[usize]
     chains::run(buf, scratch, shape, swaps)
 }
 
-// The direct request for an order by its number, which runs its plan and needs what its plan needs: 0, or 1, 2, 3, 7, 8, 4.
+// The direct request for an order by its number, which runs its plan and needs what its plan needs: 0, or 1, 2, 3, 7, 4.
 pub fn request(buf: &mut [u32], scratch: &mut [u32], shape: Shape, order: usize) -> Answer
     ensures { λ r. ⌜ RequestPromise 4 (shape .lens) order (now (buf .entry)) (now (scratch .entry)) r (now (buf .exit)) (now (scratch .exit)) ⌝ }
 {

@@ -5,7 +5,7 @@ use mathlib.Core.Path.{_≡_, refl, sym, ap, _∙_, subst, subst₂}
 use mathlib.Core.List.{List, [], _∷_, map}
 use mathlib.Core.Bool.{Bool, true, false, cond}
 use mathlib.Core.Logic.{_⊎_, inl, inr, ⊎-elim}
-use Prim.Native.Nat.{ℕ, zero, suc, _+_, _-_, _<_, _≤_, zero-le}
+use Prim.Native.Nat.{ℕ, zero, suc, _+_, _*_, _-_, _<_, _≤_, zero-le}
 use native.Mathlib.Nat.{not-suc-le-zero, le-of-suc-le-suc, le-antisymm}
 use native.Mathlib.Omega.{arith}
 use lib.Dec.{ltb}
@@ -210,7 +210,6 @@ pub plan-below : (m : ℕ) (c : List ℕ) → Below m (planOf (named (suc m) c))
 unfolding planOf
 plan-below m c = planned-below m (falling (named (suc m) c)) c refl
 
--- no order has more falling pairs than pairs of places
 pub under-few : (a : ℕ) (l : List ℕ) → under a l ≤ length l
 unfolding under
 under-few a [] = zero-le
@@ -220,10 +219,16 @@ under-few a (x ∷ l) = go (ltb x a) (under-few a l)
     go true h = omega arith
     go false h = omega arith
 
-falling-few : (o : List ℕ) → falling o ≤ planPlaces (length o)
+-- no list of r axes has more falling pairs than pairs of places
+pub falling-few : (o : List ℕ) → falling o ≤ planPlaces (length o)
 unfolding falling
 falling-few [] = zero-le
 falling-few (a ∷ l) = omega (arith, under-few a l, falling-few l)
+
+-- the pairs of r places are r (r - 1) / 2: six of four, ten of five
+pub places-half : (r : ℕ) → planPlaces (suc r) + planPlaces (suc r) ≡ suc r * r
+places-half zero = refl
+places-half (suc r) = omega (arith, places-half r)
 
 -- the order with number k: its computed plan is its plan, of swaps of the axes, and no longer than there are pairs of places
 module _ (r k : ℕ) (h : k < orderCount r) where
@@ -238,6 +243,10 @@ module _ (r k : ℕ) (h : k < orderCount r) where
 
   pub plan-places : length (planOf (orderOf r k)) ≤ planPlaces r
   plan-places = rw (length-plan (orderOf r k)) falling-places
+
+-- no order of four axes has more than six pairs out of order
+pub at-most-six : (k : ℕ) → k < orderCount 4 → falling (orderOf 4 k) ≤ 6
+at-most-six k h = falling-places 4 k h
 
 none-below : {n : ℕ} (l : List ℕ) → length l ≤ 0 → Below n l
 none-below [] h = empty

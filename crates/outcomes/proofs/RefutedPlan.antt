@@ -2,10 +2,11 @@
 -- 0, 1, 2, that of order 0 is empty.
 use mathlib.Core.Path.{_≡_, refl, sym, ap, _∙_}
 use mathlib.Core.List.{List, [], _∷_}
-use Prim.Native.Nat.{ℕ}
+use Prim.Native.Nat.{ℕ, _<_, _≤_}
 use native.Mathlib.Omega.{arith}
+use lib.ListN.{length}
 use Rattle.layout.specs.Layout.{placeOf}
-use Rattle.orders.specs.Numbers.{arrangements, orders, orderOf}
+use Rattle.orders.specs.Numbers.{arrangements, orders, orderOf, orderCount}
 use Rattle.orders.specs.Plans.{under, falling, relabelled, firstBack, planned, planOf}
 use Rattle.refusals.specs.FirstOf.{firstOf}
 use Rattle.refusals.specs.Calls.{planChecks}
@@ -39,6 +40,14 @@ longer-chain q e = other-number (sym e ∙ ap (λ (p : Planned). p .len) (q .giv
 pub plan-of-rising-pairs : {p : Planned} → PlanPromise 4 23 p → p .len ≡ 0 → ⊥
 unfolding arrangements orders orderOf under falling relabelled firstBack planned planOf placeOf
 plan-of-rising-pairs q e = other-number (sym e ∙ ap (λ (p : Planned). p .len) (q .given (q .number-is))) tt
+
+-- five places for every plan, and a plan refused because it is as long as a plan can be: order 23 has six swaps
+pub bound-of-five : ((k : ℕ) → k < orderCount 4 → length (planOf (orderOf 4 k)) ≤ 5) → ⊥
+unfolding arrangements orders orderOf under falling relabelled firstBack planned planOf placeOf
+bound-of-five few = omega (arith, few 23 (omega arith))
+
+pub longest-plan-refused : {p : Planned} → PlanPromise 4 23 p → p .number ≡ 8 → ⊥
+longest-plan-refused q e = other-number (sym e ∙ q .number-is) tt
 
 -- an unused place that is not 0; order 23 accepted, order 24 refused, and a refusal with a length
 pub unused-place-filled : {p : Planned} → PlanPromise 4 9 p → p .swaps ≡ 0 ∷ 1 ∷ 2 ∷ 3 ∷ 0 ∷ 0 ∷ [] → ⊥

@@ -97,7 +97,7 @@ refusal-touches-a-word p = other-list (p .block .kept (λ y. omega (arith, seven
 pub refusal-answers-the-order : {a : Answer} {b : List ℕ} → Refused a b → a .order ≡ 24 → ⊥
 refusal-answers-the-order p e = other-number (sym e ∙ ap (λ (r : Answer). r .order) (p .refusal (λ y. omega (arith, seven p)))) tt
 
--- the order of checks: of two conditions that hold the later is answered; 7 and 8 never both hold
+-- the order of checks: of two conditions that hold the later is answered
 pub two-before-one : (b s : List ℕ) (order : ℕ) → Broken (requestChecks 4 (4097 ∷ 4096 ∷ 1 ∷ 1 ∷ []) b s order) 2
 two-before-one b s order = broken (requestChecks 4 (4097 ∷ 4096 ∷ 1 ∷ 1 ∷ []) b s order) 2 tt
 

@@ -28,10 +28,10 @@ pub chain-accepted : (r : ℕ) (ds b s chain : List ℕ) → (firstOf (chainChec
 chain-accepted r ds b s chain = accepted-exactly (more (lit< tt) (more (lit< tt) (more (lit< tt) (more (lit< tt) (more (lit< tt) (more (lit< tt) none))))))
 
 pub request-accepted : (r : ℕ) (ds b s : List ℕ) (order : ℕ) → (firstOf (requestChecks r ds b s order) ≡ 0) ↔ Silent (requestChecks r ds b s order)
-request-accepted r ds b s order = accepted-exactly (more (lit< tt) (more (lit< tt) (more (lit< tt) (more (lit< tt) (more (lit< tt) (more (lit< tt) none))))))
+request-accepted r ds b s order = accepted-exactly (more (lit< tt) (more (lit< tt) (more (lit< tt) (more (lit< tt) (more (lit< tt) none)))))
 
 pub plan-accepted : (r order : ℕ) → (firstOf (planChecks r order) ≡ 0) ↔ Silent (planChecks r order)
-plan-accepted r order = accepted-exactly (more (lit< tt) (more (lit< tt) none))
+plan-accepted r order = accepted-exactly (more (lit< tt) none)
 
 -- the checks of a block, then the room in scratch
 module _ (ds buffer scratch : List ℕ) where

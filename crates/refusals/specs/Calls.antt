@@ -3,7 +3,7 @@ use mathlib.Core.List.{List, [], _∷_, _++_}
 use Prim.Native.Nat.{ℕ}
 use Rattle.orders.specs.Needs.{chainNeed, planNeed}
 use Rattle.refusals.specs.FirstOf.{Check, check}
-use Rattle.refusals.specs.Conditions.{badLength, tooManyWords, shortBuffer, shortScratch, longChain, badSwap, noOrder, longPlan}
+use Rattle.refusals.specs.Conditions.{badLength, tooManyWords, shortBuffer, shortScratch, longChain, badSwap, noOrder}
 use Rattle.refusals.specs.Scratch.{need}
 
 -- the size of a block: 1, 2
@@ -27,10 +27,10 @@ abbrev pub chainChecks : ℕ → List ℕ → List ℕ → List ℕ → List ℕ
 chainChecks r ds buffer scratch chain =
     blockChecks ds buffer ++ (check 5 (longChain chain) ∷ check 6 (badSwap r chain) ∷ check 4 (shortScratch (chainNeed ds chain) scratch) ∷ [])
 
--- plan alone: 7, 8
+-- plan alone: 7
 abbrev pub planChecks : ℕ → ℕ → List Check
-planChecks r order = check 7 (noOrder r order) ∷ check 8 (longPlan r order) ∷ []
+planChecks r order = check 7 (noOrder r order) ∷ []
 
--- direct request for an order of r axes: 1, 2, 3, 7, 8, 4
+-- direct request for an order of r axes: 1, 2, 3, 7, 4
 abbrev pub requestChecks : ℕ → List ℕ → List ℕ → List ℕ → ℕ → List Check
 requestChecks r ds buffer scratch order = blockChecks ds buffer ++ (planChecks r order ++ (check 4 (shortScratch (planNeed r ds order) scratch) ∷ []))

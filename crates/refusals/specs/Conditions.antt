@@ -5,8 +5,7 @@ use Prim.Native.Nat.{ℕ, suc, _-_, max}
 use lib.Dec.{ltb, eqb}
 use lib.ListN.{length}
 use Rattle.layout.specs.Layout.{volume}
-use Rattle.orders.specs.Numbers.{orderCount, orderOf}
-use Rattle.orders.specs.Plans.{planOf}
+use Rattle.orders.specs.Numbers.{orderCount}
 
 -- the test holds at some entry
 abbrev pub some : (ℕ → Bool) → List ℕ → Bool
@@ -58,7 +57,3 @@ firstPlace f (x ∷ xs) = cond (f x) 0 (suc (firstPlace f xs))
 -- 7: the order number is above the last, for four axes above 23
 abbrev pub noOrder : ℕ → ℕ → Bool
 noOrder r k = ltb (orderCount r - 1) k
-
--- 8: the plan of the order asked for has more than six swaps
-abbrev pub longPlan : ℕ → ℕ → Bool
-longPlan r k = ltb 6 (length (planOf (orderOf r k)))

@@ -1,9 +1,11 @@
 -- `axes::request` meets its promise: a refusal changes nothing, and the chain of the order's plan answers as the request does.
 use mathlib.Core.Path.{_≡_, refl, sym, _∙_}
 use mathlib.Core.List.{List, [], _∷_, _++_}
+use Prim.Native.Nat.{_≤_}
 use native.Mathlib.Omega.{arith}
 use lib.ListN.{length}
 use borrow.Author.Needs.{needs}
+use Rattle.orders.specs.Plans.{planPlaces}
 use Rattle.orders.specs.Needs.{planNeed}
 use Rattle.refusals.specs.FirstOf.{Check, check}
 use Rattle.refusals.specs.Conditions.{shortScratch}
@@ -13,6 +15,9 @@ use Rattle.axes.proofs.Accepted.{by-block, by-last}
 use Rattle.axes.proofs.Calls.{request-refused, plan-holds, plan-count, request-of-chain}
 use Rattle.axes.proofs.request.Statement.{statement}
 use Rattle.axes.proofs.request.Tie as tie
+
+four-few : planPlaces 4 ≤ 32
+four-few = omega arith
 
 module _ (x : tie.Start) where
   axes : length (x .args .shape .lens) ≡ 4
@@ -48,16 +53,16 @@ returns-2 c =
     refl
 
 array-share-prefix-swaps : tie.Need-array-share-prefix-swaps
-array-share-prefix-swaps c = let p : tie.After-plan = search in plan-holds (p .plan .ensures) (search)
+array-share-prefix-swaps c = let p : tie.After-plan = search in plan-holds four-few (p .plan .ensures) (search)
 
 slice-aggregate-chain : tie.Need-slice-aggregate-chain
-slice-aggregate-chain c = let p : tie.After-plan = search in plan-count (p .plan .ensures) (search)
+slice-aggregate-chain c = let p : tie.After-plan = search in plan-count four-few (p .plan .ensures) (search)
 
 returns-3 : tie.Need-returns-3
 returns-3 c =
     let r : tie.After-chain = search in
     let p : tie.After-plan = search in
-    request-of-chain (p .plan .ensures) (search) (r .chain .ensures)
+    request-of-chain four-few (p .plan .ensures) (search) (r .chain .ensures)
 
 pub request-spec : {M : Type 1} → statement M
 request-spec =
