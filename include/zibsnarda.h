@@ -10,7 +10,8 @@
  * No call allocates, keeps a pointer, or reads or writes anything besides what it is lent.
  *
  * Sides and lengths are 1 to 4,096; a block has at most 1,048,576 words, from the first word of the buffer on.
- * A buffer may be longer than the block and scratch longer than needed: what lies past them stays unchanged.
+ * A buffer may not be longer than the block: turns, chains and requests take one of exactly the block's size. Where a call says
+ * otherwise (cameras, sheets), the words past the block stay unchanged, and so does scratch past what is needed.
  */
 #ifndef ZIBSNARDA_H
 #define ZIBSNARDA_H
@@ -35,6 +36,7 @@ enum {
     ZIB_LONG_SHEET = 9,     /* a sheet has more than 16,384 bytes */
     ZIB_BAD_LINE = 10,      /* a sheet line is malformed, missing or left over; place is its line number, from 1 */
     ZIB_LARGE_SHEET = 11,   /* a sheet's lengths multiply to more than 1,024 */
+    ZIB_LONG_BUFFER = 13,   /* the buffer has more words than the block */
     ZIB_BAD_COLUMN = 16,    /* a column number is above the last camera (removing) or above the camera count (adding) */
     ZIB_NO_ROOM = 17,       /* the buffer lacks room for the block with one camera more */
     ZIB_SHORT_BYTES = 24,   /* the byte buffer is shorter than the result sheet */
@@ -44,7 +46,7 @@ enum {
 /*
  * Turns the block of m rows and n columns: the word at j*m+i is then the one that stood at i*n+j.
  * Scratch has at least max(m, n) words; that many first words of it are zero afterwards.
- * Answers 0, or the first of 1, 2, 3, 4 that holds.
+ * Answers 0, or the first of 1, 2, 3, 13, 4 that holds.
  */
 uint32_t zib_turn(uint32_t *buffer, size_t buffer_words, uint32_t *scratch, size_t scratch_words, size_t m, size_t n);
 
@@ -56,7 +58,7 @@ uint32_t zib_turn_back(uint32_t *buffer, size_t buffer_words, uint32_t *scratch,
 
 /*
  * Leaves the same words as zib_turn, by recursion and without scratch.
- * Answers 0, or the first of 1, 2, 3 that holds.
+ * Answers 0, or the first of 1, 2, 3, 13 that holds.
  */
 uint32_t zib_turn_halves(uint32_t *buffer, size_t buffer_words, size_t m, size_t n);
 
@@ -73,7 +75,7 @@ struct zib_home {
 struct zib_home zib_repeats(size_t m, size_t n);
 
 /*
- * A block of one row a frame and one column a camera. Removing a column (from 0): the others close up, the freed words at the
+ * A block of one row a frame and one column a camera, in a buffer that may be longer. Removing a column (from 0): the others close up, the freed words at the
  * block's end become zero. Refused with 1 also where it is the only camera. Answers 0, or the first of 1, 2, 3, 16 that holds.
  */
 uint32_t zib_remove_camera(uint32_t *buffer, size_t buffer_words, size_t frames, size_t cameras, size_t column);
@@ -115,7 +117,7 @@ struct zib_planned {
  * Runs a chain of at most 32 swaps on a block. The swaps are only read.
  * Scratch has at least as many words as the longest axis that the chain exchanges, in the shape as it then stands, an axis of
  * length 1 too; that many first words of it are zero afterwards. An empty chain needs none and leaves scratch as it is.
- * Answers 0, or the first of 1, 2, 3, 5, 6, 4 that holds.
+ * Answers 0, or the first of 1, 2, 3, 13, 5, 6, 4 that holds.
  */
 struct zib_answer zib_chain(uint32_t *buffer, size_t buffer_words, uint32_t *scratch, size_t scratch_words, struct zib_shape shape,
                             const size_t *swaps, size_t swap_count);
@@ -123,7 +125,7 @@ struct zib_answer zib_chain(uint32_t *buffer, size_t buffer_words, uint32_t *scr
 /*
  * Brings a block into the order with a number, by that order's plan. Scratch is as for zib_chain with that plan: as many
  * words as the longest axis that stands in falling order with another. No chain that names the order needs less.
- * Answers 0, or the first of 1, 2, 3, 7, 4 that holds.
+ * Answers 0, or the first of 1, 2, 3, 13, 7, 4 that holds.
  */
 struct zib_answer zib_request(uint32_t *buffer, size_t buffer_words, uint32_t *scratch, size_t scratch_words, struct zib_shape shape,
                               size_t order);
@@ -152,21 +154,22 @@ struct zib_written {
 };
 
 /*
- * Reads a sheet, which is only read, and stores its words from the start of the word buffer, if the whole sheet is right.
+ * Reads a sheet, which is only read, and stores its words from the start of the word buffer, if the whole sheet is right; the
+ * buffer may be longer, and later words stay.
  * Answers 0, or the first of 9, 10 (line 1), 1, 11, 3, 10 (line 2), 5, 6, 10 (each row, then what is left over).
  */
 struct zib_sheet zib_read_sheet(const uint8_t *text, size_t text_bytes, uint32_t *words, size_t word_count);
 
 /*
  * Writes the result sheet of a block with these lengths from the start of the byte buffer; bytes after it stay.
- * The words are only read. 16,384 bytes always suffice. Answers 0, or the first of 1, 11, 3, 7, 24 that holds.
+ * The words are only read; there may be more of them. 16,384 bytes always suffice. Answers 0, or the first of 1, 11, 3, 7, 24 that holds.
  */
 struct zib_written zib_write_sheet(struct zib_shape shape, size_t order, const uint32_t *words, size_t word_count, uint8_t *text,
                                    size_t text_bytes);
 
 /*
  * The whole job on a sheet, which is only read: its words, run through its chain, stand in `words` afterwards, and the
- * text of the result sheet from the start of `out`. A refused sheet leaves words and scratch unchanged and writes one
+ * text of the result sheet from the start of `out`; words past the block stay. A refused sheet leaves words and scratch unchanged and writes one
  * line: `refused`, number, place. `words` and `scratch` have 1,024 words each and `out` 16,384 bytes.
  * Answers how many bytes the text has; bytes after it stay.
  */

@@ -76,10 +76,10 @@ fn try_request(t: &mut Bench, lengths: Lengths, asked: u64, buffer: &[u32], scra
     });
 }
 
-// Buffer and scratch for a shape, longer than any chain needs by the tail.
-fn lent(r: &mut Random, lengths: Lengths, tail: u64) -> (Vec<u32>, Vec<u32>) {
-    let buffer = r.words(volume(&lengths) as usize + tail as usize);
-    let scratch = r.words((longest(&lengths) + tail) as usize);
+// Buffer and scratch for a shape, scratch longer than any chain needs by the spare words.
+fn lent(r: &mut Random, lengths: Lengths, spare: u64) -> (Vec<u32>, Vec<u32>) {
+    let buffer = r.words(volume(&lengths) as usize);
+    let scratch = r.words((longest(&lengths) + spare) as usize);
     (buffer, scratch)
 }
 
@@ -117,8 +117,8 @@ fn every_order(t: &mut Bench, r: &mut Random) {
         shapes.extend([[32, 32, 32, 32], [4096, 1, 1, 256], [2, 1000, 1, 500]]);
     }
     for lengths in shapes {
-        let tail = r.below(3);
-        let (buffer, scratch) = lent(r, lengths, tail);
+        let spare = r.below(3);
+        let (buffer, scratch) = lent(r, lengths, spare);
         for asked in 0..24 {
             try_request(t, lengths, asked, &buffer, &scratch);
             let chain = plan(orders()[asked as usize]);
@@ -131,8 +131,8 @@ fn every_order(t: &mut Bench, r: &mut Random) {
 fn random_chains(t: &mut Bench, r: &mut Random) {
     for _ in 0..if t.short { 100 } else { 2000 } {
         let lengths = random_shape(r, 9);
-        let tail = r.below(4);
-        let (buffer, scratch) = lent(r, lengths, tail);
+        let spare = r.below(4);
+        let (buffer, scratch) = lent(r, lengths, spare);
         let length = r.below(33);
         let chain = random_chain(r, length);
         try_chain(t, lengths, &chain, &buffer, &scratch);
@@ -150,7 +150,7 @@ fn joined(t: &mut Bench, r: &mut Random) {
         let back: Vec<u64> = one.iter().rev().copied().collect();
         let both: Vec<u64> = one.iter().chain(&two).copied().collect();
         // exactly what the joined chain needs is enough for each
-        let buffer = r.words(volume(&lengths) as usize + 2);
+        let buffer = r.words(volume(&lengths) as usize);
         let scratch = r.words(need(lengths, &both) as usize);
         let run = |t: &mut Bench, lengths: &[u64], chain: &[u64], lent: Vec<crate::driver::Buffer>| {
             let mut buffers = lent[..2].to_vec();
@@ -180,8 +180,7 @@ fn joined(t: &mut Bench, r: &mut Random) {
 fn needs(t: &mut Bench, r: &mut Random) {
     for k in 0..if t.short { 60 } else { 600 } {
         let lengths = if k % 2 == 0 { random_shape(r, 9) } else { [1 + r.below(2), 1 + r.below(9), 1 + r.below(2), 1 + r.below(9)] };
-        let tail = r.below(2) as usize;
-        let buffer = r.words(volume(&lengths) as usize + tail);
+        let buffer = r.words(volume(&lengths) as usize);
         let length = if k % 3 == 0 { r.below(33) } else { r.below(4) };
         let chain = random_chain(r, length);
         let asked = r.below(24);
@@ -234,9 +233,9 @@ fn needs(t: &mut Bench, r: &mut Random) {
     t.group("needs: document 02's example, length-1 partners, two chains of one order");
 }
 
-// Every set of the checks 1 to 6, and of 1, 2, 3, 7 and 4: each alone, each pair, and more.
+// Every set of the checks 1, 2, 3, 13, 5, 6, 4, and of 1, 2, 3, 13, 7, 4: each alone, each pair, and more.
 fn check_sets(t: &mut Bench, r: &mut Random) {
-    for set in 0..64 {
+    for set in 0..128 {
         let holds = |k: u32| set & (1 << k) != 0;
         let shapes: &[Lengths] = match (holds(0), holds(1)) {
             (false, false) => &[[2, 3, 4, 5], [1, 1, 1, 1]],
@@ -246,10 +245,11 @@ fn check_sets(t: &mut Bench, r: &mut Random) {
         };
         for &lengths in shapes {
             let block = volume(&lengths).min(1_060_000) as usize;
-            if holds(2) && block == 0 {
+            // a buffer is not short and long at once
+            if holds(2) && (block == 0 || holds(6)) {
                 continue;
             }
-            let buffer = r.words(if holds(2) { block - 1 } else { block });
+            let buffer = r.words(if holds(2) { block - 1 } else if holds(6) { block + 1 } else { block });
             let mut chain = random_chain(r, if holds(4) { 33 } else { 32 });
             // scratch by the need of the right chain, and of order 23, which exchanges every axis
             let room = |most: u64| (most.min(5000) as usize).saturating_sub(if holds(3) { 1 } else { 0 });
@@ -341,9 +341,25 @@ fn benches(t: &mut Bench, r: &mut Random) {
     t.group("the four-axis benches of document 01");
 }
 
+// Document 02, item 6: a whole pool buffer of 64 frames and 16 cameras, lent to a chain and to a request with last week's frame count.
+fn pool_buffer(t: &mut Bench, r: &mut Random) {
+    let pool = r.words(64 * 16);
+    let scratch = r.words(70);
+    for &(frames, number) in &[(60, 13), (63, 13), (64, 0), (65, 3), (1, 13)] {
+        let lengths = [1, 1, frames, 16];
+        t.verdict(chain_case(lengths, &[2], &pool, &scratch).1.numbers[0] == number, || {
+            format!("the reference answers {} frames of the pool otherwise", frames)
+        });
+        try_chain(t, lengths, &[2], &pool, &scratch);
+        try_request(t, lengths, 1, &pool, &scratch);
+    }
+    t.group("a pool buffer with another frame count, by chain and by request");
+}
+
 pub fn all(t: &mut Bench, seed: u64) {
     let mut r = Random::new(seed);
     benches(t, &mut r);
+    pool_buffer(t, &mut r);
     plans(t);
     every_order(t, &mut r);
     random_chains(t, &mut r);

@@ -47,14 +47,14 @@ fn try_call(t: &mut Bench, call: u64, m: u64, n: u64, buffer: &[u32], scratch: &
     });
 }
 
-// Every shape up to a side, with exact buffers and with longer ones.
+// Every shape up to a side, with exact scratch and with longer.
 fn small_shapes(t: &mut Bench, r: &mut Random) {
     let side = if t.short { 12 } else { 40 };
     for m in 1..=side {
         for n in 1..=side {
-            for &tail in &[0, 1 + r.below(9)] {
-                let buffer = r.words((m * n + tail) as usize);
-                let scratch = r.words((m.max(n) + tail) as usize);
+            for &spare in &[0, 1 + r.below(9)] {
+                let buffer = r.words((m * n) as usize);
+                let scratch = r.words((m.max(n) + spare) as usize);
                 for &call in &CALLS {
                     try_call(t, call, m, n, &buffer, &scratch);
                 }
@@ -72,7 +72,7 @@ fn large_shapes(t: &mut Bench, r: &mut Random) {
     ];
     let shapes = if t.short { &all[..9] } else { &all[..] };
     for &(m, n) in shapes {
-        let buffer = r.words((m * n + 3) as usize);
+        let buffer = r.words((m * n) as usize);
         let scratch = r.words((m.max(n) + 3) as usize);
         for &call in &CALLS {
             try_call(t, call, m, n, &buffer, &scratch);
@@ -81,14 +81,14 @@ fn large_shapes(t: &mut Bench, r: &mut Random) {
     t.group("larger flat shapes, three calls");
 }
 
-// Random shapes, each with its own tails.
+// Random shapes, each with its own spare scratch.
 fn random_shapes(t: &mut Bench, r: &mut Random) {
     for _ in 0..if t.short { 20 } else { 300 } {
         let m = r.within(1, 400);
         let n = r.within(1, 400);
-        let tails = (r.below(20), r.below(20));
-        let buffer = r.words((m * n + tails.0) as usize);
-        let scratch = r.words((m.max(n) + tails.1) as usize);
+        let spare = r.below(20);
+        let buffer = r.words((m * n) as usize);
+        let scratch = r.words((m.max(n) + spare) as usize);
         try_call(t, r.pick(&CALLS), m, n, &buffer, &scratch);
     }
     t.group("random flat shapes up to 400 by 400");
@@ -98,7 +98,7 @@ fn random_shapes(t: &mut Bench, r: &mut Random) {
 fn round_trips(t: &mut Bench, r: &mut Random) {
     for _ in 0..if t.short { 20 } else { 200 } {
         let (m, n) = (r.within(1, 60), r.within(1, 60));
-        let buffer = r.words((m * n + 2) as usize);
+        let buffer = r.words((m * n) as usize);
         let scratch = vec![0; m.max(n) as usize];
         let there = Request { call: TURN, numbers: vec![m, n], buffers: vec![words(&buffer), words(&scratch)] };
         let back = |turned| Request { call: TURN_BACK, numbers: vec![m, n], buffers: turned };
@@ -147,7 +147,7 @@ fn bounds(t: &mut Bench, r: &mut Random) {
 
 // Every set of checks that can hold together: each alone, each pair, and more.
 fn check_sets(t: &mut Bench, r: &mut Random) {
-    for set in 0..16 {
+    for set in 0..32 {
         let holds = |k: u32| set & (1 << k) != 0;
         // 4,097 or 0 is a bad side; beside it 4,096 makes the product too large
         let shapes: &[(u64, u64)] = match (holds(0), holds(1)) {
@@ -159,10 +159,11 @@ fn check_sets(t: &mut Bench, r: &mut Random) {
         for &(m, n) in shapes {
             let block = (m as u128 * n as u128).min(1_200_000) as usize;
             let longest = m.max(n).min(5000) as usize;
-            if (holds(2) && block == 0) || (holds(3) && longest == 0) {
+            // a buffer is not short and long at once
+            if (holds(2) && (block == 0 || holds(4))) || (holds(3) && longest == 0) {
                 continue;
             }
-            let buffer = r.words(if holds(2) { block - 1 } else { block });
+            let buffer = r.words(if holds(2) { block - 1 } else if holds(4) { block + 1 } else { block });
             let scratch = r.words(if holds(3) { longest - 1 } else { longest });
             for &call in &CALLS {
                 try_call(t, call, m, n, &buffer, &scratch);
@@ -174,13 +175,12 @@ fn check_sets(t: &mut Bench, r: &mut Random) {
 
 // The flat benches of document 01, with the words written out.
 fn benches(t: &mut Bench) {
-    let rows: [(u64, u64, u64, &[u32], &[u32]); 10] = [
+    let rows: [(u64, u64, u64, &[u32], &[u32]); 9] = [
         (TURN, 1, 1, &[7], &[7]),
         (TURN, 1, 4, &[0, 1, 2, 3], &[0, 1, 2, 3]),
         (TURN, 4, 1, &[0, 1, 2, 3], &[0, 1, 2, 3]),
         (TURN, 2, 2, &[0, 1, 2, 3], &[0, 2, 1, 3]),
         (TURN, 2, 3, &[0, 1, 2, 3, 4, 5], &[0, 3, 1, 4, 2, 5]),
-        (TURN, 2, 3, &[0, 1, 2, 3, 4, 5, 6], &[0, 3, 1, 4, 2, 5, 6]),
         (TURN_BACK, 2, 3, &[0, 1, 2, 3, 4, 5], &[0, 2, 4, 1, 3, 5]),
         (TURN, 2, 4, &[0, 1, 2, 3, 4, 5, 6, 7], &[0, 4, 1, 5, 2, 6, 3, 7]),
         (TURN_HALVES, 2, 3, &[0, 1, 2, 3, 4, 5], &[0, 3, 1, 4, 2, 5]),
@@ -210,7 +210,7 @@ fn benches(t: &mut Bench) {
         (2, 3, 5, 3, 3),
         (2, 3, 6, 2, 4),
         (2, 3, 5, 2, 3),
-        (2, 3, 7, 3, 0),
+        (2, 3, 7, 3, 13),
     ];
     for &(m, n, b, s, number) in &numbers {
         let (q, e) = case(TURN, m, n, &vec![5; b], &vec![6; s]);
@@ -220,9 +220,25 @@ fn benches(t: &mut Bench) {
     t.group("the flat benches of document 01");
 }
 
+// Document 02, item 6: a whole pool buffer of 64 frames and 16 cameras, lent with last week's frame count. It went through; now it gives 13
+// and not a word has moved. A frame count of 64 is the pool's own, one of 65 finds the buffer short.
+fn pool_buffer(t: &mut Bench, r: &mut Random) {
+    let pool = r.words(64 * 16);
+    let scratch = r.words(70);
+    for &(frames, number) in &[(60, 13), (63, 13), (64, 0), (65, 3), (1, 13)] {
+        for &call in &CALLS {
+            let (q, e) = case(call, frames, 16, &pool, &scratch);
+            t.verdict(e.numbers == [number], || format!("the reference answers {} frames of the pool otherwise", frames));
+            t.expect_both(&q, &e, || format!("pool buffer: {} {} by 16", name(call), frames));
+        }
+    }
+    t.group("a pool buffer with another frame count");
+}
+
 pub fn all(t: &mut Bench, seed: u64) {
     let mut r = Random::new(seed);
     benches(t);
+    pool_buffer(t, &mut r);
     small_shapes(t, &mut r);
     large_shapes(t, &mut r);
     random_shapes(t, &mut r);

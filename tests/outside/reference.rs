@@ -27,6 +27,7 @@ pub fn block_checks(lengths: &[u64], buffer: usize) -> Vec<(u64, bool)> {
         (1, bad_length(lengths)),
         (2, volume(lengths) > MOST_WORDS),
         (3, (buffer as u128) < volume(lengths)),
+        (13, (buffer as u128) > volume(lengths)),
     ]
 }
 

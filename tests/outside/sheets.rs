@@ -317,7 +317,10 @@ fn by_calls(t: &mut Bench, text: &[u8]) -> Result<Vec<u8>, String> {
     let sheet = t.driver.ask(0, &Request { call: READ_SHEET, numbers: vec![], buffers })?;
     let (lengths, swaps) = (&sheet.numbers[2..6], &sheet.numbers[6..6 + sheet.numbers[38] as usize]);
     let scratch = words(&vec![0; longest(lengths) as usize]);
-    let buffers = vec![sheet.buffers[1].clone(), scratch, sizes(swaps).read_only()];
+    // the chain is lent the block's part of the words
+    let mut block = sheet.buffers[1].clone();
+    block.bytes.truncate(4 * volume(lengths) as usize);
+    let buffers = vec![block, scratch, sizes(swaps).read_only()];
     let moved = t.driver.ask(0, &Request { call: CHAIN, numbers: lengths.to_vec(), buffers })?;
     let buffers = vec![moved.buffers[0].clone().read_only(), bytes(&[0; MOST_BYTES])];
     let written = t.driver.ask(0, &Request { call: WRITE_SHEET, numbers: moved.numbers[2..7].to_vec(), buffers })?;

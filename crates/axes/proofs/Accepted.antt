@@ -1,7 +1,7 @@
 -- The checks of a block and of a chain, as facts: accepted means that none of the conditions holds. A block that was accepted is accepted
 -- after any chain of swaps: a swap changes neither the lengths, but for their places, nor how many words are lent. Which scratch is enough
 -- for the next chain, for the joined chain and for the chain run backwards is said by their own needs.
-use mathlib.Core.Path.{_≡_, refl, sym, ap, ap₂, _∙_}
+use mathlib.Core.Path.{_≡_, refl, sym, ap, _∙_}
 use mathlib.Core.Bool.{Bool, true, false, cond, _||_}
 use mathlib.Core.List.{List, [], _∷_, _++_, reverse, reverse-cons}
 use Prim.Native.Nat.{ℕ, zero, suc, _-_, _<_, _≤_}
@@ -9,6 +9,7 @@ use native.Mathlib.Omega.{arith}
 use lib.Dec.{ltb}
 use lib.ListN.{length, getD, length-reverse}
 use borrow.Author.Tests.{ltb-false, le-ltb}
+use Rattle.layout.specs.Layout.{volume}
 use Rattle.orders.specs.Chains.{exchange, follow}
 use Rattle.orders.specs.Numbers.{orderCount}
 use Rattle.orders.specs.Needs.{chainNeed}
@@ -16,12 +17,13 @@ use Rattle.orders.proofs.Chains.{volume-follow}
 use Rattle.orders.proofs.Distinct.{count-pos}
 use Rattle.orders.proofs.Needs.{need-back}
 use Rattle.refusals.specs.FirstOf.{Check, check, firstOf}
-use Rattle.refusals.specs.Conditions.{some, outOfRange, badLength, tooManyWords, shortBuffer, shortScratch, longChain, noSwap, badSwap, noOrder}
+use Rattle.refusals.specs.Conditions.{some, outOfRange, badLength, tooManyWords, shortBuffer, longBuffer, shortScratch, longChain, noSwap, badSwap, noOrder}
 use Rattle.refusals.specs.Calls.{blockChecks, chainChecks, requestChecks}
 use Rattle.refusals.proofs.FirstOf.{Silent, refused-first, accepted-so-far}
 use Rattle.refusals.proofs.FirstOf.Silent.{none, more}
 use Rattle.refusals.proofs.Calls.{recursion-accepted, chain-accepted, request-accepted}
 use Rattle.refusals.proofs.Some.{either-false, none-at}
+use Rattle.refusals.proofs.Conditions.{as-long, not-short, not-long}
 
 either-swap : (a b c : Bool) → (a || (b || c)) ≡ (b || (a || c))
 either-swap true true c = refl
@@ -48,42 +50,46 @@ module _ (ds xs : List ℕ) (last : List Check) {n : ℕ} (e : n ≡ firstOf (bl
   pub by-last : n ≡ 0 → firstOf (blockChecks ds xs ++ last) ≡ firstOf last
   by-last z = accepted-so-far last (recursion-accepted ds xs .0 (sym e ∙ z))
 
--- none of the three conditions of a block holds
+-- none of the four conditions of a block holds
 pub record BlockAccepted (ds xs : List ℕ) : Type 0 where
   pub lengths : badLength ds ≡ false
   pub words : tooManyWords ds ≡ false
-  pub buffer : shortBuffer ds xs ≡ false
+  pub exact : length xs ≡ volume ds
 
 pub block-accepted : (ds xs : List ℕ) → firstOf (blockChecks ds xs) ≡ 0 → BlockAccepted ds xs
 block-accepted ds xs e = go (recursion-accepted ds xs .0 e)
   where
     go : Silent (blockChecks ds xs) → BlockAccepted ds xs
-    go (more a (more b (more c none))) = record { lengths = a; words = b; buffer = c }
+    go (more a (more b (more c (more d none)))) = record { lengths = a; words = b; exact = as-long ds xs c d }
 
 module _ {ds xs : List ℕ} (b : BlockAccepted ds xs) where
+  pub block-silent : {last : List Check} → Silent last → Silent (blockChecks ds xs ++ last)
+  block-silent s = more (b .lengths) (more (b .words) (more (not-short ds xs (b .exact)) (more (not-long ds xs (b .exact)) s)))
+
   pub block-zero : firstOf (blockChecks ds xs) ≡ 0
-  block-zero = recursion-accepted ds xs .1 (more (b .lengths) (more (b .words) (more (b .buffer) none)))
+  block-zero = recursion-accepted ds xs .1 (block-silent none)
 
   -- after a chain, in a buffer as long as it was
   pub block-after : (c : List ℕ) {ys : List ℕ} → length ys ≡ length xs → BlockAccepted (follow ds c) ys
   block-after c e = record {
     lengths = some-follow outOfRange ds c ∙ b .lengths;
     words = ap (ltb 1048576) (volume-follow ds c) ∙ b .words;
-    buffer = ap₂ ltb e (volume-follow ds c) ∙ b .buffer;
+    exact = e ∙ b .exact ∙ sym (volume-follow ds c);
   }
 
--- the numbers of a block's checks and of the room in scratch
-pub block-few : (ds xs : List ℕ) (short : Bool) → firstOf (blockChecks ds xs ++ (check 4 short ∷ [])) ≤ 4
-block-few ds xs short = go (badLength ds) (tooManyWords ds) (shortBuffer ds xs) short
+-- a block's checks and the room in scratch never give 6
+pub never-six : (ds xs : List ℕ) (short : Bool) → firstOf (blockChecks ds xs ++ (check 4 short ∷ [])) ≡ 6 → ⊥
+never-six ds xs short = go (badLength ds) (tooManyWords ds) (shortBuffer ds xs) (longBuffer ds xs) short
   where
-    go : (a b c d : Bool) → cond a 1 (cond b 2 (cond c 3 (cond d 4 0))) ≤ 4
-    go true b c d = omega arith
-    go false true c d = omega arith
-    go false false true d = omega arith
-    go false false false true = omega arith
-    go false false false false = omega arith
+    go : (a b c d e : Bool) → _≡_ {A = ℕ} (cond a 1 (cond b 2 (cond c 3 (cond d 13 (cond e 4 0))))) 6 → ⊥
+    go true b c d e n = omega arith
+    go false true c d e n = omega arith
+    go false false true d e n = omega arith
+    go false false false true e n = omega arith
+    go false false false false true n = omega arith
+    go false false false false false n = omega arith
 
--- none of the six conditions of a chain holds
+-- none of the seven conditions of a chain holds
 pub record ChainAccepted (r : ℕ) (ds xs ss chain : List ℕ) : Type 0 where
   pub block : BlockAccepted ds xs
   pub short : longChain chain ≡ false
@@ -94,8 +100,8 @@ pub accepts-chain : (r : ℕ) (ds xs ss chain : List ℕ) → firstOf (chainChec
 accepts-chain r ds xs ss chain e = go (chain-accepted r ds xs ss chain .0 e)
   where
     go : Silent (chainChecks r ds xs ss chain) → ChainAccepted r ds xs ss chain
-    go (more a (more b (more c (more f (more g (more d none)))))) = record {
-      block = record { lengths = a; words = b; buffer = c };
+    go (more a (more b (more c (more e (more f (more g (more d none))))))) = record {
+      block = record { lengths = a; words = b; exact = as-long ds xs c e };
       short = f;
       swaps = g;
       room = ltb-false (length ss) (chainNeed ds chain) d;
@@ -104,8 +110,7 @@ accepts-chain r ds xs ss chain e = go (chain-accepted r ds xs ss chain .0 e)
 pub chain-zero : {r : ℕ} {ds xs ss chain : List ℕ} → ChainAccepted r ds xs ss chain → firstOf (chainChecks r ds xs ss chain) ≡ 0
 chain-zero {r} {ds} {xs} {ss} {chain} p =
     let room : shortScratch (chainNeed ds chain) ss ≡ false = le-ltb (length ss) (chainNeed ds chain) (p .room) in
-    chain-accepted r ds xs ss chain .1
-    (more (p .block .lengths) (more (p .block .words) (more (p .block .buffer) (more (p .short) (more (p .swaps) (more room none))))))
+    chain-accepted r ds xs ss chain .1 (block-silent (p .block) (more (p .short) (more (p .swaps) (more room none))))
 
 -- no swap of an accepted chain is above the last
 pub good-swap : (r : ℕ) (c : List ℕ) → badSwap r c ≡ false → (k : ℕ) → k < length c → getD c k 0 ≤ r - 2
@@ -154,4 +159,4 @@ pub request-order : (r : ℕ) (ds xs ss : List ℕ) (order : ℕ) → firstOf (r
 request-order r ds xs ss order e = go (request-accepted r ds xs ss order .0 e)
   where
     go : Silent (requestChecks r ds xs ss order) → order < orderCount r
-    go (more a (more b (more c (more f g)))) = is-order r order f
+    go (more a (more b (more c (more d (more f g))))) = is-order r order f

@@ -26,7 +26,7 @@ use Rattle.axes.specs.declared.Answer.{Answer}
 use Rattle.axes.specs.declared.Planned.{Planned}
 use Rattle.axes.specs.Answers.{accepted, refused, refusedPlace}
 use Rattle.axes.specs.Promises.{ChainPromise, RequestPromise, PlanPromise}
-use Rattle.axes.proofs.Accepted.{block-few, is-order}
+use Rattle.axes.proofs.Accepted.{never-six, is-order}
 
 -- a call that is refused and leaves the lent words as they were
 module _ (r : ℕ) {a : Answer} {number place : ℕ} (e : a ≡ refused r number place) (n : number ≡ 0 → ⊥) where
@@ -115,7 +115,7 @@ module _ {r order : ℕ} {q : Planned} (few : planPlaces r ≤ 32) (p : PlanProm
       let first = c .block .number-is ∙ plan-checks ds xs ss in
       let names : named r (planOf o) ≡ o = plan-of-number r order low .names in
       let nowhere : refusedPlace r (a .number) (planOf o) ≡ 0 =
-      rw (ne-eqb (a .number) 6 (λ e. omega (arith, first, block-few ds xs (shortScratch (planNeed r ds order) ss)))) in
+      rw (ne-eqb (a .number) 6 (λ e. never-six ds xs (shortScratch (planNeed r ds order) ss) (sym first ∙ e))) in
       record {
         block = record {
           number-is = first ∙ sym (request-checks ds xs ss);

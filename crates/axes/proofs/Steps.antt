@@ -21,11 +21,11 @@ use Rattle.orders.specs.Needs.{exchanged}
 use Rattle.orders.proofs.Chains.{pick-named}
 use Rattle.flat.specs.Turn.{sides}
 use Rattle.refusals.specs.FirstOf.{firstOf}
-use Rattle.refusals.specs.Conditions.{outOfRange, badLength, tooManyWords, shortBuffer, shortScratch}
+use Rattle.refusals.specs.Conditions.{outOfRange, badLength, tooManyWords, shortScratch}
 use Rattle.refusals.specs.Scratch.{need, cleared}
 use Rattle.refusals.proofs.FirstOf.{Silent, silent-zero}
 use Rattle.refusals.proofs.Some.{none-at}
-use Rattle.refusals.proofs.Conditions.{length-at}
+use Rattle.refusals.proofs.Conditions.{length-at, not-short, not-long}
 use Rattle.refusals.proofs.Scratch.{need-swap}
 use Rattle.refusals.proofs.FirstOf.Silent.{none, more}
 use Rattle.checks.specs.Words.{capped}
@@ -129,9 +129,11 @@ module _ {r : ℕ} (ds : List ℕ) (axes : length ds ≡ r) (k : ℕ) (h : k + 1
         ne-eqb chunk 0 (λ e. omega (arith, chunk-pos)),
       ) in
       let words : tooManyWords (swapBlock outer m n chunk) ≡ false = ap (ltb 1048576) swap-volume ∙ s .words in
-      let buffer : shortBuffer (swapBlock outer m n chunk) xs ≡ false = ap (ltb (length xs)) swap-volume ∙ s .buffer in
+      let block = swapBlock outer m n chunk in
+      let exact : length xs ≡ volume block = s .exact ∙ sym swap-volume in
       let scratch : shortScratch (need (sides m n)) ss ≡ false = le-ltb (length ss) (need (sides m n)) (omega (arith, swap-need)) in
-      let silent : Silent (swapChecks outer m n chunk xs ss) = more lengths (more words (more buffer (more scratch none))) in
+      let silent : Silent (swapChecks outer m n chunk xs ss) =
+      more lengths (more words (more (not-short block xs exact) (more (not-long block xs exact) (more scratch none)))) in
       silent-zero silent
 
   -- and makes of it the swap of the whole shape

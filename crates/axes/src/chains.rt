@@ -13,7 +13,7 @@ ghost use Rattle.refusals.specs.Scratch.{cleared};
 ghost use Rattle.axes.specs.Promises.{ChainPromise};
 ghost use Rattle.axes.specs.OneSwap.{SwapAccepted};
 
-// The first of the checks 1, 2, 3, 5, 6, 4.
+// The first of the checks 1, 2, 3, 13, 5, 6, 4.
 pub(crate) fn chain_number(lens: &[usize], buf: &[u32], scratch: &[u32], swaps: &[usize]) -> u32
     ensures { λ r. ⌜ r ≡ firstOf (chainChecks 4 (now (lens .entry)) (now (buf .entry)) (now (scratch .entry)) (now (swaps .entry))) ⌝ }
 {

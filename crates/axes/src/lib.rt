@@ -80,7 +80,7 @@ fn refusal(number: u32, place: usize) -> Answer
     }
 }
 
-// A chain of swaps on a block, through scratch as long as the longest axis that it exchanges: 0, or 1, 2, 3, 5, 6, 4.
+// A chain of swaps on a block, through scratch as long as the longest axis that it exchanges: 0, or 1, 2, 3, 13, 5, 6, 4.
 pub fn chain(buf: &mut [u32], scratch: &mut [u32], shape: Shape, swaps: &[usize]) -> Answer
     ensures { λ r. ⌜ ChainPromise 4 (shape .lens) (now (swaps .entry)) (now (buf .entry)) (now (scratch .entry)) r (now (buf .exit)) (now (scratch .exit)) ⌝ }
 {
@@ -96,7 +96,7 @@ pub fn chain(buf: &mut [u32], scratch: &mut [u32], shape: Shape, swaps: &[usize]
     chains::run(buf, scratch, shape, swaps)
 }
 
-// The direct request for an order by its number, which runs its plan and needs what its plan needs: 0, or 1, 2, 3, 7, 4.
+// The direct request for an order by its number, which runs its plan and needs what its plan needs: 0, or 1, 2, 3, 13, 7, 4.
 pub fn request(buf: &mut [u32], scratch: &mut [u32], shape: Shape, order: usize) -> Answer
     ensures { λ r. ⌜ RequestPromise 4 (shape .lens) order (now (buf .entry)) (now (scratch .entry)) r (now (buf .exit)) (now (scratch .exit)) ⌝ }
 {

@@ -133,7 +133,7 @@ pub fn size_number(lens: &[usize]) -> u32
     0
 }
 
-// The first of the checks 1, 2 and 3 of a block in a buffer that holds, else 0.
+// The first of the checks 1, 2, 3 and 13 of a block in a buffer of its size that holds, else 0.
 pub fn block_number(lens: &[usize], buf: &[u32]) -> u32
     ensures { λ r. ⌜ r ≡ firstOf (blockChecks (now (lens .entry)) (now (buf .entry))) ⌝ }
 {
@@ -145,10 +145,13 @@ pub fn block_number(lens: &[usize], buf: &[u32]) -> u32
     if buf.len() < words {
         return 3;
     }
+    if words < buf.len() {
+        return 13;
+    }
     0
 }
 
-// The first of the checks 1 to 4 of a flat block in a buffer, turned through scratch, that holds, else 0.
+// The first of the checks 1, 2, 3, 13 and 4 of a flat block, turned through scratch, that holds, else 0.
 pub fn passes_number(lens: &[usize], buf: &[u32], scratch: &[u32]) -> u32
     ensures { λ r. ⌜ r ≡ firstOf (passesChecks (now (lens .entry)) (now (buf .entry)) (now (scratch .entry))) ⌝ }
 {

@@ -7,7 +7,7 @@ use recursion::tall;
 use recursion::wide;
 ghost use Rattle.halves.specs.Promise.{TurnPromise};
 
-// Turns the block of m rows and n columns that stands at the start of the buffer, with no scratch.
+// Turns the block of m rows and n columns that fills the buffer, with no scratch: 0, or 1, 2, 3, 13.
 pub fn turn(buf: &mut [u32], m: usize, n: usize) -> u32
     ensures { λ r. ⌜ TurnPromise m n (now (buf .entry)) r (now (buf .exit)) ⌝ }
 {
@@ -16,11 +16,10 @@ pub fn turn(buf: &mut [u32], m: usize, n: usize) -> u32
     if number != 0 {
         return number;
     }
-    let words = m * n;
     if n <= m {
-        tall(&mut buf[..words], m, n);
+        tall(buf, m, n);
     } else {
-        wide(&mut buf[..words], m, n);
+        wide(buf, m, n);
     }
     0
 }

@@ -1,12 +1,14 @@
 -- The promise of the whole job. A refused sheet: its line always fits. A right sheet: neither the chain nor the writer can refuse it, since
 -- the block has at most 1,024 words, no chain needs more than its longest axis, no axis is longer than that, and 16,384 bytes suffice for
--- its result sheet; the words are the computed layout, since two layouts of one order are equal.
-use mathlib.Core.Path.{_≡_, ap, _∙_}
+-- its result sheet; the chain is lent the block's part of the buffer, and what it makes of it is the computed layout, since two layouts
+-- of one order are equal.
+use mathlib.Core.Path.{_≡_, refl, sym, ap, _∙_}
 use mathlib.Core.Bool.{false}
 use mathlib.Core.List.{List, [], _∷_, _++_}
 use Prim.Native.Nat.{ℕ, _≤_}
 use native.Mathlib.Omega.{arith}
-use lib.ListN.{length, drop, length-append, length-drop}
+use lib.ListN.{length, take, drop, length-append, length-drop, take-append-drop}
+use lib.Seq.{take-at, drop-at}
 use borrow.Author.Tests.{le-ltb}
 use Rattle.layout.specs.Layout.{volume, pick, Laid, laid}
 use Rattle.layout.proofs.Picks.{length-pick}
@@ -31,6 +33,7 @@ use Rattle.sheet.proofs.Writes.{number-0}
 use Rattle.sheet.proofs.RefusalLine.{length-refusal, line-fits}
 use Rattle.sheet.proofs.InFull.{in-full}
 use Rattle.job.specs.Job.{jobWords, jobText, Done}
+use Rattle.job.specs.RunOn.{RunOn}
 use Rattle.job.proofs.Readings.{swapsOf, Turned-away, Taken}
 use Rattle.job.proofs.Sizes.{longest-le-volume}
 
@@ -53,10 +56,31 @@ met-refused {out = out} {r = r} long t p =
       text-is = rw (t .means, full .0) (full .1);
     }
 
+-- the buffer of a right sheet: the block's part holds the sheet's words, and what is past it is as it was
+module _ {bytes words : List ℕ} {r : Sheet} {words₁ ws : List ℕ} (t : Taken words bytes r words₁ ws) where
+  pub block-words : take (volume (r .lens)) words₁ ≡ ws
+  block-words = ap (take (volume (r .lens))) (t .stored) ∙ take-at ws (drop (length ws) words) (volume (r .lens)) (t .right .block)
+
+  past-block : drop (volume (r .lens)) words₁ ≡ drop (volume (r .lens)) words
+  past-block =
+      ap (drop (volume (r .lens))) (t .stored)
+      ∙ drop-at ws (drop (length ws) words) (volume (r .lens)) (t .right .block)
+      ∙ ap (λ (k : ℕ). drop k words) (t .right .block)
+
+  same-words : length words₁ ≡ length words
+  same-words =
+      ap length (t .stored)
+      ∙ length-append ws (drop (length ws) words)
+      ∙ omega (arith, length-drop (length ws) words, t .right .block, t .right .room)
+
+  -- it is enough for the chain to be run
+  pub run-asks : (volume (r .lens) ≤ 1048576) × (volume (r .lens) ≤ length words₁)
+  run-asks = (omega (arith, t .right .few-words), omega (arith, same-words, t .right .room))
+
 -- a right sheet, its chain run and its result sheet written
 module _ {bytes words scratch out : List ℕ} {r : Sheet} {words₁ ws : List ℕ} {a : Answer} {words₂ scratch₂ : List ℕ} {w : Written} {out′ : List ℕ}
     (block : length words ≡ 1024) (room : length scratch ≡ 1024) (long : length out ≡ 16384)
-    (t : Taken words bytes r words₁ ws) (p : ChainPromise 4 (r .lens) (swapsOf r) words₁ scratch a words₂ scratch₂)
+    (t : Taken words bytes r words₁ ws) (p : RunOn (r .lens) (swapsOf r) words₁ scratch a words₂ scratch₂)
     (q : WrittenAs (a .lens) (a .order) words₂ out w out′) where
   abbrev ds : List ℕ
   ds = r .lens
@@ -64,18 +88,20 @@ module _ {bytes words scratch out : List ℕ} {r : Sheet} {words₁ ws : List �
   abbrev order : List ℕ
   order = named 4 (swapsOf r)
 
-  same : length words₁ ≡ length words
-  same =
-      ap length (t .stored)
-      ∙ length-append ws (drop (length ws) words)
-      ∙ omega (arith, length-drop (length ws) words, t .right .block, t .right .room)
+  -- what the chain is lent, and what it makes of it
+  front : List ℕ
+  front = take (volume ds) words₂
 
-  runs : ChainAccepted 4 ds words₁ scratch (swapsOf r)
+  chain-on : ChainPromise 4 ds (swapsOf r) ws scratch a front scratch₂
+  unfolding front
+  chain-on = rw (block-words t) at (p .ran)
+
+  runs : ChainAccepted 4 ds ws scratch (swapsOf r)
   runs = record {
     block = record {
       lengths = t .right .lengths;
       words = le-ltb 1048576 (volume ds) (omega (arith, t .right .few-words));
-      buffer = le-ltb (length words₁) (volume ds) (omega (arith, same, t .right .few-words));
+      exact = t .right .block;
     };
     short = le-ltb 32 (length (swapsOf r)) (t .right .few-swaps);
     swaps = t .right .swaps;
@@ -84,23 +110,33 @@ module _ {bytes words scratch out : List ℕ} {r : Sheet} {words₁ ws : List �
 
   -- the chain is never refused
   pub chain-runs : a .number ≡ 0
-  chain-runs = p .block .number-is ∙ chain-zero runs
+  chain-runs = chain-on .block .number-is ∙ chain-zero runs
 
-  laid-out : Laid ds order words₁ words₂
-  laid-out = p .block .words chain-runs
+  laid-out : Laid ds order ws front
+  laid-out = chain-on .block .words chain-runs
 
-  words-laid : words₂ ≡ laid ds order words₁
-  words-laid = chain-once ds (t .right .axes) (swapsOf r) laid-out (chain-laid ds (t .right .axes) (swapsOf r) words₁ (omega (arith, same, t .right .few-words)))
+  words-laid : front ≡ laid ds order ws
+  words-laid = chain-once ds (t .right .axes) (swapsOf r) laid-out (chain-laid ds (t .right .axes) (swapsOf r) ws (omega (arith, t .right .block)))
+
+  in-two : words₂ ≡ front ++ drop (volume ds) words
+  unfolding front
+  in-two = sym (take-append-drop (volume ds) words₂) ∙ ap (λ (rest : List ℕ). front ++ rest) (p .rest ∙ past-block t)
+
+  as-many : length words₂ ≡ 1024
+  as-many =
+      ap length in-two
+      ∙ length-append front (drop (volume ds) words)
+      ∙ omega (arith, laid-out .same, t .right .block, length-drop (volume ds) words, t .right .few-words)
 
   new-lengths : a .lens ≡ pick order ds
-  new-lengths = ap (λ (s : Answer). s .lens) (p .given chain-runs)
+  new-lengths = ap (λ (s : Answer). s .lens) (chain-on .given chain-runs)
 
   new-order : a .order ≡ numberOf 4 order
-  new-order = ap (λ (s : Answer). s .order) (p .given chain-runs)
+  new-order = ap (λ (s : Answer). s .order) (chain-on .given chain-runs)
 
   good-lengths : badLength (pick order ds) ≡ false
   good-lengths =
-      ap badLength (pick-named ds (swapsOf r) (t .right .axes)) ∙ block-after (runs .block) (swapsOf r) {ys = words₂} (laid-out .same) .lengths
+      ap badLength (pick-named ds (swapsOf r) (t .right .axes)) ∙ block-after (runs .block) (swapsOf r) {ys = ws} refl .lengths
 
   few : volume (pick order ds) ≤ 1024
   few = omega (arith, chain-volume ds (t .right .axes) (swapsOf r), t .right .few-words)
@@ -114,7 +150,7 @@ module _ {bytes words scratch out : List ℕ} {r : Sheet} {words₁ ws : List �
   -- the writer never refuses
   writes : writerNumber (pick order ds) (numberOf 4 order) words₂ out ≡ 0
   writes =
-      number-0 {words = words₂} (record { lengths = good-lengths; few = few; enough = omega (arith, few, same, laid-out .same) }) (numberOf 4 order) out
+      number-0 {words = words₂} (record { lengths = good-lengths; few = few; enough = omega (arith, few, as-many) }) (numberOf 4 order) out
       (omega (arith, number-below 4 (swapsOf r))) (omega (arith, text-fits))
 
   promised : WrittenAs (pick order ds) (numberOf 4 order) words₂ out w out′
@@ -124,7 +160,7 @@ module _ {bytes words scratch out : List ℕ} {r : Sheet} {words₁ ws : List �
   full = in-full text out writes (promised .answers) (promised .bytes)
 
   words-of : words₂ ≡ jobWords (Outcome.accepted ds (swapsOf r) ws) words
-  words-of = words-laid ∙ ap (laid ds order) (t .stored)
+  words-of = in-two ∙ ap (λ (f : List ℕ). f ++ drop (volume ds) words) words-laid
 
   text-of : text ≡ jobText (Outcome.accepted ds (swapsOf r) ws) words
   text-of = ap (resultText (pick order ds) (numberOf 4 order)) words-of
@@ -132,7 +168,7 @@ module _ {bytes words scratch out : List ℕ} {r : Sheet} {words₁ ws : List �
   pub met-accepted : Done bytes words scratch out (w .count) words₂ scratch₂ out′
   met-accepted = record {
     words-are = rw (t .means) words-of;
-    scratch-is = rw (t .means) (p .block .zeroed chain-runs);
+    scratch-is = rw (t .means) (chain-on .block .zeroed chain-runs);
     count-is = rw (t .means) (full .0 ∙ ap length text-of);
     fits = omega (arith, full, text-fits);
     text-is = rw (t .means, ← text-of, full .0) (full .1);

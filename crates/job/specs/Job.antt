@@ -3,20 +3,19 @@ use mathlib.Core.Path.{_≡_}
 use mathlib.Core.List.{List, _++_}
 use Prim.Native.Nat.{ℕ, _≤_}
 use lib.ListN.{length, drop}
-use Rattle.layout.specs.Layout.{pick, laid}
+use Rattle.layout.specs.Layout.{volume, pick, laid}
 use Rattle.orders.specs.Chains.{named}
 use Rattle.orders.specs.Numbers.{numberOf}
 use Rattle.orders.specs.Needs.{chainNeed}
 use Rattle.refusals.specs.Scratch.{cleared}
 use Rattle.text.specs.Sheet.{resultText, refusalText}
 use Rattle.text.specs.Meaning.{Outcome, meaning}
-use Rattle.sheet.specs.Reader.{kept}
 
--- the words after the job: of a right sheet its words laid out afresh under the order that its chain names, later words as they were;
--- a refusal leaves all as it was
+-- the words after the job: of a right sheet its words laid out afresh under the order that its chain names, then the words past the
+-- block as they were; a refusal leaves all as it was
 abbrev pub jobWords : Outcome → List ℕ → List ℕ
 jobWords (Outcome.refused number place) words = words
-jobWords (Outcome.accepted ds chain ws) words = laid ds (named 4 chain) (kept (Outcome.accepted ds chain ws) words)
+jobWords (Outcome.accepted ds chain ws) words = laid ds (named 4 chain) ws ++ drop (volume ds) words
 
 -- scratch after the job: of a right sheet as many first words as its chain needs are zero; a refusal leaves all as it was
 abbrev pub jobScratch : Outcome → List ℕ → List ℕ

@@ -1,5 +1,18 @@
 // The whole job of `turn`: a sheet read, its chain run, its result sheet or its refusal written.
+ghost use Prim.Native.Nat.{_≤_};
+ghost use lib.ListN.{length};
+ghost use Rattle.layout.specs.Layout.{volume};
 ghost use Rattle.job.specs.Job.{Done};
+ghost use Rattle.job.specs.RunOn.{RunOn};
+
+// Runs a chain on the block at the start of the words: the chain is lent the block's part only.
+fn run(words: &mut [u32], scratch: &mut [u32], lens: [usize; 4], swaps: &[usize]) -> axes::Answer
+    requires { ⌜ (volume lens ≤ 1048576) × (volume lens ≤ length (now words)) ⌝ }
+    ensures { λ r. ⌜ RunOn lens (now (swaps .entry)) (now (words .entry)) (now (scratch .entry)) r (now (words .exit)) (now (scratch .exit)) ⌝ }
+{
+    let size = checks::words_of(&lens);
+    axes::chain(&mut words[..size], scratch, axes::Shape { lens }, swaps)
+}
 
 // Reads the sheet into `words`, runs its chain through `scratch` and leaves the text of the outcome at the start of `out`;
 // answers how many bytes it has.
@@ -19,7 +32,7 @@ pub fn job(
     let lens = sheet.lens;
     let swaps = sheet.swaps;
     let count = sheet.count;
-    let answer = axes::chain(words, scratch, axes::Shape { lens }, &swaps[..count]);
+    let answer = run(words, scratch, lens, &swaps[..count]);
     let turned = answer.lens;
     let written = sheet::write(turned, answer.order, words, out);
     written.count

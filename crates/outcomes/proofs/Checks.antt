@@ -94,6 +94,15 @@ pub four-before-three : firstOf (passesChecks (2 ∷ 3 ∷ []) [] []) ≡ 4 → 
 unfolding volume
 four-before-three p = other-number p tt
 
+-- a word past the block accepted; 4 before 13
+pub longer-buffer-accepted : firstOf (blockChecks (1 ∷ 2 ∷ []) (0 ∷ 1 ∷ 2 ∷ [])) ≡ 0 → ⊥
+unfolding volume
+longer-buffer-accepted p = other-number p tt
+
+pub four-before-thirteen : firstOf (passesChecks (1 ∷ 2 ∷ []) (0 ∷ 1 ∷ 2 ∷ []) []) ≡ 4 → ⊥
+unfolding volume
+four-before-thirteen p = other-number p tt
+
 -- a shape that stays as it was
 pub swapped-moves-nothing : {lengths : List ℕ} → lengths ≡ exchange 0 (1 ∷ 2 ∷ 3 ∷ 4 ∷ []) → lengths ≡ 1 ∷ 2 ∷ 3 ∷ 4 ∷ [] → ⊥
 unfolding exchange

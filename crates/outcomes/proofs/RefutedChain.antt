@@ -1,6 +1,5 @@
--- Wrong outcomes of a chain of swaps: each breaks the promise. The case is 1 by 1 by 2 by 3 holding 0 to 5 with a sixth word behind the
--- block, four words of scratch of which three are needed, and the chain 2; the right outcome is 0 3 1 4 2 5 6, scratch 0 0 0 9, lengths
--- 1 1 3 2, order 1 and one swap.
+-- Wrong outcomes of a chain of swaps: each breaks the promise. The case is 1 by 1 by 2 by 3 holding 0 to 5, four words of scratch of
+-- which three are needed, and the chain 2; the right outcome is 0 3 1 4 2 5, scratch 0 0 0 9, lengths 1 1 3 2, order 1 and one swap.
 use mathlib.Core.Path.{_≡_, refl, sym, ap, _∙_}
 use mathlib.Core.List.{List, [], _∷_}
 use Prim.Native.Nat.{ℕ}
@@ -16,13 +15,13 @@ use Rattle.refusals.specs.Conditions.{firstPlace}
 use Rattle.refusals.specs.Calls.{chainChecks}
 use Rattle.axes.specs.declared.Answer.{Answer}
 use Rattle.axes.specs.Promises.{ChainPromise, RequestPromise}
-use Rattle.outcomes.proofs.Wrong.{other-number, other-list, misplaced, tail-changed, refuses, Broken, broken}
+use Rattle.outcomes.proofs.Wrong.{other-number, other-list, misplaced, refuses, Broken, broken}
 
 abbrev lengths : List ℕ
 lengths = 1 ∷ 1 ∷ 2 ∷ 3 ∷ []
 
 abbrev block : List ℕ
-block = 0 ∷ 1 ∷ 2 ∷ 3 ∷ 4 ∷ 5 ∷ 6 ∷ []
+block = 0 ∷ 1 ∷ 2 ∷ 3 ∷ 4 ∷ 5 ∷ []
 
 abbrev scratch : List ℕ
 scratch = replicate 4 9
@@ -51,7 +50,7 @@ moves-nothing p = misplaced (p .block .words (accepts p)) (0 ∷ 0 ∷ 0 ∷ 1 �
 
 -- one that moves words at the first swap and afterwards only relabels: 2, 2 leaves the words as they were
 pub first-swap-moves-the-rest-relabel : {a : Answer} {s : List ℕ}
-    → ChainPromise 4 lengths (2 ∷ 2 ∷ []) block scratch a (0 ∷ 3 ∷ 1 ∷ 4 ∷ 2 ∷ 5 ∷ 6 ∷ []) s → ⊥
+    → ChainPromise 4 lengths (2 ∷ 2 ∷ []) block scratch a (0 ∷ 3 ∷ 1 ∷ 4 ∷ 2 ∷ 5 ∷ []) s → ⊥
 unfolding named follow exchange at pick volume exchanged chainNeed
 first-swap-moves-the-rest-relabel p = misplaced (p .block .words (p .block .number-is)) (0 ∷ 0 ∷ 0 ∷ 1 ∷ []) tt tt
 
@@ -84,11 +83,6 @@ lengths-of-the-inverse p e = other-list (sym e ∙ ap (λ (r : Answer). r .lens)
 pub number-of-the-inverse : {a : Answer} {b : List ℕ} → Ninth a b → a .order ≡ 18 → ⊥
 unfolding named follow exchange arrangements orders rank numberOf
 number-of-the-inverse p e = other-number (sym e ∙ ap (λ (r : Answer). r .order) (p .given (nine p))) tt
-
--- the word past the block changed
-pub tail-word-changed : {a : Answer} {s : List ℕ} → Leaves a (0 ∷ 3 ∷ 1 ∷ 4 ∷ 2 ∷ 5 ∷ 0 ∷ []) s → ⊥
-unfolding volume
-tail-word-changed p = tail-changed (p .block .words (accepts p)) 6 tt tt
 
 -- scratch left as it was, and cleared one word too far
 pub scratch-left : {a : Answer} {b : List ℕ} → Leaves a b scratch → ⊥
@@ -146,7 +140,7 @@ place-of-the-last-bad-swap {a} p e =
     let z : a .place ≡ 0 = ap (λ (r : Answer). r .place) (p .refusal (λ y. omega (arith, six p))) ∙ rw (six p) in
     other-number (sym e ∙ z) tt
 
-pub refusal-touches-a-word : {a : Answer} → Refused a (1 ∷ 1 ∷ 2 ∷ 3 ∷ 4 ∷ 5 ∷ 6 ∷ []) → ⊥
+pub refusal-touches-a-word : {a : Answer} → Refused a (1 ∷ 1 ∷ 2 ∷ 3 ∷ 4 ∷ 5 ∷ []) → ⊥
 refusal-touches-a-word p = other-list (p .block .kept (λ y. omega (arith, six p)) .0) tt
 
 pub refusal-answers-lengths : {a : Answer} {b : List ℕ} → Refused a b → a .lens ≡ lengths → ⊥
@@ -195,9 +189,9 @@ pub length-1-not-counted : Broken (chainChecks 4 (1 ∷ 1 ∷ 1 ∷ 1 ∷ []) (7
 unfolding volume exchanged chainNeed
 length-1-not-counted = broken (chainChecks 4 (1 ∷ 1 ∷ 1 ∷ 1 ∷ []) (7 ∷ []) [] (0 ∷ [])) 0 tt
 
-pub longest-axis-asked-for : Broken (chainChecks 4 (7 ∷ 1 ∷ 1 ∷ 1 ∷ []) block (9 ∷ []) (2 ∷ [])) 4
+pub longest-axis-asked-for : Broken (chainChecks 4 (6 ∷ 1 ∷ 1 ∷ 1 ∷ []) block (9 ∷ []) (2 ∷ [])) 4
 unfolding volume exchanged chainNeed
-longest-axis-asked-for = broken (chainChecks 4 (7 ∷ 1 ∷ 1 ∷ 1 ∷ []) block (9 ∷ []) (2 ∷ [])) 4 tt
+longest-axis-asked-for = broken (chainChecks 4 (6 ∷ 1 ∷ 1 ∷ 1 ∷ []) block (9 ∷ []) (2 ∷ [])) 4 tt
 
 pub empty-chain-asks-for-scratch : Broken (chainChecks 4 lengths block [] []) 4
 unfolding volume chainNeed
@@ -210,3 +204,20 @@ last-swap-alone = broken (chainChecks 4 lengths block (9 ∷ []) (2 ∷ 0 ∷ []
 pub first-swap-alone : Broken (chainChecks 4 lengths block (9 ∷ []) (0 ∷ 2 ∷ [])) 0
 unfolding volume exchange exchanged chainNeed
 first-swap-alone = broken (chainChecks 4 lengths block (9 ∷ []) (0 ∷ 2 ∷ [])) 0 tt
+
+-- a pool buffer with last week's frame count accepted: seven words for 1 by 1 by 2 by 3; 5 before 13; 13 before 1, where a length is 0; 13 for a
+-- buffer of exactly the block's size
+pub pool-buffer-accepted : Broken (chainChecks 4 lengths (0 ∷ block) scratch (2 ∷ [])) 0
+unfolding volume
+pool-buffer-accepted = broken (chainChecks 4 lengths (0 ∷ block) scratch (2 ∷ [])) 0 tt
+
+pub five-before-thirteen : Broken (chainChecks 4 lengths (0 ∷ block) scratch (replicate 33 0)) 5
+unfolding volume
+five-before-thirteen = broken (chainChecks 4 lengths (0 ∷ block) scratch (replicate 33 0)) 5 tt
+
+pub thirteen-before-one : (s c : List ℕ) → Broken (chainChecks 4 (0 ∷ 1 ∷ 1 ∷ 1 ∷ []) block s c) 13
+thirteen-before-one s c = broken (chainChecks 4 (0 ∷ 1 ∷ 1 ∷ 1 ∷ []) block s c) 13 tt
+
+pub exact-buffer-refused : Broken (chainChecks 4 lengths block scratch (2 ∷ [])) 13
+unfolding volume exchanged chainNeed
+exact-buffer-refused = broken (chainChecks 4 lengths block scratch (2 ∷ [])) 13 tt

@@ -63,6 +63,10 @@ stores-nothing p = other-list (stored p right-means) tt
 pub later-word-changed : {a : Sheet} → ReadAs buffer right a (1 ∷ 2 ∷ 3 ∷ 4 ∷ 5 ∷ 6 ∷ 0 ∷ []) → ⊥
 later-word-changed p = other-list (stored p right-means) tt
 
+-- a buffer longer than the block refused, as the calls on blocks do
+pub longer-buffer-refused : {a : Sheet} {b : List ℕ} → ReadAs buffer right a b → a .number ≡ 13 → ⊥
+longer-buffer-refused p e = other-number (sym e ∙ ap (λ (s : Sheet). s .number) (answered p right-means)) tt
+
 -- the chain's length invented; an unused swap place that is not 0
 pub count-invented : {a : Sheet} {b : List ℕ} → ReadAs buffer right a b → a .count ≡ 2 → ⊥
 count-invented p e = other-number (sym e ∙ ap (λ (s : Sheet). s .count) (answered p right-means)) tt

@@ -1,6 +1,6 @@
--- Wrong outcomes of a direct request: each breaks the promise. The case is order 9 (1230) of 2 by 3 by 1 by 1 holding 0 to 5, with a
--- sixth word behind the block and four words of scratch of which three are needed; the right outcome is 0 3 1 4 2 5 6, scratch 0 0 0 9,
--- lengths 3 1 1 2, order 9 and three swaps.
+-- Wrong outcomes of a direct request: each breaks the promise. The case is order 9 (1230) of 2 by 3 by 1 by 1 holding 0 to 5 and
+-- four words of scratch of which three are needed; the right outcome is 0 3 1 4 2 5, scratch 0 0 0 9, lengths 3 1 1 2, order 9 and three
+-- swaps.
 use mathlib.Core.Path.{_≡_, refl, sym, ap, _∙_}
 use mathlib.Core.List.{List, [], _∷_}
 use Prim.Native.Nat.{ℕ}
@@ -15,13 +15,13 @@ use Rattle.refusals.specs.FirstOf.{firstOf}
 use Rattle.refusals.specs.Calls.{requestChecks}
 use Rattle.axes.specs.declared.Answer.{Answer}
 use Rattle.axes.specs.Promises.{RequestPromise}
-use Rattle.outcomes.proofs.Wrong.{other-number, other-list, misplaced, tail-changed, refuses, Broken, broken}
+use Rattle.outcomes.proofs.Wrong.{other-number, other-list, misplaced, refuses, Broken, broken}
 
 abbrev lengths : List ℕ
 lengths = 2 ∷ 3 ∷ 1 ∷ 1 ∷ []
 
 abbrev block : List ℕ
-block = 0 ∷ 1 ∷ 2 ∷ 3 ∷ 4 ∷ 5 ∷ 6 ∷ []
+block = 0 ∷ 1 ∷ 2 ∷ 3 ∷ 4 ∷ 5 ∷ []
 
 abbrev scratch : List ℕ
 scratch = replicate 4 9
@@ -60,11 +60,6 @@ pub swap-count-invented : {a : Answer} {b s : List ℕ} → Leaves a b s → a .
 unfolding arrangements orders orderOf under falling relabelled firstBack planned planOf placeOf
 swap-count-invented p e = other-number (sym e ∙ ap (λ (r : Answer). r .swaps) (p .given (accepts p))) tt
 
--- the word past the block changed
-pub tail-word-changed : {a : Answer} {s : List ℕ} → Leaves a (0 ∷ 3 ∷ 1 ∷ 4 ∷ 2 ∷ 5 ∷ 0 ∷ []) s → ⊥
-unfolding volume
-tail-word-changed p = tail-changed (p .block .words (accepts p)) 6 tt tt
-
 -- scratch left as it was, and cleared one word too far
 pub scratch-left : {a : Answer} {b : List ℕ} → Leaves a b scratch → ⊥
 unfolding exchange exchanged chainNeed arrangements orders orderOf under falling relabelled firstBack planned planOf placeOf
@@ -91,7 +86,7 @@ seven : {a : Answer} {b : List ℕ} → Refused a b → a .number ≡ 7
 unfolding volume
 seven p = p .block .number-is
 
-pub refusal-touches-a-word : {a : Answer} → Refused a (1 ∷ 1 ∷ 2 ∷ 3 ∷ 4 ∷ 5 ∷ 6 ∷ []) → ⊥
+pub refusal-touches-a-word : {a : Answer} → Refused a (1 ∷ 1 ∷ 2 ∷ 3 ∷ 4 ∷ 5 ∷ []) → ⊥
 refusal-touches-a-word p = other-list (p .block .kept (λ y. omega (arith, seven p)) .0) tt
 
 pub refusal-answers-the-order : {a : Answer} {b : List ℕ} → Refused a b → a .order ≡ 24 → ⊥
@@ -125,3 +120,19 @@ longest-axis-asked-for = broken (requestChecks 4 lengths block (9 ∷ []) 1) 4 t
 pub asks-for-no-scratch : Broken (requestChecks 4 lengths block [] 9) 0
 unfolding volume exchange exchanged chainNeed arrangements orders orderOf under falling relabelled firstBack planned planOf placeOf
 asks-for-no-scratch = broken (requestChecks 4 lengths block [] 9) 0 tt
+
+-- a longer buffer accepted; 7 before 13; 13 before 1, where a length is 0; 13 for a buffer of exactly the block's size
+pub longer-buffer-accepted : Broken (requestChecks 4 lengths (0 ∷ block) scratch 9) 0
+unfolding volume
+longer-buffer-accepted = broken (requestChecks 4 lengths (0 ∷ block) scratch 9) 0 tt
+
+pub seven-before-thirteen : Broken (requestChecks 4 lengths (0 ∷ block) scratch 24) 7
+unfolding volume
+seven-before-thirteen = broken (requestChecks 4 lengths (0 ∷ block) scratch 24) 7 tt
+
+pub thirteen-before-one : (s : List ℕ) (order : ℕ) → Broken (requestChecks 4 (0 ∷ 1 ∷ 1 ∷ 1 ∷ []) block s order) 13
+thirteen-before-one s order = broken (requestChecks 4 (0 ∷ 1 ∷ 1 ∷ 1 ∷ []) block s order) 13 tt
+
+pub exact-buffer-refused : Broken (requestChecks 4 lengths block scratch 9) 13
+unfolding volume exchange exchanged chainNeed arrangements orders orderOf under falling relabelled firstBack planned planOf placeOf
+exact-buffer-refused = broken (requestChecks 4 lengths block scratch 9) 13 tt

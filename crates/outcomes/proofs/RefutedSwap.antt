@@ -4,11 +4,12 @@ use mathlib.Core.Path.{_≡_, refl}
 use mathlib.Core.List.{List, [], _∷_}
 use Prim.Native.Nat.{ℕ}
 use native.Mathlib.Omega.{arith}
+use lib.ListN.{replicate}
 use Rattle.layout.specs.Layout.{volume, at, pick}
 use Rattle.refusals.specs.FirstOf.{firstOf}
 use Rattle.refusals.specs.Conditions.{longest}
 use Rattle.passes.specs.Promises.{swapChecks, SwapPromise, ClearPromise}
-use Rattle.outcomes.proofs.Wrong.{other-number, other-list, misplaced, tail-changed, refuses, Broken, broken}
+use Rattle.outcomes.proofs.Wrong.{other-number, other-list, misplaced, refuses, Broken, broken}
 
 abbrev block : List ℕ
 block = 0 ∷ 1 ∷ 2 ∷ 3 ∷ 4 ∷ 5 ∷ 6 ∷ 7 ∷ []
@@ -59,6 +60,15 @@ three-before-two s = broken (swapChecks 4096 257 1 1 [] s) 3 tt
 pub four-before-three : Broken (swapChecks 1 2 3 1 [] []) 4
 unfolding volume
 four-before-three = broken (swapChecks 1 2 3 1 [] []) 4 tt
+
+pub four-before-thirteen : Broken (swapChecks 1 2 3 1 block []) 4
+unfolding volume
+four-before-thirteen = broken (swapChecks 1 2 3 1 block []) 4 tt
+
+-- a word past the block accepted
+pub longer-buffer-accepted : Broken (swapChecks 1 1 7 1 block (replicate 7 9)) 0
+unfolding volume
+longer-buffer-accepted = broken (swapChecks 1 1 7 1 block (replicate 7 9)) 0 tt
 
 -- clearing: nothing cleared, one word too far, a refusal that clears what there is
 pub clears-nothing : ClearPromise 2 (9 ∷ 9 ∷ 9 ∷ []) 0 (9 ∷ 9 ∷ 9 ∷ []) → ⊥

@@ -1,5 +1,5 @@
--- Wrong outcomes of the flat turn by passes: each breaks the promise. The case is 2 by 4 holding 0 to 7 with an eighth word behind
--- the block and five words of scratch, of which four are needed; the right outcome is 0 4 1 5 2 6 3 7 8 and scratch 0 0 0 0 9.
+-- Wrong outcomes of the flat turn by passes: each breaks the promise. The case is 2 by 4 holding 0 to 7 and five words of
+-- scratch, of which four are needed; the right outcome is 0 4 1 5 2 6 3 7 and scratch 0 0 0 0 9.
 use mathlib.Core.Path.{_≡_, refl}
 use mathlib.Core.List.{List, [], _∷_}
 use Prim.Native.Nat.{ℕ}
@@ -10,10 +10,10 @@ use Rattle.refusals.specs.Conditions.{longest}
 use Rattle.refusals.specs.Calls.{passesChecks}
 use Rattle.flat.specs.Turn.{sides}
 use Rattle.passes.specs.Promises.{TurnPromise}
-use Rattle.outcomes.proofs.Wrong.{other-list, misplaced, tail-changed, refuses, Broken, broken}
+use Rattle.outcomes.proofs.Wrong.{other-list, misplaced, refuses, Broken, broken}
 
 abbrev block : List ℕ
-block = 0 ∷ 1 ∷ 2 ∷ 3 ∷ 4 ∷ 5 ∷ 6 ∷ 7 ∷ 8 ∷ []
+block = 0 ∷ 1 ∷ 2 ∷ 3 ∷ 4 ∷ 5 ∷ 6 ∷ 7 ∷ []
 
 abbrev scratch : List ℕ
 scratch = 9 ∷ 9 ∷ 9 ∷ 9 ∷ 9 ∷ []
@@ -37,44 +37,39 @@ unfolding at pick volume longest
 moves-nothing p = misplaced (p .words refl) (0 ∷ 1 ∷ []) tt tt
 
 -- pass 1 left out where the sides share a factor: no word is lost and many are misplaced
-pub pass-1-left-out : {s : List ℕ} → Leaves 0 (0 ∷ 4 ∷ 1 ∷ 5 ∷ 6 ∷ 2 ∷ 7 ∷ 3 ∷ 8 ∷ []) s → ⊥
+pub pass-1-left-out : {s : List ℕ} → Leaves 0 (0 ∷ 4 ∷ 1 ∷ 5 ∷ 6 ∷ 2 ∷ 7 ∷ 3 ∷ []) s → ⊥
 unfolding at pick volume longest
 pass-1-left-out p = misplaced (p .words refl) (0 ∷ 2 ∷ []) tt tt
 
 -- floor(j/b) left out of pass 2: words doubled, words lost, and one of scratch among them
-pub pass-2-without-group : {s : List ℕ} → Leaves 0 (6 ∷ 2 ∷ 7 ∷ 3 ∷ 6 ∷ 3 ∷ 7 ∷ 9 ∷ 8 ∷ []) s → ⊥
+pub pass-2-without-group : {s : List ℕ} → Leaves 0 (6 ∷ 2 ∷ 7 ∷ 3 ∷ 6 ∷ 3 ∷ 7 ∷ 9 ∷ []) s → ⊥
 unfolding at pick volume longest
 pass-2-without-group p = misplaced (p .words refl) (0 ∷ 0 ∷ []) tt tt
 
 -- floor(i/a) left out of pass 3: words doubled and lost
-pub pass-3-without-group : {s : List ℕ} → Leaves 0 (0 ∷ 4 ∷ 1 ∷ 5 ∷ 0 ∷ 4 ∷ 1 ∷ 5 ∷ 8 ∷ []) s → ⊥
+pub pass-3-without-group : {s : List ℕ} → Leaves 0 (0 ∷ 4 ∷ 1 ∷ 5 ∷ 0 ∷ 4 ∷ 1 ∷ 5 ∷ []) s → ⊥
 unfolding at pick volume longest
 pass-3-without-group p = misplaced (p .words refl) (0 ∷ 2 ∷ []) tt tt
 
 -- the correction of pass 3 left out at the multiples of a, where a is 2: 4 by 2 holding 0 to 7
-pub correction-left-out : {s : List ℕ} → TurnPromise 4 2 block scratch 0 (0 ∷ 2 ∷ 4 ∷ 6 ∷ 0 ∷ 2 ∷ 4 ∷ 6 ∷ 8 ∷ []) s → ⊥
+pub correction-left-out : {s : List ℕ} → TurnPromise 4 2 block scratch 0 (0 ∷ 2 ∷ 4 ∷ 6 ∷ 0 ∷ 2 ∷ 4 ∷ 6 ∷ []) s → ⊥
 unfolding at pick volume longest
 correction-left-out p = misplaced (p .words refl) (0 ∷ 1 ∷ []) tt tt
 
 -- the row of pass 2 not begun again at 0 where it reaches m: two words exchanged
-pub row-goes-past-m : {s : List ℕ} → Leaves 0 (0 ∷ 4 ∷ 1 ∷ 5 ∷ 3 ∷ 6 ∷ 2 ∷ 7 ∷ 8 ∷ []) s → ⊥
+pub row-goes-past-m : {s : List ℕ} → Leaves 0 (0 ∷ 4 ∷ 1 ∷ 5 ∷ 3 ∷ 6 ∷ 2 ∷ 7 ∷ []) s → ⊥
 unfolding at pick volume longest
 row-goes-past-m p = misplaced (p .words refl) (0 ∷ 2 ∷ []) tt tt
 
 -- one column of pass 1 skipped that does not stand still, column b
-pub moving-column-skipped : {s : List ℕ} → Leaves 0 (0 ∷ 4 ∷ 1 ∷ 5 ∷ 6 ∷ 2 ∷ 3 ∷ 7 ∷ 8 ∷ []) s → ⊥
+pub moving-column-skipped : {s : List ℕ} → Leaves 0 (0 ∷ 4 ∷ 1 ∷ 5 ∷ 6 ∷ 2 ∷ 3 ∷ 7 ∷ []) s → ⊥
 unfolding at pick volume longest
 moving-column-skipped p = misplaced (p .words refl) (0 ∷ 2 ∷ []) tt tt
 
 -- offset x followed to x·m modulo mn − 1, the last word sent to 0: it stays last
-pub last-word-to-0 : {s : List ℕ} → Leaves 0 (7 ∷ 4 ∷ 1 ∷ 5 ∷ 2 ∷ 6 ∷ 3 ∷ 7 ∷ 8 ∷ []) s → ⊥
+pub last-word-to-0 : {s : List ℕ} → Leaves 0 (7 ∷ 4 ∷ 1 ∷ 5 ∷ 2 ∷ 6 ∷ 3 ∷ 7 ∷ []) s → ⊥
 unfolding at pick volume longest
 last-word-to-0 p = misplaced (p .words refl) (0 ∷ 0 ∷ []) tt tt
-
--- the word past the block changed
-pub tail-word-changed : {s : List ℕ} → Leaves 0 (0 ∷ 4 ∷ 1 ∷ 5 ∷ 2 ∷ 6 ∷ 3 ∷ 7 ∷ 0 ∷ []) s → ⊥
-unfolding volume longest
-tail-word-changed p = tail-changed (p .words refl) 8 tt tt
 
 -- scratch left as it was, and cleared one word too far
 pub scratch-left : {b : List ℕ} → Leaves 0 b scratch → ⊥
@@ -86,7 +81,7 @@ unfolding longest
 scratch-too-far p = other-list (p .zeroed refl) tt
 
 -- a refusal that touches a word: scratch one word short
-pub refusal-touches-a-word : {s : List ℕ} → TurnPromise 2 4 block (9 ∷ 9 ∷ 9 ∷ []) 4 (1 ∷ 1 ∷ 2 ∷ 3 ∷ 4 ∷ 5 ∷ 6 ∷ 7 ∷ 8 ∷ []) s → ⊥
+pub refusal-touches-a-word : {s : List ℕ} → TurnPromise 2 4 block (9 ∷ 9 ∷ 9 ∷ []) 4 (1 ∷ 1 ∷ 2 ∷ 3 ∷ 4 ∷ 5 ∷ 6 ∷ 7 ∷ []) s → ⊥
 refusal-touches-a-word p = other-list (p .kept (λ z. omega arith) .0) tt
 
 pub refusal-clears-scratch : {b : List ℕ} → TurnPromise 2 4 block (9 ∷ 9 ∷ 9 ∷ []) 4 b (0 ∷ 0 ∷ 0 ∷ []) → ⊥
@@ -119,3 +114,20 @@ side-4097-accepted b s = broken (passesChecks (sides 4097 1) b s) 0 tt
 pub side-4096-refused : (s : List ℕ) → Broken (passesChecks (sides 4096 1) [] s) 1
 unfolding volume
 side-4096-refused s = broken (passesChecks (sides 4096 1) [] s) 1 tt
+
+-- a seventh word of a 2 by 3 block, which last week's frame count would leave: accepted; 4 before 13
+pub seventh-word-accepted : Broken (passesChecks (sides 2 3) (0 ∷ 1 ∷ 2 ∷ 3 ∷ 4 ∷ 5 ∷ 6 ∷ []) scratch) 0
+unfolding volume
+seventh-word-accepted = broken (passesChecks (sides 2 3) (0 ∷ 1 ∷ 2 ∷ 3 ∷ 4 ∷ 5 ∷ 6 ∷ []) scratch) 0 tt
+
+pub four-before-thirteen : Broken (passesChecks (sides 2 3) (0 ∷ 1 ∷ 2 ∷ 3 ∷ 4 ∷ 5 ∷ 6 ∷ []) []) 4
+unfolding volume
+four-before-thirteen = broken (passesChecks (sides 2 3) (0 ∷ 1 ∷ 2 ∷ 3 ∷ 4 ∷ 5 ∷ 6 ∷ []) []) 4 tt
+
+-- 13 before 1, where a side is 0; 13 for a buffer of exactly the block's size
+pub thirteen-before-one : (s : List ℕ) → Broken (passesChecks (sides 0 3) (7 ∷ []) s) 13
+thirteen-before-one s = broken (passesChecks (sides 0 3) (7 ∷ []) s) 13 tt
+
+pub exact-buffer-refused : Broken (passesChecks (sides 2 4) block scratch) 13
+unfolding volume longest
+exact-buffer-refused = broken (passesChecks (sides 2 4) block scratch) 13 tt

@@ -1,6 +1,6 @@
--- Wrong outcomes of the reverse turn by passes: each breaks the promise. The case is 2 by 3 holding 0 to 5 with a sixth word behind the
--- block and four words of scratch, of which three are needed; the right outcome is 0 2 4 1 3 5 6 and scratch 0 0 0 9. Its order of
--- checks is refuted with that of the turn.
+-- Wrong outcomes of the reverse turn by passes: each breaks the promise. The case is 2 by 3 holding 0 to 5 and four words of
+-- scratch, of which three are needed; the right outcome is 0 2 4 1 3 5 and scratch 0 0 0 9. Its order of checks is refuted with that of
+-- the turn.
 use mathlib.Core.Path.{_≡_, refl}
 use mathlib.Core.List.{List, [], _∷_}
 use Prim.Native.Nat.{ℕ}
@@ -11,10 +11,10 @@ use Rattle.refusals.specs.Conditions.{longest}
 use Rattle.refusals.specs.Calls.{passesChecks}
 use Rattle.flat.specs.Turn.{sides}
 use Rattle.passes.specs.Promises.{TurnBackPromise}
-use Rattle.outcomes.proofs.Wrong.{other-list, misplaced, tail-changed, refuses}
+use Rattle.outcomes.proofs.Wrong.{other-list, misplaced, refuses}
 
 abbrev block : List ℕ
-block = 0 ∷ 1 ∷ 2 ∷ 3 ∷ 4 ∷ 5 ∷ 6 ∷ []
+block = 0 ∷ 1 ∷ 2 ∷ 3 ∷ 4 ∷ 5 ∷ []
 
 abbrev scratch : List ℕ
 scratch = 9 ∷ 9 ∷ 9 ∷ 9 ∷ []
@@ -32,7 +32,7 @@ unfolding at pick volume longest
 moves-nothing p = misplaced (p .words refl) (0 ∷ 1 ∷ []) tt tt
 
 -- one that turns forth instead of back
-pub turns-forth : {s : List ℕ} → Leaves 0 (0 ∷ 3 ∷ 1 ∷ 4 ∷ 2 ∷ 5 ∷ 6 ∷ []) s → ⊥
+pub turns-forth : {s : List ℕ} → Leaves 0 (0 ∷ 3 ∷ 1 ∷ 4 ∷ 2 ∷ 5 ∷ []) s → ⊥
 unfolding at pick volume longest
 turns-forth p = misplaced (p .words refl) (0 ∷ 1 ∷ []) tt tt
 
@@ -41,11 +41,6 @@ pub moving-column-skipped : {s : List ℕ}
     → TurnBackPromise 2 4 (0 ∷ 1 ∷ 2 ∷ 3 ∷ 4 ∷ 5 ∷ 6 ∷ 7 ∷ []) scratch 0 (0 ∷ 2 ∷ 5 ∷ 6 ∷ 1 ∷ 3 ∷ 4 ∷ 7 ∷ []) s → ⊥
 unfolding at pick volume longest
 moving-column-skipped p = misplaced (p .words refl) (2 ∷ 0 ∷ []) tt tt
-
--- the word past the block changed
-pub tail-word-changed : {s : List ℕ} → Leaves 0 (0 ∷ 2 ∷ 4 ∷ 1 ∷ 3 ∷ 5 ∷ 0 ∷ []) s → ⊥
-unfolding volume longest
-tail-word-changed p = tail-changed (p .words refl) 6 tt tt
 
 -- scratch left as it was, and cleared one word too far
 pub scratch-left : {b : List ℕ} → Leaves 0 b scratch → ⊥
@@ -57,5 +52,5 @@ unfolding longest
 scratch-too-far p = other-list (p .zeroed refl) tt
 
 -- a refusal that touches a word: scratch one word short
-pub refusal-touches-a-word : {s : List ℕ} → TurnBackPromise 2 3 block (9 ∷ 9 ∷ []) 4 (1 ∷ 1 ∷ 2 ∷ 3 ∷ 4 ∷ 5 ∷ 6 ∷ []) s → ⊥
+pub refusal-touches-a-word : {s : List ℕ} → TurnBackPromise 2 3 block (9 ∷ 9 ∷ []) 4 (1 ∷ 1 ∷ 2 ∷ 3 ∷ 4 ∷ 5 ∷ []) s → ⊥
 refusal-touches-a-word p = other-list (p .kept (λ z. omega arith) .0) tt

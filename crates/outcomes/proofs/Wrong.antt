@@ -1,15 +1,15 @@
 -- What a wrong outcome runs into: two numbers or two lists that a promise says are equal and a computed test finds different, a word
--- that does not stand where its layout has it, a word past the block that changed.
+-- that does not stand where its layout has it.
 use mathlib.Core.Path.{_≡_, refl, subst, _∙_}
 use mathlib.Core.Bool.{Bool, true, false, not, _&&_}
 use mathlib.Core.List.{List, [], _∷_}
 use Prim.Native.Nat.{ℕ}
-use lib.Dec.{T, eqb, ltb, leb, T-not, eqb-refl}
+use lib.Dec.{T, eqb, ltb, T-not, eqb-refl}
 use lib.ListN.{getD}
-use borrow.Author.Tests.{ltb-true, leb-true}
+use borrow.Author.Tests.{ltb-true}
 use Rattle.lists.specs.Same.{same}
 use Rattle.lists.proofs.Test.{both-left, both-right, eq→same}
-use Rattle.layout.specs.Layout.{volume, Within, at, pick, Laid}
+use Rattle.layout.specs.Layout.{Within, at, pick, Laid}
 use Rattle.layout.specs.Layout.Within.{none, more}
 use Rattle.refusals.specs.FirstOf.{Check, firstOf}
 use Rattle.refusals.specs.Promise.{Rearranged}
@@ -45,10 +45,6 @@ module _ {ds o xs ys : List ℕ} (l : Laid ds o xs ys) where
   -- the word with coordinates x does not stand where the layout has it
   pub misplaced : (x : List ℕ) → T (inside ds x) → T (not (eqb (getD ys (at (pick o ds) (pick o x)) 0) (getD xs (at ds x) 0))) → ⊥
   misplaced x h n = other-number (l .placed x (within ds x h)) n
-
-  -- the word at offset k, past the block, is another
-  pub tail-changed : (k : ℕ) → T (leb (volume ds) k) → T (not (eqb (getD ys k 0) (getD xs k 0))) → ⊥
-  tail-changed k h n = other-number (l .tail k (leb-true (volume ds) k (passes (leb (volume ds) k) h))) n
 
 -- a call that refuses where none of its conditions holds breaks its promise: one that refuses always does
 pub refuses : {checks : List Check} {needed : ℕ} {Right : List ℕ → Type 0} {b₀ s₀ b s : List ℕ} {r : ℕ} → Rearranged checks needed Right b₀ s₀ r b s

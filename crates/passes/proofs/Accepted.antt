@@ -27,7 +27,7 @@ pub record Accepted (m n : ℕ) (buffer scratch : List ℕ) : Type 0 where
   pub n-pos : 0 < n
   pub m-few : m ≤ 4096
   pub n-few : n ≤ 4096
-  pub enough : m * n ≤ length buffer
+  pub exact : length buffer ≡ m * n
   pub room : need (sides m n) ≤ length scratch
 
 pub flat-accepted : (m n : ℕ) (buffer scratch : List ℕ) → firstOf (passesChecks (sides m n) buffer scratch) ≡ 0 → Accepted m n buffer scratch
@@ -42,15 +42,15 @@ flat-accepted m n buffer scratch e = go (v .0 .lengths)
       n-pos = pn;
       m-few = fm;
       n-few = fn;
-      enough = rw (volume-two m n) at (v .0 .enough);
+      exact = v .0 .exact ∙ volume-two m n;
       room = enough-scratch (need (sides m n)) scratch [] (v .1) .0;
     }
 
--- the block of a flat call lies at the buffer's start
+-- the block of a flat call is the buffer
 flat-lies : {m n : ℕ} {buffer scratch : List ℕ} → Accepted m n buffer scratch → Lies m n 0 1 buffer scratch
 flat-lies {m} {n} a = record {
   apart = omega arith;
-  inside = λ p h. omega (arith, a .enough);
+  inside = λ p h. omega (arith, a .exact);
   rows = le-trans (side-need m n .0) (a .room);
   columns = le-trans (side-need m n .1) (a .room);
   near = omega arith;

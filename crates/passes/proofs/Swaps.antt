@@ -1,7 +1,7 @@
 -- The blocks of an adjacent swap are a family: turned one after the other, they are the layout that exchanges the two axes
 -- in the middle.
 use mathlib.Core.Path.{_≡_, sym, ap, ap₂, _∙_, subst}
-use mathlib.Core.List.{List, [], _∷_}
+use mathlib.Core.List.{List, [], _∷_, _++_}
 use Prim.Native.Nat.{ℕ, _+_, _*_, _/_, _%_, _<_, _≤_}
 use native.Mathlib.Omega.{arith}
 use native.Mathlib.Nat.{mul-comm, mul-assoc, mul-add, add-mul, mul-one, one-mul, mod-lt, div-add-mod', div-lt-iff-lt-mul, pos-of-ne-zero, le-trans, le-mul-of-pos-right, mul-pos}
@@ -11,9 +11,10 @@ use mathlib.Core.Bool.{false, _||_}
 use lib.Dec.{eqb, lit<}
 use borrow.Author.Tests.{ltb-false, eqb-false}
 use Rattle.refusals.specs.FirstOf.{check, firstOf}
-use Rattle.refusals.specs.Conditions.{badLength, tooManyWords, shortBuffer, shortScratch}
+use Rattle.refusals.specs.Conditions.{badLength, tooManyWords, shortScratch}
+use Rattle.refusals.specs.Calls.{exactChecks}
 use Rattle.refusals.specs.Scratch.{need}
-use Rattle.refusals.proofs.Conditions.{InRange, in-range, passed, enough-scratch}
+use Rattle.refusals.proofs.Conditions.{InRange, in-range, passed, exact-passed, enough-scratch}
 use Rattle.refusals.proofs.Some.{either-false}
 use Rattle.flat.specs.Turn.{sides}
 use Rattle.layout.specs.Layout.{volume, Within, at, pick, Laid}
@@ -197,19 +198,19 @@ there outer m n chunk e = go (in-range (sides m n) (p .0))
 pub swap-accepted : (outer m n chunk : ℕ) (buffer scratch : List ℕ) → firstOf (swapChecks outer m n chunk buffer scratch) ≡ 0
     → There outer m n chunk × AllLie outer m n chunk buffer scratch
 swap-accepted outer m n chunk buffer scratch e =
-    let v = volume (swapBlock outer m n chunk) in
-    let rest₄ = check 4 (shortScratch (need (sides m n)) scratch) ∷ [] in
-    let rest₃ = check 3 (shortBuffer (swapBlock outer m n chunk) buffer) ∷ rest₄ in
-    let p = passed (noBlock outer m n chunk) 1 (firstOf (check 2 (tooManyWords (swapBlock outer m n chunk)) ∷ rest₃)) (lit< tt) e in
-    let q = passed (tooManyWords (swapBlock outer m n chunk)) 2 (firstOf rest₃) (lit< tt) (p .1) in
-    let r = passed (shortBuffer (swapBlock outer m n chunk) buffer) 3 (firstOf rest₄) (lit< tt) (q .1) in
+    let block = swapBlock outer m n chunk in
+    let room = check 4 (shortScratch (need (sides m n)) scratch) ∷ [] in
+    let last = exactChecks block buffer ++ room in
+    let p = passed (noBlock outer m n chunk) 1 (firstOf (check 2 (tooManyWords block) ∷ last)) (lit< tt) e in
+    let q = passed (tooManyWords block) 2 (firstOf last) (lit< tt) (p .1) in
+    let r = exact-passed block buffer room (q .1) in
     let h = there outer m n chunk (p .0) in (
       h,
       record {
         blocks = h .outer-pos;
         words = h .chunk-pos;
-        few = rw (swap-volume outer m n chunk) at (ltb-false 1048576 v (q .0));
-        enough = rw (swap-volume outer m n chunk) at (ltb-false (length buffer) v (r .0));
+        few = rw (swap-volume outer m n chunk) at (ltb-false 1048576 (volume block) (q .0));
+        enough = omega (arith, r .0, swap-volume outer m n chunk);
         room = enough-scratch (need (sides m n)) scratch [] (r .1) .0;
       },
     )

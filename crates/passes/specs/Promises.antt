@@ -1,13 +1,13 @@
 -- What the calls by passes promise. Assumes nothing: these are definitions.
 use mathlib.Core.Path.{_≡_}
 use mathlib.Core.Bool.{Bool, _||_}
-use mathlib.Core.List.{List, [], _∷_}
+use mathlib.Core.List.{List, [], _∷_, _++_}
 use Prim.Native.Nat.{ℕ}
 use lib.Dec.{eqb}
 use Rattle.layout.specs.Layout.{Laid}
 use Rattle.refusals.specs.FirstOf.{Check, check, firstOf}
-use Rattle.refusals.specs.Conditions.{badLength, tooManyWords, shortBuffer, shortScratch}
-use Rattle.refusals.specs.Calls.{passesChecks}
+use Rattle.refusals.specs.Conditions.{badLength, tooManyWords, shortScratch}
+use Rattle.refusals.specs.Calls.{exactChecks, passesChecks}
 use Rattle.refusals.specs.Scratch.{need, cleared}
 use Rattle.refusals.specs.Promise.{Rearranged}
 use Rattle.flat.specs.Turn.{sides, Turn, TurnBack}
@@ -32,14 +32,12 @@ middle = 0 ∷ 2 ∷ 1 ∷ 3 ∷ []
 abbrev pub noBlock : ℕ → ℕ → ℕ → ℕ → Bool
 noBlock outer m n chunk = badLength (sides m n) || (eqb outer 0 || eqb chunk 0)
 
--- adjacent swap: 1, 2, 3, 4
+-- adjacent swap: 1, 2, 3, 13, 4
 abbrev pub swapChecks : ℕ → ℕ → ℕ → ℕ → List ℕ → List ℕ → List Check
 swapChecks outer m n chunk buffer scratch =
     check 1 (noBlock outer m n chunk)
     ∷ check 2 (tooManyWords (swapBlock outer m n chunk))
-    ∷ check 3 (shortBuffer (swapBlock outer m n chunk) buffer)
-    ∷ check 4 (shortScratch (need (sides m n)) scratch)
-    ∷ []
+    ∷ (exactChecks (swapBlock outer m n chunk) buffer ++ (check 4 (shortScratch (need (sides m n)) scratch) ∷ []))
 
 -- the adjacent swap: outer × m × n × chunk words become outer × n × m × chunk
 abbrev pub SwapPromise : ℕ → ℕ → ℕ → ℕ → List ℕ → List ℕ → ℕ → List ℕ → List ℕ → Type 0

@@ -8,7 +8,7 @@ mod walk;
 
 ghost use Rattle.passes.specs.Promises.{TurnPromise, TurnBackPromise, SwapPromise, ClearPromise};
 
-// Turns an m by n block within its buffer, through scratch of max(m, n) words: 0, or 1, 2, 3, 4.
+// Turns the m by n block that fills a buffer, through scratch of max(m, n) words: 0, or 1, 2, 3, 13, 4.
 pub fn turn(buf: &mut [u32], scratch: &mut [u32], m: usize, n: usize) -> u32
     ensures { λ r. ⌜ TurnPromise m n (now (buf .entry)) (now (scratch .entry)) r (now (buf .exit)) (now (scratch .exit)) ⌝ }
 {
@@ -38,7 +38,7 @@ pub fn turn_back(buf: &mut [u32], scratch: &mut [u32], m: usize, n: usize) -> u3
     0
 }
 
-// Exchanges the two axes in the middle of outer × m × n × chunk words, through scratch of max(m, n) words: 0, or 1, 2, 3, 4.
+// Exchanges the two axes in the middle of outer × m × n × chunk words, through scratch of max(m, n) words: 0, or 1, 2, 3, 13, 4.
 pub fn swap(
     buf: &mut [u32],
     scratch: &mut [u32],

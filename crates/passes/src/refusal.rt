@@ -17,7 +17,7 @@ fn no_block(outer: usize, m: usize, n: usize, chunk: usize) -> bool
     chunk == 0
 }
 
-// Adjacent swap: 1, 2, 3, 4.
+// Adjacent swap: 1, 2, 3, 13, 4.
 pub(crate) fn swap_number(
     buf: &[u32],
     scratch: &[u32],
@@ -38,6 +38,9 @@ pub(crate) fn swap_number(
     }
     if buf.len() < words {
         return 3;
+    }
+    if words < buf.len() {
+        return 13;
     }
     let sides = [m, n];
     if scratch.len() < checks::longest_of(&sides) {

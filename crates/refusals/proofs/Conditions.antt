@@ -3,15 +3,15 @@ use mathlib.Core.Path.{_≡_, refl}
 use mathlib.Core.Bool.{Bool, true, false, cond}
 use mathlib.Core.List.{List, [], _∷_, _++_}
 use Prim.Native.Nat.{ℕ, _<_, _≤_}
-use native.Mathlib.Nat.{pos-of-ne-zero}
+use native.Mathlib.Nat.{pos-of-ne-zero, le-antisymm}
 use native.Mathlib.Omega.{arith}
 use lib.Dec.{ltb, eqb, lit<}
 use lib.ListN.{length, getD}
 use borrow.Author.Tests.{ltb-false, eqb-false, ne-eqb, lt-ltb, le-ltb}
 use Rattle.layout.specs.Layout.{volume}
 use Rattle.refusals.specs.FirstOf.{Check, check, firstOf}
-use Rattle.refusals.specs.Conditions.{outOfRange, badLength, tooManyWords, shortBuffer, shortScratch}
-use Rattle.refusals.specs.Calls.{sizeChecks, blockChecks}
+use Rattle.refusals.specs.Conditions.{outOfRange, badLength, tooManyWords, shortBuffer, longBuffer, shortScratch}
+use Rattle.refusals.specs.Calls.{sizeChecks, exactChecks, blockChecks}
 use Rattle.refusals.proofs.Some.{either-false, none-at}
 
 -- every length is 1 to 4,096
@@ -61,18 +61,35 @@ size-valid ds rest e =
     let q = passed (tooManyWords ds) 2 (firstOf rest) (lit< tt) (p .1) in
     (record { lengths = in-range ds (p .0); few = ltb-false 1048576 (volume ds) (q .0) }, q .1)
 
--- a block that is accepted: its size is, and all of its words are in the buffer
+-- a block that is accepted: its size is, and it fills the buffer
 pub record Valid (ds buffer : List ℕ) : Type 0 where
   pub lengths : InRange ds
   pub few : volume ds ≤ 1048576
-  pub enough : volume ds ≤ length buffer
+  pub exact : length buffer ≡ volume ds
+
+-- a buffer is as long as the block, where it is neither shorter nor longer
+module _ (ds buffer : List ℕ) where
+  pub as-long : shortBuffer ds buffer ≡ false → longBuffer ds buffer ≡ false → length buffer ≡ volume ds
+  as-long s l = le-antisymm (ltb-false (volume ds) (length buffer) l) (ltb-false (length buffer) (volume ds) s)
+
+  pub exact-passed : (rest : List Check) → firstOf (exactChecks ds buffer ++ rest) ≡ 0 → (length buffer ≡ volume ds) × (firstOf rest ≡ 0)
+  exact-passed rest e =
+      let s = passed (shortBuffer ds buffer) 3 _ (lit< tt) e in
+      let l = passed (longBuffer ds buffer) 13 (firstOf rest) (lit< tt) (s .1) in
+      (as-long (s .0) (l .0), l .1)
+
+  pub not-short : length buffer ≡ volume ds → shortBuffer ds buffer ≡ false
+  not-short e = le-ltb (length buffer) (volume ds) (omega arith)
+
+  pub not-long : length buffer ≡ volume ds → longBuffer ds buffer ≡ false
+  not-long e = le-ltb (volume ds) (length buffer) (omega arith)
 
 pub valid : (ds buffer : List ℕ) (rest : List Check)
     → firstOf (blockChecks ds buffer ++ rest) ≡ 0 → Valid ds buffer × (firstOf rest ≡ 0)
 valid ds buffer rest e =
-    let s = size-valid ds (check 3 (shortBuffer ds buffer) ∷ rest) e in
-    let r = passed (shortBuffer ds buffer) 3 (firstOf rest) (lit< tt) (s .1) in
-    (record { lengths = s .0 .lengths; few = s .0 .few; enough = ltb-false (length buffer) (volume ds) (r .0) }, r .1)
+    let s = size-valid ds (exactChecks ds buffer ++ rest) e in
+    let x = exact-passed ds buffer rest (s .1) in
+    (record { lengths = s .0 .lengths; few = s .0 .few; exact = x .0 }, x .1)
 
 -- scratch that is accepted has as many words as are needed
 pub enough-scratch : (needed : ℕ) (scratch : List ℕ) (rest : List Check) → firstOf (check 4 (shortScratch needed scratch) ∷ rest) ≡ 0

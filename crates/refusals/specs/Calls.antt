@@ -3,26 +3,30 @@ use mathlib.Core.List.{List, [], _∷_, _++_}
 use Prim.Native.Nat.{ℕ}
 use Rattle.orders.specs.Needs.{chainNeed, planNeed}
 use Rattle.refusals.specs.FirstOf.{Check, check}
-use Rattle.refusals.specs.Conditions.{badLength, tooManyWords, shortBuffer, shortScratch, longChain, badSwap, noOrder}
+use Rattle.refusals.specs.Conditions.{badLength, tooManyWords, shortBuffer, longBuffer, shortScratch, longChain, badSwap, noOrder}
 use Rattle.refusals.specs.Scratch.{need}
 
 -- the size of a block: 1, 2
 abbrev pub sizeChecks : List ℕ → List Check
 sizeChecks ds = check 1 (badLength ds) ∷ check 2 (tooManyWords ds) ∷ []
 
--- a block in a buffer: 1, 2, 3; the list of every call on a block begins so
-abbrev pub blockChecks : List ℕ → List ℕ → List Check
-blockChecks ds buffer = sizeChecks ds ++ (check 3 (shortBuffer ds buffer) ∷ [])
+-- a buffer of exactly the block's size: 3, 13
+abbrev pub exactChecks : List ℕ → List ℕ → List Check
+exactChecks ds buffer = check 3 (shortBuffer ds buffer) ∷ check 13 (longBuffer ds buffer) ∷ []
 
--- flat by passes and reverse: 1, 2, 3, 4
+-- a block in a buffer of its size: 1, 2, 3, 13; the list of every call on such a block begins so
+abbrev pub blockChecks : List ℕ → List ℕ → List Check
+blockChecks ds buffer = sizeChecks ds ++ exactChecks ds buffer
+
+-- flat by passes and reverse: 1, 2, 3, 13, 4
 abbrev pub passesChecks : List ℕ → List ℕ → List ℕ → List Check
 passesChecks ds buffer scratch = blockChecks ds buffer ++ (check 4 (shortScratch (need ds) scratch) ∷ [])
 
--- recursion: 1, 2, 3
+-- recursion: 1, 2, 3, 13
 abbrev pub recursionChecks : List ℕ → List ℕ → List Check
 recursionChecks ds buffer = blockChecks ds buffer
 
--- chain of swaps on r axes: 1, 2, 3, 5, 6, 4
+-- chain of swaps on r axes: 1, 2, 3, 13, 5, 6, 4
 abbrev pub chainChecks : ℕ → List ℕ → List ℕ → List ℕ → List ℕ → List Check
 chainChecks r ds buffer scratch chain =
     blockChecks ds buffer ++ (check 5 (longChain chain) ∷ check 6 (badSwap r chain) ∷ check 4 (shortScratch (chainNeed ds chain) scratch) ∷ [])
@@ -31,6 +35,6 @@ chainChecks r ds buffer scratch chain =
 abbrev pub planChecks : ℕ → ℕ → List Check
 planChecks r order = check 7 (noOrder r order) ∷ []
 
--- direct request for an order of r axes: 1, 2, 3, 7, 4
+-- direct request for an order of r axes: 1, 2, 3, 13, 7, 4
 abbrev pub requestChecks : ℕ → List ℕ → List ℕ → List ℕ → ℕ → List Check
 requestChecks r ds buffer scratch order = blockChecks ds buffer ++ (planChecks r order ++ (check 4 (shortScratch (planNeed r ds order) scratch) ∷ []))

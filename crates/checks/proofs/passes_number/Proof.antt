@@ -1,4 +1,4 @@
--- `passes_number` meets its contract: the checks 1, 2 and 3 come first, then scratch is measured.
+-- `passes_number` meets its contract: the checks 1, 2, 3 and 13 come first, then scratch is measured.
 use native.Mathlib.Omega.{arith}
 use borrow.Author.Needs.{needs}
 use Rattle.lists.proofs.Via.{via}

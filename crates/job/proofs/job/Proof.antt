@@ -3,7 +3,7 @@ use mathlib.Core.Path.{sym}
 use native.Mathlib.Omega.{arith}
 use borrow.Author.Needs.{needs}
 use Rattle.job.proofs.Readings.{turned-away, taken}
-use Rattle.job.proofs.Done.{met-refused, met-accepted}
+use Rattle.job.proofs.Done.{run-asks, met-refused, met-accepted}
 use Rattle.job.proofs.job.Statement.{statement}
 use Rattle.job.proofs.job.Tie as tie
 
@@ -20,15 +20,18 @@ returns c =
 array-share-prefix-swaps : tie.Need-array-share-prefix-swaps
 array-share-prefix-swaps c = let r : tie.After-read = search in taken (r .read .ensures) (search) .1 .inside
 
-slice-aggregate-chain : tie.Need-slice-aggregate-chain
-slice-aggregate-chain c = let r : tie.After-read = search in sym (taken (r .read .ensures) (search) .1 .count)
+slice-aggregate-run : tie.Need-slice-aggregate-run
+slice-aggregate-run c = let r : tie.After-read = search in sym (taken (r .read .ensures) (search) .1 .count)
+
+run-requires : tie.Need-run-requires
+run-requires c κs = let r : tie.After-read = search in run-asks (taken (r .read .ensures) (search) .1)
 
 returns-2 : tie.Need-returns-2
 returns-2 c =
-    let a : tie.After-chain = search in
+    let a : tie.After-run = search in
     let e : tie.Else1 = search in
     let r : tie.After-read = search in
-    met-accepted (omega arith) (omega arith) (omega arith) (taken (r .read .ensures) (e .if1 .left) .1) (a .chain .ensures) (c .write .ensures)
+    met-accepted (omega arith) (omega arith) (omega arith) (taken (r .read .ensures) (e .if1 .left) .1) (a .run .ensures) (c .write .ensures)
 
 pub job-spec : {M : Type 1} → statement M
 job-spec =
@@ -39,7 +42,7 @@ job-spec =
     (search needs)
     returns
     array-share-prefix-swaps
-    slice-aggregate-chain
-    (search needs)
+    slice-aggregate-run
+    run-requires
     (search needs)
     returns-2)

@@ -1,5 +1,4 @@
--- `swap_number` meets its contract: each test is that of a check, and a cut count of words decides the second and the third as the count
--- itself does.
+-- `swap_number` meets its contract: each test is that of a check, and a cut count of words decides 2, 3 and 13 as the count itself does.
 use mathlib.Core.Path.{_≡_, sym, _∙_}
 use mathlib.Core.Bool.{true, false, cond}
 use mathlib.Core.List.{List}
@@ -46,15 +45,30 @@ module _ (x : tie.Start) where
         let q = all h in
         rw (some, le-ltb 1048576 words (omega arith), lt-ltb (length (x .args .buf .now)) words (omega arith))
 
-    scratch-decides : w ≤ 1048576 → w ≤ length (x .args .buf .now) → firstOf checks ≡ cond (shortScratch needed (x .args .scratch .now)) 4 0
+    long-buffer : w ≤ 1048576 → w < length (x .args .buf .now) → 13 ≡ firstOf checks
+    long-buffer h k =
+        let q = all h in
+        rw (
+          some,
+          le-ltb 1048576 words (omega arith),
+          le-ltb (length (x .args .buf .now)) words (omega arith),
+          lt-ltb words (length (x .args .buf .now)) (omega arith),
+        )
+
+    scratch-decides : w ≤ 1048576 → length (x .args .buf .now) ≡ w → firstOf checks ≡ cond (shortScratch needed (x .args .scratch .now)) 4 0
     scratch-decides h k =
         let q = all h in
-        rw (some, le-ltb 1048576 words (omega arith), le-ltb (length (x .args .buf .now)) words (omega arith))
+        rw (
+          some,
+          le-ltb 1048576 words (omega arith),
+          le-ltb (length (x .args .buf .now)) words (omega arith),
+          le-ltb words (length (x .args .buf .now)) (omega arith),
+        )
 
-    short-scratch : w ≤ 1048576 → w ≤ length (x .args .buf .now) → length (x .args .scratch .now) < needed → 4 ≡ firstOf checks
+    short-scratch : w ≤ 1048576 → length (x .args .buf .now) ≡ w → length (x .args .scratch .now) < needed → 4 ≡ firstOf checks
     short-scratch h k l = sym (scratch-decides h k ∙ rw (lt-ltb (length (x .args .scratch .now)) needed l))
 
-    accepted : w ≤ 1048576 → w ≤ length (x .args .buf .now) → needed ≤ length (x .args .scratch .now) → 0 ≡ firstOf checks
+    accepted : w ≤ 1048576 → length (x .args .buf .now) ≡ w → needed ≤ length (x .args .scratch .now) → 0 ≡ firstOf checks
     accepted h k l = sym (scratch-decides h k ∙ rw (le-ltb (length (x .args .scratch .now)) needed l))
 
 returns-2 : tie.Need-returns-2
@@ -64,10 +78,13 @@ returns-3 : tie.Need-returns-3
 returns-3 c = let w : tie.After-words-of = search in short-buffer (search) (search via) (w .words-of .ensures) (omega arith) (omega arith)
 
 returns-4 : tie.Need-returns-4
-returns-4 c = let w : tie.After-words-of = search in short-scratch (search) (search via) (w .words-of .ensures) (omega arith) (omega arith) (omega arith)
+returns-4 c = let w : tie.After-words-of = search in long-buffer (search) (search via) (w .words-of .ensures) (omega arith) (omega arith)
 
 returns-5 : tie.Need-returns-5
-returns-5 c = let w : tie.After-words-of = search in accepted (search) (search via) (w .words-of .ensures) (omega arith) (omega arith) (omega arith)
+returns-5 c = let w : tie.After-words-of = search in short-scratch (search) (search via) (w .words-of .ensures) (omega arith) (omega arith) (omega arith)
+
+returns-6 : tie.Need-returns-6
+returns-6 c = let w : tie.After-words-of = search in accepted (search) (search via) (w .words-of .ensures) (omega arith) (omega arith) (omega arith)
 
 pub swap-number-spec : {M : Type 1} → statement M
 swap-number-spec =
@@ -79,7 +96,8 @@ swap-number-spec =
     (search needs)
     returns-2
     returns-3
-    (search needs)
-    (search needs)
     returns-4
-    returns-5)
+    (search needs)
+    (search needs)
+    returns-5
+    returns-6)
