@@ -92,12 +92,7 @@ module _ (h n s : ℕ) (step : 0 < s) where
     unfolding bandPlace
     home-of-place = band-home h n s (j / s) x (j % s) row (in-part n s j step low) ∙ ap (λ (z : ℕ). x * n + z) (div-add-mod' j s)
 
-  -- an offset read back lies in the band, and the word that stood there has its place at that offset
+  -- an offset read back lies in the band
   module _ (k : ℕ) (low : k < h * n) where
     pub band-home-lt : bandHome h n s k < h * n
     band-home-lt = let p = spot h n s step k low in rw (spot-home p) (digits-lt (p .row) (spot-column p))
-
-    pub place-of-home : bandPlace h n s (bandHome h n s k / n) (bandHome h n s k % n) ≡ k
-    place-of-home =
-        let p = spot h n s step k low in
-        rw (spot-home p, digits-div (p .x) (spot-column p), digits-mod (p .x) (spot-column p)) (spot-place p)

@@ -4,3 +4,7 @@ pub mod Parts
 pub mod Bands
 -- the places of a block as tiles are one to one
 pub mod Places
+-- two blocks as tiles of one block are equal, and what tiles as wide or as tall as the block do
+pub mod Tiled
+-- the benches hold
+pub mod Benches
