@@ -29,6 +29,10 @@ tooManyWords ds = ltb 1048576 (volume ds)
 abbrev pub shortBuffer : List ℕ → List ℕ → Bool
 shortBuffer ds buffer = ltb (length buffer) (volume ds)
 
+-- 13: a buffer longer than the block
+abbrev pub longBuffer : List ℕ → List ℕ → Bool
+longBuffer ds buffer = ltb (volume ds) (length buffer)
+
 -- the longest axis
 unfoldable pub longest : List ℕ → ℕ
 longest [] = 0

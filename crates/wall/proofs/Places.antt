@@ -60,7 +60,7 @@ row-of : (n r b x j : ℕ) → b * (r * n) + (x * n + j) ≡ (b * r + x) * n + j
 row-of n r b x j = omega (arith, mul-assoc b r n, add-mul (b * r) x n)
 
 -- an offset row by row has one row and one column
-one-cell : (n i j i′ j′ : ℕ) → j < n → j′ < n → i * n + j ≡ i′ * n + j′ → (i ≡ i′) × (j ≡ j′)
+pub one-cell : (n i j i′ j′ : ℕ) → j < n → j′ < n → i * n + j ≡ i′ * n + j′ → (i ≡ i′) × (j ≡ j′)
 one-cell n i j i′ j′ a b e = (
   sym (digits-div i a) ∙ ap (λ (z : ℕ). z / n) e ∙ digits-div i′ b,
   sym (digits-mod i a) ∙ ap (λ (z : ℕ). z % n) e ∙ digits-mod i′ b,

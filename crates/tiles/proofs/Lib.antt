@@ -1,0 +1,2 @@
+-- rows stored one after the other
+pub mod RowByRow
