@@ -2,3 +2,5 @@
 pub mod RowByRow
 -- a band laid tile by tile
 pub mod TileByTile
+-- a block moved band by band
+pub mod BandByBand

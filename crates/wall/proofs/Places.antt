@@ -66,6 +66,10 @@ one-cell n i j i′ j′ a b e = (
   sym (digits-mod i a) ∙ ap (λ (z : ℕ). z % n) e ∙ digits-mod i′ b,
 )
 
+-- so two places of words that stood at one offset are one
+one-place : (n : ℕ) (place : ℕ → ℕ → ℕ) (i j i′ j′ : ℕ) {p q : ℕ} → j < n → j′ < n → i * n + j ≡ i′ * n + j′ → place i j ≡ p → place i′ j′ ≡ q → p ≡ q
+one-place n place i j i′ j′ a b e f g = let same = one-cell n i j i′ j′ a b e in sym f ∙ ap₂ place (same .0) (same .1) ∙ g
+
 module _ (m n r s : ℕ) (high : 0 < r) (step : 0 < s) where
   module _ (i j : ℕ) (row : i < m) (low : j < n) where
     abbrev b : ℕ
@@ -124,5 +128,14 @@ module _ (m n r s : ℕ) (high : 0 < r) (step : 0 < s) where
   homes-apart p q a b e =
       let c = cell p a in
       let d = cell q b in
-      let same = one-cell n (c .i) (c .j) (d .i) (d .j) (c .column) (d .column) (sym (c .home) ∙ e ∙ d .home) in
-      sym (c .place) ∙ ap₂ (tilePlace m n r s) (same .0) (same .1) ∙ d .place
+      one-place n (tilePlace m n r s) (c .i) (c .j) (d .i) (d .j) (c .column) (d .column) (sym (c .home) ∙ e ∙ d .home) (c .place) (d .place)
+
+-- nor do two offsets of a band
+pub band-homes-apart : (h n s : ℕ) → 0 < s → (k l : ℕ) → k < h * n → l < h * n → bandHome h n s k ≡ bandHome h n s l → k ≡ l
+band-homes-apart h n s step k l a b e =
+    let p = spot h n s step k a in
+    let q = spot h n s step l b in
+    one-place n (bandPlace h n s) (p .x) (p .u * s + p .c) (q .x) (q .u * s + q .c) (spot-column p) (spot-column q)
+    (sym (spot-home p) ∙ e ∙ spot-home q)
+    (spot-place p)
+    (spot-place q)

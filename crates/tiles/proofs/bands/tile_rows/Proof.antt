@@ -1,25 +1,22 @@
 -- `tile_rows` meets its contract: the test of the direction chooses between the two.
 use mathlib.Core.Path.{_≡_}
 use Prim.Native.Nat.{_*_, _≤_}
-use native.Mathlib.Nat.{mul-le-mul-left, le-mul-of-pos-right, mul-comm}
+use native.Mathlib.Nat.{mul-le-mul-left}
 use native.Mathlib.Omega.{arith}
 use borrow.Author.Needs.{needs}
-use Rattle.tiles.proofs.TileByTile.{rows-into, rows-back}
+use Rattle.tiles.proofs.TileByTile.{columns-few, rows-into, rows-back}
 use Rattle.tiles.proofs.bands.tile_rows.Statement.{statement}
 use Rattle.tiles.proofs.bands.tile_rows.Tie as tie
 
--- the words before the tile, and the columns before it, are no more than the band's
+-- the words before the tile are no more than the band's
 before-few : (s : tie.Start) → s .args .b .rows * s .args .j ≤ s .args .b .rows * s .args .b .columns
 before-few s = mul-le-mul-left (s .args .b .rows) (omega (arith, s .pre))
-
-columns-few : (s : tie.Start) → s .args .b .columns ≤ s .args .b .rows * s .args .b .columns
-columns-few s = rw (mul-comm (s .args .b .rows) (s .args .b .columns)) (le-mul-of-pos-right (s .args .b .columns) (s .pre .0 .high))
 
 returns : tie.Need-returns
 returns c =
     let w : tie.After-smaller = search in
     let s : tie.Start = search in
-    rows-into (s .args .b) (s .args .j) (c .before .if1 .taken) (w .smaller .ensures)
+    rows-into (s .args .b) (s .args .j) (search) (w .smaller .ensures)
 
 returns-2 : tie.Need-returns-2
 returns-2 c =
@@ -36,5 +33,5 @@ tile-rows-spec =
     (λ c. record { fits = omega (arith, before-few (search)) })
     (λ c. omega (arith, before-few (search)))
     returns
-    (λ c. omega (arith, columns-few (search)))
+    (λ c. let s : tie.Start = search in omega (arith, columns-few (s .pre .0), s .pre))
     returns-2)
