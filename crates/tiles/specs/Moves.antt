@@ -95,6 +95,8 @@ pub record Converts (m n r s : ℕ) (buf scratch : List ℕ) : Type 0 where
   pub step : 0 < s
   pub low : r ≤ 64
   pub narrow : s ≤ 64
+  pub tall : m ≤ 4096
+  pub few : m * n ≤ 1048576
   pub whole : length buf ≡ m * n
   pub room : r * n ≤ length scratch
 
