@@ -126,11 +126,11 @@ module _ {m r i h : ℕ} (n s : ℕ) (a : NextBand m r i h) where
         let b = bandAt into n s i h in
         record {
           filled =
-          filled-count after
-          (filled-on (block-apart into m n r s (ok .high) (ok .step)) within (goes-to into)
-          (λ k few. ap (λ (z : ℕ). getD xs z 0) (comes-from into k few) ∙ sym (f .above (i * n + bandFrom b k) (omega (arith, before))))
-          (filled-count before (f .filled))
-          (g .moved));
+              filled-count after
+              (filled-on (block-apart into m n r s (ok .high) (ok .step)) within (goes-to into)
+              (λ k few. ap (λ (z : ℕ). getD xs z 0) (comes-from into k few) ∙ sym (f .above (i * n + bandFrom b k) (omega (arith, before))))
+              (filled-count before (f .filled))
+              (g .moved));
           above = λ p past.
               g .moved .others p (λ k few e. omega (arith, to-low b (ok .step) k few, after)) ∙ f .above p (omega (arith, before, after));
           past = record { same = g .past .same ∙ f .past .same; rest = λ p past. g .past .rest p (omega (arith, lower)) ∙ f .past .rest p past };

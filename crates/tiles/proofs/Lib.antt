@@ -4,3 +4,5 @@ pub mod RowByRow
 pub mod TileByTile
 -- a block moved band by band
 pub mod BandByBand
+-- what the checks tell
+pub mod Accepted

@@ -35,13 +35,13 @@ rows-more {l} {x} {from} {to} {zs = zs} fit h f g =
     let next : x * w + w ≡ (x + 1) * w = omega (arith, add-mul x 1 w, one-mul w) in
     record {
       filled =
-      subst (λ (k : ℕ). Filled (λ k. l .at + inRows (l .step) w k) (λ k. getD from (l .start + inRows (l .stride) w k) 0) k to zs) next
-      (filled-on (rows-apart (l .at) (l .step) w (l .count * w) (fit .wide) (fit .apart))
-      (omega (arith, mul-le-mul-right {m = x + 1} {n = l .count} w (omega arith)))
-      (λ t d. in-row (l .at) (l .step) w x t d)
-      (λ t d. ap (λ (p : ℕ). getD from p 0) (in-row (l .start) (l .stride) w x t d))
-      (f .filled)
-      g);
+          subst (λ (k : ℕ). Filled (λ k. l .at + inRows (l .step) w k) (λ k. getD from (l .start + inRows (l .stride) w k) 0) k to zs) next
+          (filled-on (rows-apart (l .at) (l .step) w (l .count * w) (fit .wide) (fit .apart))
+          (omega (arith, mul-le-mul-right {m = x + 1} {n = l .count} w (omega arith)))
+          (λ t d. in-row (l .at) (l .step) w x t d)
+          (λ t d. ap (λ (p : ℕ). getD from p 0) (in-row (l .start) (l .stride) w x t d))
+          (f .filled)
+          g);
     }
 
 pub rows-all : {l : Rows} {x : ℕ} {from to ys : List ℕ} → SomeRows l x from to ys → x ≡ l .count → RowsLaid l from to ys

@@ -150,8 +150,8 @@ tiles-more {b} {j} small tile f g =
     let within : j + v ≤ b .columns = omega (arith, tile .low) in
     record {
       filled =
-      filled-count after
-      (filled-on (band-apart b (small .step)) (omega (arith, mul-add (b .rows) j v, mul-le-mul-left (b .rows) within)) (λ t d. refl) (λ t d. refl) (filled-count before (f .filled)) g);
+          filled-count after
+          (filled-on (band-apart b (small .step)) (omega (arith, mul-add (b .rows) j v, mul-le-mul-left (b .rows) within)) (λ t d. refl) (λ t d. refl) (filled-count before (f .filled)) g);
     }
 
 pub tiles-all : {b : Band} {j : ℕ} {scratch xs ys : List ℕ} → SomeTiles b j scratch xs ys → b .columns ≤ j → BandLaid b scratch xs ys

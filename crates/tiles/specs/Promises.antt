@@ -4,7 +4,7 @@ use mathlib.Core.List.{List, [], _∷_, _++_}
 use Prim.Native.Nat.{ℕ, _*_}
 use lib.Dec.{eqb, ltb}
 use Rattle.refusals.specs.FirstOf.{Check, check}
-use Rattle.refusals.specs.Conditions.{some, shortBuffer, longBuffer, shortScratch}
+use Rattle.refusals.specs.Conditions.{shortBuffer, longBuffer, shortScratch}
 use Rattle.refusals.specs.Calls.{sizeChecks}
 use Rattle.refusals.specs.Promise.{Rearranged}
 use Rattle.flat.specs.Turn.{sides}
@@ -16,7 +16,7 @@ noSide d = eqb d 0 || ltb 64 d
 
 -- 15: a tile side is 0 or above 64
 abbrev pub badTile : ℕ → ℕ → Bool
-badTile r s = some noSide (r ∷ s ∷ [])
+badTile r s = noSide r || noSide s
 
 -- how many words of scratch tiles of r rows of a block with n columns need: r·n, also where the block has fewer rows or nothing moves
 abbrev pub bandNeed : ℕ → ℕ → ℕ

@@ -112,10 +112,10 @@ module _ (m n r s : ℕ) (high : 0 < r) (step : 0 < s) where
         column = spot-column q;
         place = tile-place m n r s (d .b) (q .x) j (q .row) ∙ ap (λ (z : ℕ). d .b * (r * n) + z) (spot-place q) ∙ d .is;
         home =
-        ap (tileHome m n r s) (sym (d .is))
-        ∙ tile-home m n r s (d .b) (d .k) (d .low)
-        ∙ ap (λ (z : ℕ). d .b * (r * n) + z) (spot-home q)
-        ∙ row-of n r (d .b) (q .x) j;
+            ap (tileHome m n r s) (sym (d .is))
+            ∙ tile-home m n r s (d .b) (d .k) (d .low)
+            ∙ ap (λ (z : ℕ). d .b * (r * n) + z) (spot-home q)
+            ∙ row-of n r (d .b) (q .x) j;
       }
 
   -- no two words share a place
