@@ -2,12 +2,14 @@
 use mathlib.Core.Path.{_≡_, refl, sym, ap, _∙_}
 use mathlib.Core.Bool.{Bool, true, false, cond}
 use mathlib.Core.List.{List, [], _∷_, _++_}
+use mathlib.Core.Logic.{⊎-elim}
 use Prim.Native.Nat.{ℕ, _+_, _*_, _-_, _<_, _≤_}
 use native.Mathlib.Nat.{pos-of-ne-zero, mul-le-mul}
 use native.Mathlib.Omega.{arith}
 use lib.Dec.{eqb, ltb, lit<}
 use lib.ListN.{length}
 use borrow.Author.Tests.{ltb-false, eqb-false, lt-ltb, le-ltb}
+use Rattle.lists.proofs.Decide.{eq-or-ne}
 use Rattle.layout.specs.Layout.{volume}
 use Rattle.refusals.specs.FirstOf.{Check, check, firstOf}
 use Rattle.refusals.specs.Conditions.{shortBuffer, longBuffer, shortScratch}
@@ -112,3 +114,16 @@ converts m n r s buffer scratch e =
       whole = omega (arith, ltb-false (length buffer) (volume (sides m n)) (short .0), ltb-false (volume (sides m n)) (length buffer) (long .0));
       room = enough-scratch (r * n) scratch [] (long .1) .0;
     }
+
+-- the checks of the size passed, where all are
+size-alone : (m n r s : ℕ) (buffer scratch : List ℕ) → firstOf (tileChecks m n r s buffer scratch) ≡ 0 → firstOf (sizeChecks (sides m n)) ≡ 0
+size-alone m n r s buffer scratch e =
+    ⊎-elim (λ z. z) (λ z. absurd (z (sym (refused-first (sizeChecks (sides m n)) (tileRest m n r s buffer scratch) z) ∙ e))) (eq-or-ne (firstOf (sizeChecks (sides m n))) 0)
+
+-- another block of the same size passes too, with scratch that is enough
+pub passes-again : (m n r s : ℕ) (b b′ scratch scratch′ : List ℕ) → firstOf (tileChecks m n r s b scratch) ≡ 0 → length b′ ≡ length b → bandNeed n r ≤ length scratch′
+    → firstOf (tileChecks m n r s b′ scratch′) ≡ 0
+passes-again m n r s b b′ scratch scratch′ e same room =
+    let v = size-valid (sides m n) (tileRest m n r s b scratch) e in
+    let tile = passed (badTile r s) 15 _ (lit< tt) (v .1) in
+    sym (all-passed m n r s b′ scratch′ (size-alone m n r s b scratch e) (tile .0) (same ∙ converts m n r s b scratch e .whole) room)

@@ -6,3 +6,7 @@ pub mod TileByTile
 pub mod BandByBand
 -- what the checks tell
 pub mod Accepted
+-- the outcome of an accepted conversion
+pub mod Outcome
+-- any two outcomes coincide, each conversion undoes the other, and what wide and tall tiles do
+pub mod OneOutcome
