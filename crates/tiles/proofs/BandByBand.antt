@@ -1,19 +1,19 @@
 -- A block moved band by band. A band that was lifted into scratch and laid back has moved; bands that have moved stay while the next one does,
 -- because it lies past them; at the end the block is in tiles, or the tiles are a block.
-use mathlib.Core.Path.{_≡_, refl, sym, ap, subst, _∙_}
+use mathlib.Core.Path.{_≡_, refl, sym, ap, _∙_}
 use mathlib.Core.Bool.{Bool, true, false, cond}
 use mathlib.Core.List.{List}
 use Prim.Native.Nat.{ℕ, _+_, _*_, _-_, _/_, _%_, _<_, _≤_, min}
 use native.Mathlib.Nat.{div-add-mod', mul-assoc, add-mul, zero-mul, mul-le-mul-right}
 use native.Mathlib.Omega.{arith}
-use lib.ListN.{length, getD}
+use lib.ListN.{getD}
 use Rattle.passes.specs.ThroughScratch.{Apart, Filled, Past}
 use Rattle.passes.proofs.Filled.{filled-none, filled-on}
 use Rattle.wall.specs.Tiles.{part, tilePlace, Tiled}
 use Rattle.wall.specs.Homes.{bandHome, tileHome}
 use Rattle.wall.proofs.Bands.{band-home-lt}
 use Rattle.wall.proofs.Places.{tile-home, tile-place-lt, home-of-tile, homes-apart}
-use Rattle.tiles.specs.Moves.{bandTo, bandFrom, BandSmall, BandFits, BandLaid, BandMoved, blockTo, blockFrom, Converts, Converted}
+use Rattle.tiles.specs.Moves.{bandTo, bandFrom, BandFits, BandLaid, BandMoved, blockTo, blockFrom, Converts, Converted}
 use Rattle.tiles.specs.declared.bands.Band.{Band}
 use Rattle.tiles.proofs.TileByTile.{filled-count}
 

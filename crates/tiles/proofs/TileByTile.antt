@@ -3,12 +3,10 @@
 use mathlib.Core.Path.{_≡_, refl, sym, ap, subst, _∙_}
 use mathlib.Core.Bool.{Bool, true, false, cond}
 use mathlib.Core.List.{List}
-use mathlib.Core.Logic.{⊎-elim}
 use Prim.Native.Nat.{ℕ, _+_, _*_, _-_, _/_, _%_, _<_, _≤_, min}
 use native.Mathlib.Nat.{mod-lt, div-add-mod', div-lt-iff-lt-mul, mul-add, mul-comm, mul-le-mul-left, mul-le-mul-right, mul-zero, le-mul-of-pos-right}
 use native.Mathlib.Omega.{arith}
-use lib.ListN.{length, getD}
-use lib.Arith.{digits-lt}
+use lib.ListN.{getD}
 use Rattle.passes.specs.ThroughScratch.{Apart, Filled}
 use Rattle.passes.proofs.Filled.{filled-none, filled-on}
 use Rattle.wall.specs.Tiles.{part}

@@ -2,13 +2,13 @@
 -- offset of the band is of this kind, and so the places of a band, read forwards and backwards, undo each other.
 use mathlib.Core.Path.{_≡_, sym, ap, _∙_}
 use mathlib.Core.Logic.{⊎-elim}
-use Prim.Native.Nat.{ℕ, _+_, _*_, _-_, _/_, _%_, _<_, _≤_}
+use Prim.Native.Nat.{ℕ, _+_, _*_, _/_, _%_, _<_, _≤_}
 use native.Mathlib.Nat.{mod-lt, div-add-mod', div-lt-iff-lt-mul, mul-add, mul-pos, mul-le-mul-left, lt-of-mul-lt-mul-left, mul-left-comm}
 use native.Mathlib.Omega.{arith}
 use lib.Arith.{digits-div, digits-mod, digits-lt}
 use Rattle.lists.proofs.Decide.{lt-or-ge}
 use Rattle.wall.specs.Tiles.{part, bandPlace}
-use Rattle.wall.specs.Homes.{inTile, bandHome}
+use Rattle.wall.specs.Homes.{bandHome}
 use Rattle.wall.proofs.Parts.{part-le, part-within, part-pos, in-part, of-part, at-part, part-last, part-whole}
 
 module _ (h n s u x c : ℕ) (row : x < h) (column : c < part n s u) where

@@ -1,6 +1,6 @@
 -- `convert` meets its contract: band after band moves; the band that comes next starts at a multiple of the tile's height.
 use mathlib.Core.Path.{_≡_, _∙_}
-use Prim.Native.Nat.{_+_, _-_, _%_, _≤_}
+use Prim.Native.Nat.{_-_, _%_}
 use native.Mathlib.Nat.{add-mod-right, zero-mod, mul-le-mul-right}
 use native.Mathlib.Omega.{arith}
 use borrow.Author.Needs.{needs}

@@ -1,10 +1,8 @@
 -- `lay` meets its contract: tile after tile is laid; the tile that comes next starts at a multiple of the width.
 use mathlib.Core.Path.{_≡_, _∙_}
-use Prim.Native.Nat.{_+_, _-_, _%_, _≤_}
+use Prim.Native.Nat.{_-_, _%_}
 use native.Mathlib.Nat.{add-mod-right, zero-mod}
 use native.Mathlib.Omega.{arith}
-use borrow.Author.Needs.{needs}
-use Rattle.tiles.specs.Moves.{BandFits, TileAt}
 use Rattle.tiles.proofs.TileByTile.{columns-few, SomeTiles, tiles-none, tiles-more, tiles-all, fits-on}
 use Rattle.tiles.proofs.bands.lay.Statement.{statement}
 use Rattle.tiles.proofs.bands.lay.Tie as tie

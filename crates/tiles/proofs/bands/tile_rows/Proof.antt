@@ -1,5 +1,4 @@
 -- `tile_rows` meets its contract: the test of the direction chooses between the two.
-use mathlib.Core.Path.{_≡_}
 use Prim.Native.Nat.{_*_, _≤_}
 use native.Mathlib.Nat.{mul-le-mul-left}
 use native.Mathlib.Omega.{arith}

@@ -1,5 +1,4 @@
 -- `copy_rows` meets its contract: row after row is stored.
-use mathlib.Core.Path.{_≡_}
 use Prim.Native.Nat.{_+_, _*_, _-_, _<_, _≤_}
 use native.Mathlib.Omega.{arith}
 use borrow.Author.Needs.{needs}
