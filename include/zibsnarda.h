@@ -97,12 +97,14 @@ uint32_t zib_add_camera(uint32_t *buffer, size_t buffer_words, size_t frames, si
  * Scratch has at least r*n words, whatever m is; that many first words of it are zero afterwards.
  * Answers 0, or the first of 1, 2, 15, 3, 13, 4 that holds.
  */
-uint32_t zib_to_tiles(uint32_t *buffer, size_t buffer_words, uint32_t *scratch, size_t scratch_words, size_t m, size_t n, size_t r, size_t s);
+uint32_t zib_to_tiles(uint32_t *buffer, size_t buffer_words, uint32_t *scratch, size_t scratch_words, size_t m, size_t n, size_t r,
+                      size_t s);
 
 /*
  * Undoes zib_to_tiles with the same m, n, r and s. Scratch and answers are those of zib_to_tiles.
  */
-uint32_t zib_from_tiles(uint32_t *buffer, size_t buffer_words, uint32_t *scratch, size_t scratch_words, size_t m, size_t n, size_t r, size_t s);
+uint32_t zib_from_tiles(uint32_t *buffer, size_t buffer_words, uint32_t *scratch, size_t scratch_words, size_t m, size_t n, size_t r,
+                        size_t s);
 
 /*
  * Four axes. A block has axes 0 to 3 with these lengths, the last fastest. Swap k (0, 1 or 2) exchanges the axes at

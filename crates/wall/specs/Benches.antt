@@ -16,7 +16,8 @@ pub record Row : Type 0 where
 abbrev pub row : ℕ → ℕ → ℕ → ℕ → List ℕ → Row
 row m n r s l = record { m = m; n = n; r = r; s = s; says = l }
 
--- the table: README's drawing; tiles that leave nothing over; tiles narrower than the block but taller; tiles as wide as the block; tiles of one word
+-- the table: README's drawing; tiles of one row; tiles that leave nothing over; tiles taller than the block; tiles wider than it; tiles of one
+-- column; one word
 abbrev pub benches : List Row
 benches =
     row 3 5 2 2 (0 ∷ 1 ∷ 5 ∷ 6 ∷ 2 ∷ 3 ∷ 7 ∷ 8 ∷ 4 ∷ 9 ∷ 10 ∷ 11 ∷ 12 ∷ 13 ∷ 14 ∷ [])

@@ -45,7 +45,7 @@ lay-spec =
     μ-loop
     (λ c. (zero-mod _, tiles-none))
     lay-tile-requires
-    (λ c. let l : Loop = search in let s : Begin = search in omega (arith, columns-few (s .pre .small), s .pre .small))
+    (λ c. let s : Begin = search in omega (arith, columns-few (s .pre .small), s .pre .small))
     (λ c. let s : Begin = search in omega (arith, s .pre .small))
     loop-again
     (λ c. let l : Loop = search in l .loop .inv .1 .filled .same)
