@@ -8,3 +8,5 @@ pub mod Places
 pub mod Tiled
 -- the benches hold
 pub mod Benches
+-- word follows word, row follows row, tile follows tile, band follows band
+pub mod Follows
