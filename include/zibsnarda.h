@@ -10,7 +10,7 @@
  * No call allocates, keeps a pointer, or reads or writes anything besides what it is lent.
  *
  * Sides and lengths are 1 to 4,096; a block has at most 1,048,576 words, from the first word of the buffer on.
- * A buffer may not be longer than the block: turns, chains and requests take one of exactly the block's size. Where a call says
+ * A buffer may not be longer than the block: turns, chains, requests and tiles take one of exactly the block's size. Where a call says
  * otherwise (cameras, sheets), the words past the block stay unchanged, and so does scratch past what is needed.
  */
 #ifndef ZIBSNARDA_H
@@ -37,6 +37,7 @@ enum {
     ZIB_BAD_LINE = 10,      /* a sheet line is malformed, missing or left over; place is its line number, from 1 */
     ZIB_LARGE_SHEET = 11,   /* a sheet's lengths multiply to more than 1,024 */
     ZIB_LONG_BUFFER = 13,   /* the buffer has more words than the block */
+    ZIB_BAD_TILE = 15,      /* a tile side is 0 or above 64 */
     ZIB_BAD_COLUMN = 16,    /* a column number is above the last camera (removing) or above the camera count (adding) */
     ZIB_NO_ROOM = 17,       /* the buffer lacks room for the block with one camera more */
     ZIB_SHORT_BYTES = 24,   /* the byte buffer is shorter than the result sheet */
@@ -87,6 +88,22 @@ uint32_t zib_remove_camera(uint32_t *buffer, size_t buffer_words, size_t frames,
  */
 uint32_t zib_add_camera(uint32_t *buffer, size_t buffer_words, size_t frames, size_t cameras, size_t column, const uint32_t *words,
                         size_t word_count);
+
+/*
+ * Stores the block of m rows and n columns as tiles of r by s words (r and s 1 to 64): tiles row by row, each stored together row by
+ * row; tiles at the right and lower edge are smaller. A tile may be larger than the block. The word of row i and column j then stands
+ * at b*r*n + h*u*s + (i-b*r)*w + (j-u*s), where b = i/r, u = j/s (whole numbers), h = min(r, m-b*r) and w = min(s, n-u*s).
+ * Scratch has at least r*n words, whatever m is; that many first words of it are zero afterwards.
+ * Answers 0, or the first of 1, 2, 15, 3, 13, 4 that holds.
+ */
+uint32_t zib_to_tiles(uint32_t *buffer, size_t buffer_words, uint32_t *scratch, size_t scratch_words, size_t m, size_t n, size_t r,
+                      size_t s);
+
+/*
+ * Undoes zib_to_tiles with the same m, n, r and s. Scratch and answers are those of zib_to_tiles.
+ */
+uint32_t zib_from_tiles(uint32_t *buffer, size_t buffer_words, uint32_t *scratch, size_t scratch_words, size_t m, size_t n, size_t r,
+                        size_t s);
 
 /*
  * Four axes. A block has axes 0 to 3 with these lengths, the last fastest. Swap k (0, 1 or 2) exchanges the axes at

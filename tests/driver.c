@@ -43,6 +43,8 @@ enum {
     REPEATS = 10,
     REMOVE_CAMERA = 11,
     ADD_CAMERA = 12,
+    TO_TILES = 13,
+    FROM_TILES = 14,
     /* these touch what they must not, to show that the guards bite */
     WRITE_PAST_END = 100,
     READ_PAST_END = 101,
@@ -194,6 +196,12 @@ static void run(uint64_t call) {
         break;
     case ADD_CAMERA:
         give(zib_add_camera(words(0), word_count(0), numbers[0], numbers[1], numbers[2], words(1), word_count(1)));
+        break;
+    case TO_TILES:
+        give(zib_to_tiles(words(0), word_count(0), words(1), word_count(1), numbers[0], numbers[1], numbers[2], numbers[3]));
+        break;
+    case FROM_TILES:
+        give(zib_from_tiles(words(0), word_count(0), words(1), word_count(1), numbers[0], numbers[1], numbers[2], numbers[3]));
         break;
     case WRITE_PAST_END:
         at[buffers[0].bytes] = 1;

@@ -7,6 +7,7 @@ ghost use Rattle.sheet.specs.Writer.{WrittenAs};
 ghost use Rattle.job.specs.Job.{Done};
 ghost use Rattle.home.specs.Promise.{RepeatsPromise};
 ghost use Rattle.cameras.specs.Promises.{RemovePromise, AddPromise};
+ghost use Rattle.tiles.specs.Promises.{ToTilesPromise, FromTilesPromise};
 ghost use Rattle.exports.specs.Records.{answered, planned, sheetRead, sheetWritten, homeAfter};
 
 // The lengths of four axes, last axis fastest.
@@ -224,4 +225,34 @@ pub extern "C" fn zib_add_camera(
     ensures { λ r. ⌜ AddPromise frames cameras column (now (words .entry)) (now (buf .entry)) r (now (buf .exit)) ⌝ }
 {
     cameras::add(buf, frames, cameras, column, words)
+}
+
+// An m by n block stored as tiles of r by s words.
+#[no_mangle]
+pub extern "C" fn zib_to_tiles(
+    buf: &mut [u32],
+    scratch: &mut [u32],
+    m: usize,
+    n: usize,
+    r: usize,
+    s: usize,
+) -> u32
+    ensures { λ t. ⌜ ToTilesPromise m n r s (now (buf .entry)) (now (scratch .entry)) t (now (buf .exit)) (now (scratch .exit)) ⌝ }
+{
+    tiles::to_tiles(buf, scratch, m, n, r, s)
+}
+
+// The tiles of r by s words of an m by n block stored as the block again.
+#[no_mangle]
+pub extern "C" fn zib_from_tiles(
+    buf: &mut [u32],
+    scratch: &mut [u32],
+    m: usize,
+    n: usize,
+    r: usize,
+    s: usize,
+) -> u32
+    ensures { λ t. ⌜ FromTilesPromise m n r s (now (buf .entry)) (now (scratch .entry)) t (now (buf .exit)) (now (scratch .exit)) ⌝ }
+{
+    tiles::from_tiles(buf, scratch, m, n, r, s)
 }

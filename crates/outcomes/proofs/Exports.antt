@@ -23,6 +23,7 @@ use Rattle.sheet.proofs.OneOutcome as sheets
 use Rattle.job.proofs.OneOutcome as jobs
 use Rattle.home.proofs.OneOutcome as homes
 use Rattle.cameras.proofs.OneOutcome as cameras
+use Rattle.tiles.proofs.OneOutcome as tiles
 use Rattle.exports.proofs.zib_turn.Kinds as turn-kinds
 use Rattle.exports.proofs.zib_turn.Reads as turn
 use Rattle.exports.proofs.zib_turn_back.Kinds as turn-back-kinds
@@ -47,6 +48,10 @@ use Rattle.exports.proofs.zib_remove_camera.Kinds as remove-kinds
 use Rattle.exports.proofs.zib_remove_camera.Reads as remove
 use Rattle.exports.proofs.zib_add_camera.Kinds as add-kinds
 use Rattle.exports.proofs.zib_add_camera.Reads as add
+use Rattle.exports.proofs.zib_to_tiles.Kinds as to-tiles-kinds
+use Rattle.exports.proofs.zib_to_tiles.Reads as to-tiles
+use Rattle.exports.proofs.zib_from_tiles.Kinds as from-tiles-kinds
+use Rattle.exports.proofs.zib_from_tiles.Reads as from-tiles
 
 -- a record of the interface from that of the call below, field by field
 abbrev as-answer : Below-Answer → Answer
@@ -111,3 +116,11 @@ remove-camera-once κs a r r′ s s′ p q = cameras.remove-once (a .1 .0) (a .1
 pub add-camera-once : (κs : Lfts 2) (a : Dens κs add-kinds.ps) (r r′ : ℕ) (s s′ : AtExit (endedOf 2 add-kinds.ps add-kinds.r) κs)
     → add.Post κs a r s → add.Post κs a r′ s′ → (r ≡ r′) × (s .0 .now ≡ s′ .0 .now)
 add-camera-once κs a r r′ s s′ p q = cameras.add-once (a .1 .0) (a .1 .1 .0) (a .1 .1 .1 .0) p q
+
+pub to-tiles-once : (κs : Lfts 2) (a : Dens κs to-tiles-kinds.ps) (r r′ : ℕ) (s s′ : AtExit (endedOf 2 to-tiles-kinds.ps to-tiles-kinds.r) κs)
+    → to-tiles.Post κs a r s → to-tiles.Post κs a r′ s′ → (r ≡ r′) × (s .0 .now ≡ s′ .0 .now) × (s .1 .0 .now ≡ s′ .1 .0 .now)
+to-tiles-once κs a r r′ s s′ p q = tiles.to-tiles-once (a .1 .1 .0) (a .1 .1 .1 .0) (a .1 .1 .1 .1 .0) (a .1 .1 .1 .1 .1 .0) p q
+
+pub from-tiles-once : (κs : Lfts 2) (a : Dens κs from-tiles-kinds.ps) (r r′ : ℕ) (s s′ : AtExit (endedOf 2 from-tiles-kinds.ps from-tiles-kinds.r) κs)
+    → from-tiles.Post κs a r s → from-tiles.Post κs a r′ s′ → (r ≡ r′) × (s .0 .now ≡ s′ .0 .now) × (s .1 .0 .now ≡ s′ .1 .0 .now)
+from-tiles-once κs a r r′ s s′ p q = tiles.from-tiles-once (a .1 .1 .0) (a .1 .1 .1 .0) (a .1 .1 .1 .1 .0) (a .1 .1 .1 .1 .1 .0) p q

@@ -26,3 +26,6 @@ pub mod RefutedJob
 pub mod Repeats
 -- removing and adding a camera: one outcome, and wrong ones refuted
 pub mod Cameras
+-- the conversions to tiles and back: one outcome, and wrong ones refuted
+pub mod Tiles
+pub mod RefutedTiles
