@@ -2,7 +2,7 @@
 use Rattle.axes.specs.declared.Answer.{Answer as Below-Answer}
 use Rattle.axes.specs.declared.Planned.{Planned as Below-Planned}
 use Rattle.sheet.specs.declared.Sheet.{Sheet as Below-Sheet}
-use Rattle.sheet.specs.declared.Written.{Written as Below-Written}
+use Rattle.printer.specs.declared.Written.{Written as Below-Written}
 use Rattle.home.specs.declared.Home.{Home as Below-Home}
 use Rattle.exports.specs.declared.Answer.{Answer}
 use Rattle.exports.specs.declared.Planned.{Planned}

@@ -3,7 +3,7 @@ ghost use Rattle.passes.specs.Promises.{TurnPromise, TurnBackPromise};
 ghost use Rattle.halves.specs.Promise.{TurnPromise as HalvesPromise};
 ghost use Rattle.axes.specs.Promises.{ChainPromise, RequestPromise, PlanPromise};
 ghost use Rattle.sheet.specs.Reader.{ReadAs};
-ghost use Rattle.sheet.specs.Writer.{WrittenAs};
+ghost use Rattle.printer.specs.Writer.{WrittenAs};
 ghost use Rattle.job.specs.Job.{Done};
 ghost use Rattle.home.specs.Promise.{RepeatsPromise};
 ghost use Rattle.cameras.specs.Promises.{RemovePromise, AddPromise};
@@ -167,7 +167,7 @@ pub extern "C" fn zib_write_sheet(
     ensures { λ r. ⌜ WrittenAs (shape .lens) order (now (words .entry)) (now (out .entry)) (sheetWritten r) (now (out .exit)) ⌝ }
 {
     let lens = shape.lens;
-    let w = sheet::write(lens, order, words, out);
+    let w = printer::write(lens, order, words, out);
     Written {
         number: w.number,
         count: w.count,

@@ -24,12 +24,12 @@ use Rattle.text.specs.Sheet.{refusalText, resultText}
 use Rattle.text.specs.Meaning.{Outcome, meaning}
 use Rattle.text.proofs.Length.{fields-few, result-fits}
 use Rattle.sheet.specs.declared.Sheet.{Sheet}
-use Rattle.sheet.specs.declared.Written.{Written}
-use Rattle.sheet.specs.Writer.{writerNumber, WrittenAs}
-use Rattle.sheet.specs.RefusalWriter.{RefusalWrittenAs}
-use Rattle.sheet.proofs.Writes.{number-0}
-use Rattle.sheet.proofs.RefusalLine.{length-refusal, line-fits}
-use Rattle.sheet.proofs.InFull.{in-full}
+use Rattle.printer.specs.declared.Written.{Written}
+use Rattle.printer.specs.Writer.{writerNumber, WrittenAs}
+use Rattle.printer.specs.RefusalWriter.{RefusalWrittenAs}
+use Rattle.printer.proofs.Writes.{number-0}
+use Rattle.printer.proofs.RefusalLine.{length-refusal, line-fits}
+use Rattle.printer.proofs.InFull.{in-full}
 use Rattle.job.specs.Job.{jobWords, jobText, Done}
 use Rattle.job.proofs.Readings.{swapsOf, Turned-away, Taken}
 use Rattle.job.proofs.Sizes.{longest-le-volume}

@@ -9,7 +9,7 @@ use borrow.Author.Needs.{needs}
 use Rattle.axes.specs.declared.Answer.{Answer as Below-Answer}
 use Rattle.axes.specs.declared.Planned.{Planned as Below-Planned}
 use Rattle.sheet.specs.declared.Sheet.{Sheet as Below-Sheet}
-use Rattle.sheet.specs.declared.Written.{Written as Below-Written}
+use Rattle.printer.specs.declared.Written.{Written as Below-Written}
 use Rattle.home.specs.declared.Home.{Home as Below-Home}
 use Rattle.exports.specs.declared.Answer.{Answer}
 use Rattle.exports.specs.declared.Planned.{Planned}
@@ -20,6 +20,7 @@ use Rattle.passes.proofs.OneOutcome as passes
 use Rattle.halves.proofs.OneOutcome as halves
 use Rattle.axes.proofs.OneOutcome as axes-outcome
 use Rattle.sheet.proofs.OneOutcome as sheets
+use Rattle.printer.proofs.OneOutcome as prints
 use Rattle.job.proofs.OneOutcome as jobs
 use Rattle.home.proofs.OneOutcome as homes
 use Rattle.cameras.proofs.OneOutcome as cameras
@@ -94,7 +95,7 @@ read-sheet-once κs a r r′ s s′ p q = let e = sheets.read-once p q in (ap as
 
 pub write-sheet-once : (κs : Lfts 2) (a : Dens κs write-sheet-kinds.ps) (r r′ : Written) (s s′ : AtExit (endedOf 2 write-sheet-kinds.ps write-sheet-kinds.r) κs)
     → write-sheet.Post κs a r s → write-sheet.Post κs a r′ s′ → (r ≡ r′) × (s .1 .1 .1 .0 .now ≡ s′ .1 .1 .1 .0 .now)
-write-sheet-once κs a r r′ s s′ p q = let e = sheets.write-once p q in (ap as-wrote (e .0), e .1)
+write-sheet-once κs a r r′ s s′ p q = let e = prints.write-once p q in (ap as-wrote (e .0), e .1)
 
 pub job-once : (κs : Lfts 4) (a : Dens κs job-kinds.ps) (r r′ : ℕ) (s s′ : AtExit (endedOf 4 job-kinds.ps job-kinds.r) κs)
     → job.Post κs a r s → job.Post κs a r′ s′ → (r ≡ r′) × (s .1 .0 .now ≡ s′ .1 .0 .now) × (s .1 .1 .0 .now ≡ s′ .1 .1 .0 .now) × (s .1 .1 .1 .0 .now ≡ s′ .1 .1 .1 .0 .now)

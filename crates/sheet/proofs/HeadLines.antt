@@ -18,8 +18,8 @@ use Rattle.text.specs.Meaning.{Verdict, bigSheet, refuseIf, shapeLine, chainLin
 use Rattle.text.proofs.Lines.{line-text}
 use Rattle.sheet.specs.Place.{At, There, RefusedWith, VerdictAt, ChainAt, numbersOf, wordsOf}
 use Rattle.sheet.specs.Swaps.{padded}
-use Rattle.sheet.specs.Writer.{sheetChecks}
-use Rattle.sheet.proofs.Block.{firstFour, first-four}
+use Rattle.blocks.specs.Checks.{sheetChecks}
+use Rattle.blocks.proofs.Block.{firstFour, first-four}
 use Rattle.sheet.proofs.LinesAt.{line-fields}
 
 -- a step that refused, answered by a struct with that number and place

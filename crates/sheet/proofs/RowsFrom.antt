@@ -135,10 +135,6 @@ row-at bytes count n i p h inside t =
           rw (b .1, found) (b .0, e₂, e₃);
     })
 
--- the room that the rows left need: one row less
-pub room-left : (count n i : ℕ) → i < count → (count - i) * n ≡ n + (count - (i + 1)) * n
-room-left count n i h = let a : count - i ≡ suc (count - (i + 1)) = omega arith in rw a (omega arith)
-
 ended-words : (k : ℕ) (bs : List ℕ) → wordsOf (ended k bs) ≡ []
 unfolding ended
 ended-words k [] = refl

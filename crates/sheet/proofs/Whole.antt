@@ -11,7 +11,8 @@ use Rattle.text.specs.Meaning.{Outcome, shapeLine, chainLine, rowLines, meaning
 use Rattle.text.proofs.Accepted.{ShapeRead, shape-read}
 use Rattle.text.proofs.Rows.{rows-text, rows-volume}
 use Rattle.sheet.specs.declared.Sheet.{Sheet}
-use Rattle.sheet.specs.Place.{OnSheet, VerdictAt, ChainAt, RowsTaken, wordsOf}
+use Rattle.blocks.specs.OnSheet.{OnSheet}
+use Rattle.sheet.specs.Place.{VerdictAt, ChainAt, RowsTaken, wordsOf}
 use Rattle.sheet.specs.Reader.{refusal, answer, kept, ReadAs}
 
 read-refused : {buffer bytes : List ℕ} {number place : ℕ} {answered : Sheet} → meaning buffer bytes ≡ Outcome.refused number place

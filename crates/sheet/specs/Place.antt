@@ -6,8 +6,6 @@ use mathlib.Core.List.{List, []}
 use Prim.Native.Nat.{ℕ, _≤_}
 use lib.ListN.{length, drop}
 use lib.Seq.{sets}
-use Rattle.layout.specs.Layout.{volume}
-use Rattle.refusals.specs.Conditions.{badLength}
 use Rattle.text.specs.Read.{Reading}
 use Rattle.text.specs.Meaning.{Verdict}
 use Rattle.sheet.specs.Swaps.{padded}
@@ -57,12 +55,6 @@ pub record RowsTaken (what : Verdict) (line : ℕ) (words words′ : List ℕ) :
   pub judged : RowsAt what line
   pub stored : line ≡ 0 → words′ ≡ sets words 0 (wordsOf what)
   pub kept : (line ≡ 0 → ⊥) → words′ ≡ words
-
--- a block that a sheet may have, for which the word buffer has room
-pub record OnSheet (ds words : List ℕ) : Type 0 where
-  pub lengths : badLength ds ≡ false
-  pub few : volume ds ≤ 1024
-  pub enough : volume ds ≤ length words
 
 -- a refusal with the number k and the place p; no bytes follow it
 pub record RefusedWith (k p number place next : ℕ) : Type 0 where

@@ -1,5 +1,4 @@
 // Lines 1 and 2 of a sheet with their checks: private to the library.
-use crate::check;
 use crate::line;
 use crate::values;
 ghost use Prim.Native.Nat.{_≤_};
@@ -60,7 +59,7 @@ pub(crate) fn shape_at(bytes: &[u8], words: &[u32]) -> Shape
     }
     let v = values::values_at(bytes, 5, 4);
     let lens = [v[0], v[1], v[2], v[3]];
-    let number = check::sheet_number(&lens, words);
+    let number = blocks::sheet_number(&lens, words);
     if number != 0 {
         return no_shape(number, 0);
     }

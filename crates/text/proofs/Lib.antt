@@ -6,6 +6,8 @@ pub mod Numbers
 pub mod Lines
 -- what a verdict that went on says of those it was made of
 pub mod Steps
+-- a run of stores, and one store more
+pub mod Stores
 -- rows are read exactly where their text stands
 pub mod Rows
 -- a sheet is accepted exactly when it is the text of what it is answered with
