@@ -8,8 +8,8 @@ pub mod LinesAt
 pub mod RowsFrom
 -- lines 1 and 2, way out by way out
 pub mod HeadLines
--- the whole sheet from its steps, and what the reader then promises
-pub mod Whole
+-- the whole sheet from its steps, and what each reader makes of it
+pub mod FromSteps
 -- any two outcomes of a call coincide
 pub mod OneOutcome
 -- the reader's number is 0 exactly when the sheet is right

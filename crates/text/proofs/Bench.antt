@@ -8,7 +8,7 @@ use Rattle.text.specs.Read.{Reading, readMore, readNumber, readField, re
 use Rattle.layout.specs.Layout.{volume}
 use Rattle.refusals.specs.Conditions.{firstPlace}
 use Rattle.text.specs.Sheet.{shapeWord, chainWord, rowWord, rowCount, rowWidth, rowsText, sheetText}
-use Rattle.text.specs.Meaning.{Outcome, shapeLine, chainLine, rowLines, ended, meaning}
+use Rattle.text.specs.Meaning.{Outcome, shapeLine, chainLine, rowLines, ended, meaning, meaningBy}
 
 printed : decimal 4294967295 ≡ 52 ∷ 50 ∷ 57 ∷ 52 ∷ 57 ∷ 54 ∷ 55 ∷ 50 ∷ 57 ∷ 53 ∷ []
 unfolding decimal digits
@@ -84,5 +84,5 @@ as-read : cases
     ∷ Outcome.refused 10 2
     ∷ []
 unfolding example sheetText rowsText rowCount rowWidth volume line fields field decimal digits
-    meaning shapeLine chainLine rowLines ended readLine readFields readField readNumber readMore closed tabs firstPlace
+    meaningBy shapeLine chainLine rowLines ended readLine readFields readField readNumber readMore closed tabs firstPlace
 as-read = refl

@@ -10,8 +10,10 @@ pub mod Steps
 pub mod Stores
 -- rows are read exactly where their text stands
 pub mod Rows
--- a sheet is accepted exactly when it is the text of what it is answered with
+-- a sheet is accepted exactly when it is the text of what it is answered with, whatever its second line is
 pub mod Accepted
+-- the second lines of a sheet and of a result sheet, and which of the two are accepted
+pub mod SecondLines
 -- the result sheet of 1,024 words has at most 16,384 bytes
 pub mod Length
 -- a refusal's number and place fit a line of a sheet
