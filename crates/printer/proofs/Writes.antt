@@ -5,10 +5,12 @@ use mathlib.Core.List.{List, [], _∷_}
 use Prim.Native.Nat.{ℕ, _<_, _≤_}
 use native.Mathlib.Omega.{arith}
 use lib.ListN.{length}
-use borrow.Author.Tests.{lt-ltb, le-ltb}
+use lib.Dec.{lit<}
+use borrow.Author.Tests.{lt-ltb, le-ltb, ltb-false}
 use Rattle.layout.specs.Layout.{volume}
 use Rattle.refusals.specs.FirstOf.{check, firstOf}
 use Rattle.refusals.specs.Conditions.{badLength, shortBuffer, noOrder}
+use Rattle.refusals.proofs.Conditions.{passed}
 use Rattle.text.specs.Sheet.{resultText}
 use Rattle.text.specs.Meaning.{bigSheet}
 use Rattle.printer.specs.declared.Written.{Written}
@@ -61,3 +63,22 @@ module _ {ds words : List ℕ} (h : OnSheet ds words) where
   pub accepted : {order : ℕ} {out : List ℕ} {next : ℕ} {out′ : List ℕ} → order ≤ 23 → length (resultText ds order words) ≤ length out
       → Put out 0 (resultText ds order words) next out′ → WrittenAs ds order words out (record { number = 0; count = next }) out′
   accepted {order} {out} k f q = let p = all-written (number-0 order out k f) f q in record { answers = p .0; bytes = p .1 }
+
+-- where nothing refuses, the block may stand on a sheet, the order number is one of the 24, and the text fits
+pub record Wrote (ds : List ℕ) (order : ℕ) (words out : List ℕ) : Type 0 where
+  pub block : OnSheet ds words
+  pub known : order ≤ 23
+  pub room : length (resultText ds order words) ≤ length out
+
+pub wrote : (ds : List ℕ) (order : ℕ) (words out : List ℕ) → writerNumber ds order words out ≡ 0 → Wrote ds order words out
+wrote ds order words out e =
+    let p = passed (badLength ds) 1 _ (lit< tt) e in
+    let q = passed (bigSheet ds) 11 _ (lit< tt) (p .1) in
+    let r = passed (shortBuffer ds words) 3 _ (lit< tt) (q .1) in
+    let s = passed (noOrder 4 order) 7 _ (lit< tt) (r .1) in
+    let t = passed (shortBytes (resultText ds order words) out) 24 0 (lit< tt) (s .1) in
+    record {
+      block = record { lengths = p .0; few = ltb-false 1024 (volume ds) (q .0); enough = ltb-false (length words) (volume ds) (r .0) };
+      known = ltb-false 23 order (s .0);
+      room = ltb-false (length out) (length (resultText ds order words)) (t .0);
+    }

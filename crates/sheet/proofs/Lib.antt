@@ -14,3 +14,5 @@ pub mod FromSteps
 pub mod OneOutcome
 -- the reader's number is 0 exactly when the sheet is right
 pub mod RightSheets
+-- a result sheet is accepted exactly when it is right; where it is refused, the place is the first line at fault
+pub mod RightResults

@@ -3,7 +3,13 @@ use mathlib.Core.Path.{_≡_, sym, _∙_}
 use mathlib.Core.List.{List}
 use Prim.Native.Nat.{ℕ}
 use Rattle.sheet.specs.declared.Sheet.{Sheet}
+use Rattle.sheet.specs.declared.ResultSheet.{ResultSheet}
 use Rattle.sheet.specs.Reader.{ReadAs}
+use Rattle.sheet.specs.ResultReader.{ResultReadAs}
 
 pub read-once : {buffer bytes : List ℕ} {r r′ : Sheet} {w w′ : List ℕ} → ReadAs buffer bytes r w → ReadAs buffer bytes r′ w′ → (r ≡ r′) × (w ≡ w′)
 read-once p q = (p .answers ∙ sym (q .answers), p .words ∙ sym (q .words))
+
+pub read-result-once : {buffer bytes : List ℕ} {r r′ : ResultSheet} {w w′ : List ℕ} → ResultReadAs buffer bytes r w → ResultReadAs buffer bytes r′ w′
+    → (r ≡ r′) × (w ≡ w′)
+read-result-once p q = (p .answers ∙ sym (q .answers), p .words ∙ sym (q .words))
