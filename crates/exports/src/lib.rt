@@ -3,11 +3,12 @@ ghost use Rattle.passes.specs.Promises.{TurnPromise, TurnBackPromise};
 ghost use Rattle.halves.specs.Promise.{TurnPromise as HalvesPromise};
 ghost use Rattle.axes.specs.Promises.{ChainPromise, RequestPromise, PlanPromise};
 ghost use Rattle.sheet.specs.Reader.{ReadAs};
+ghost use Rattle.sheet.specs.ResultReader.{ResultReadAs};
 ghost use Rattle.printer.specs.Writer.{WrittenAs};
 ghost use Rattle.job.specs.Job.{Done};
 ghost use Rattle.home.specs.Promise.{RepeatsPromise};
 ghost use Rattle.cameras.specs.Promises.{RemovePromise, AddPromise};
-ghost use Rattle.exports.specs.Records.{answered, planned, sheetRead, sheetWritten, homeAfter};
+ghost use Rattle.exports.specs.Records.{answered, planned, sheetRead, sheetWritten, homeAfter, resultRead};
 
 // The lengths of four axes, last axis fastest.
 #[repr(C)]
@@ -55,6 +56,15 @@ pub struct Written {
 pub struct Home {
     pub number: u32,
     pub count: usize,
+}
+
+// What the reader of result sheets answers.
+#[repr(C)]
+pub struct ResultSheet {
+    pub number: u32,
+    pub place: usize,
+    pub lens: [usize; 4],
+    pub order: usize,
 }
 
 // The flat turn of m by n by passes.
@@ -224,4 +234,19 @@ pub extern "C" fn zib_add_camera(
     ensures { λ r. ⌜ AddPromise frames cameras column (now (words .entry)) (now (buf .entry)) r (now (buf .exit)) ⌝ }
 {
     cameras::add(buf, frames, cameras, column, words)
+}
+
+// Reads a result sheet into a word buffer.
+#[no_mangle]
+pub extern "C" fn zib_read_result(bytes: &[u8], words: &mut [u32]) -> ResultSheet
+    ensures { λ r. ⌜ ResultReadAs (now (words .entry)) (now (bytes .entry)) (resultRead r) (now (words .exit)) ⌝ }
+{
+    let s = sheet::read_result(bytes, words);
+    let lens = s.lens;
+    ResultSheet {
+        number: s.number,
+        place: s.place,
+        lens: lens,
+        order: s.order,
+    }
 }

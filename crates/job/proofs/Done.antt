@@ -77,8 +77,8 @@ module _ {bytes words scratch out : List ℕ} {r : Sheet} {words₁ ws : List �
       words = le-ltb 1048576 (volume ds) (omega (arith, t .right .few-words));
       buffer = le-ltb (length words₁) (volume ds) (omega (arith, same, t .right .few-words));
     };
-    short = le-ltb 32 (length (swapsOf r)) (t .right .few-swaps);
-    swaps = t .right .swaps;
+    short = le-ltb 32 (length (swapsOf r)) (t .right .second .few-swaps);
+    swaps = t .right .second .swaps;
     room = omega (arith, chain-few ds (swapsOf r), longest-le-volume ds (t .right .lengths), t .right .few-words);
   }
 

@@ -11,11 +11,13 @@ use Rattle.axes.specs.declared.Planned.{Planned as Below-Planned}
 use Rattle.sheet.specs.declared.Sheet.{Sheet as Below-Sheet}
 use Rattle.printer.specs.declared.Written.{Written as Below-Written}
 use Rattle.home.specs.declared.Home.{Home as Below-Home}
+use Rattle.sheet.specs.declared.ResultSheet.{ResultSheet as Below-ResultSheet}
 use Rattle.exports.specs.declared.Answer.{Answer}
 use Rattle.exports.specs.declared.Planned.{Planned}
 use Rattle.exports.specs.declared.Sheet.{Sheet}
 use Rattle.exports.specs.declared.Written.{Written}
 use Rattle.exports.specs.declared.Home.{Home}
+use Rattle.exports.specs.declared.ResultSheet.{ResultSheet}
 use Rattle.passes.proofs.OneOutcome as passes
 use Rattle.halves.proofs.OneOutcome as halves
 use Rattle.axes.proofs.OneOutcome as axes-outcome
@@ -48,6 +50,8 @@ use Rattle.exports.proofs.zib_remove_camera.Kinds as remove-kinds
 use Rattle.exports.proofs.zib_remove_camera.Reads as remove
 use Rattle.exports.proofs.zib_add_camera.Kinds as add-kinds
 use Rattle.exports.proofs.zib_add_camera.Reads as add
+use Rattle.exports.proofs.zib_read_result.Kinds as read-result-kinds
+use Rattle.exports.proofs.zib_read_result.Reads as read-result
 
 -- a record of the interface from that of the call below, field by field
 abbrev as-answer : Below-Answer → Answer
@@ -61,6 +65,9 @@ as-sheet r = record { number = r .number; place = r .place; lens = r .lens; swap
 
 abbrev as-home : Below-Home → Home
 as-home r = record { number = r .number; count = r .count }
+
+abbrev as-result : Below-ResultSheet → ResultSheet
+as-result r = record { number = r .number; place = r .place; lens = r .lens; order = r .order }
 
 abbrev as-wrote : Below-Written → Written
 as-wrote r = record { number = r .number; count = r .count }
@@ -112,3 +119,7 @@ remove-camera-once κs a r r′ s s′ p q = cameras.remove-once (a .1 .0) (a .1
 pub add-camera-once : (κs : Lfts 2) (a : Dens κs add-kinds.ps) (r r′ : ℕ) (s s′ : AtExit (endedOf 2 add-kinds.ps add-kinds.r) κs)
     → add.Post κs a r s → add.Post κs a r′ s′ → (r ≡ r′) × (s .0 .now ≡ s′ .0 .now)
 add-camera-once κs a r r′ s s′ p q = cameras.add-once (a .1 .0) (a .1 .1 .0) (a .1 .1 .1 .0) p q
+
+pub read-result-once : (κs : Lfts 2) (a : Dens κs read-result-kinds.ps) (r r′ : ResultSheet) (s s′ : AtExit (endedOf 2 read-result-kinds.ps read-result-kinds.r) κs)
+    → read-result.Post κs a r s → read-result.Post κs a r′ s′ → (r ≡ r′) × (s .1 .0 .now ≡ s′ .1 .0 .now)
+read-result-once κs a r r′ s s′ p q = let e = sheets.read-result-once p q in (ap as-result (e .0), e .1)

@@ -12,12 +12,15 @@ use Rattle.blocks.specs.Checks.{sheetChecks}
 use Rattle.blocks.proofs.sheet_number.Kinds as sheet-number-kinds
 use Rattle.blocks.proofs.sheet_number.Reads as sheet-number
 use Rattle.sheet.specs.declared.Sheet.{Sheet}
+use Rattle.sheet.specs.declared.ResultSheet.{ResultSheet}
 use Rattle.printer.specs.declared.Written.{Written}
 use Rattle.sheet.proofs.OneOutcome as sheets
 use Rattle.printer.proofs.OneOutcome as prints
 use Rattle.job.proofs.OneOutcome as jobs
 use Rattle.sheet.proofs.read.Kinds as read-kinds
 use Rattle.sheet.proofs.read.Reads as read
+use Rattle.sheet.proofs.read_result.Kinds as read-result-kinds
+use Rattle.sheet.proofs.read_result.Reads as read-result
 use Rattle.printer.proofs.write.Kinds as write-kinds
 use Rattle.printer.proofs.write.Reads as write
 use Rattle.printer.proofs.write_refusal.Kinds as write-refusal-kinds
@@ -43,6 +46,10 @@ full-buffer-refused p = other-number p tt
 pub read-once : (κs : Lfts 2) (a : Dens κs read-kinds.ps) (r r′ : Sheet) (s s′ : AtExit (endedOf 2 read-kinds.ps read-kinds.r) κs)
     → read.Post κs a r s → read.Post κs a r′ s′ → (r ≡ r′) × (s .1 .0 .now ≡ s′ .1 .0 .now)
 read-once κs a r r′ s s′ p q = sheets.read-once p q
+
+pub read-result-once : (κs : Lfts 2) (a : Dens κs read-result-kinds.ps) (r r′ : ResultSheet) (s s′ : AtExit (endedOf 2 read-result-kinds.ps read-result-kinds.r) κs)
+    → read-result.Post κs a r s → read-result.Post κs a r′ s′ → (r ≡ r′) × (s .1 .0 .now ≡ s′ .1 .0 .now)
+read-result-once κs a r r′ s s′ p q = sheets.read-result-once p q
 
 pub write-once : (κs : Lfts 2) (a : Dens κs write-kinds.ps) (r r′ : Written) (s s′ : AtExit (endedOf 2 write-kinds.ps write-kinds.r) κs)
     → write.Post κs a r s → write.Post κs a r′ s′ → (r ≡ r′) × (s .1 .1 .1 .0 .now ≡ s′ .1 .1 .1 .0 .now)
