@@ -22,6 +22,7 @@ pub mod RefutedChain
 pub mod RefutedRequest
 pub mod RefutedPlan
 pub mod RefutedRead
+pub mod RefutedResult
 pub mod RefutedWrite
 pub mod RefutedJob
 -- the count of repeats: one outcome, and wrong ones refuted

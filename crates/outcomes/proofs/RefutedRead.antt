@@ -17,7 +17,7 @@ use Rattle.sheet.specs.declared.Sheet.{Sheet}
 use Rattle.sheet.specs.Reader.{answer, kept, ReadAs}
 use Rattle.outcomes.proofs.Wrong.{other-number, other-list}
 
-abbrev buffer : List ℕ
+abbrev pub buffer : List ℕ
 buffer = replicate 7 9
 
 abbrev right : List ℕ
@@ -76,13 +76,13 @@ pub record Case : Type 0 where
   pub number : ℕ
   pub place : ℕ
 
-abbrev case : List ℕ → ℕ → ℕ → Case
+abbrev pub case : List ℕ → ℕ → ℕ → Case
 case b k l = record { bytes = b; number = k; place = l }
 
-abbrev shape : List ℕ → List ℕ
+abbrev pub shape : List ℕ → List ℕ
 shape ds = line shapeWord ds
 
-abbrev good : List ℕ
+abbrev pub good : List ℕ
 good = shape (1 ∷ 1 ∷ 1 ∷ 1 ∷ [])
 
 -- a row `007`, a last line that is not closed, an LF too many and its place; then, of each two neighbours of the reading order that can
@@ -102,11 +102,11 @@ cases =
     ∷ []
 
 -- a sheet is refused with this number and this place, as a test
-abbrev refusedAs : ℕ → ℕ → Outcome → Bool
+abbrev pub refusedAs : ℕ → ℕ → Outcome → Bool
 refusedAs number place (Outcome.refused k l) = eqb k number && eqb l place
 refusedAs number place (Outcome.accepted ds chain words) = false
 
-refused-as : (number place : ℕ) (o : Outcome) → T (refusedAs number place o) → o ≡ Outcome.refused number place
+pub refused-as : (number place : ℕ) (o : Outcome) → T (refusedAs number place o) → o ≡ Outcome.refused number place
 refused-as number place (Outcome.refused k l) t =
     ap₂ Outcome.refused (eqb→eq k number (both-left (eqb k number) (eqb l place) t)) (eqb→eq l place (both-right (eqb k number) (eqb l place) t))
 refused-as number place (Outcome.accepted ds chain words) t = absurd t

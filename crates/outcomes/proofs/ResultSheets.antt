@@ -7,6 +7,10 @@ use Prim.Native.Nat.{ℕ, _≤_}
 use native.Mathlib.Omega.{arith}
 use lib.ListN.{length, take, drop}
 use lib.Seq.{take-at, length-take-le}
+use contract.Lifetimes.{Lfts}
+use denote.Triple.Clauses.{AtExit}
+use borrow.Author.Needs.{needs}
+use borrow.Fn.Kinds.{endedOf, Dens, GoodsP}
 use Rattle.layout.specs.Layout.{volume}
 use Rattle.text.specs.Sheet.{resultText}
 use Rattle.text.proofs.Lines.{Small}
@@ -19,6 +23,10 @@ use Rattle.sheet.specs.ResultReader.{ResultReadAs}
 use Rattle.sheet.proofs.RightResults.{found, right-is-read, ReadRight, read-is-right}
 use Rattle.printer.specs.declared.Written.{Written}
 use Rattle.printer.specs.Writer.{writerNumber, WrittenAs}
+use Rattle.printer.proofs.write.Kinds as write-kinds
+use Rattle.printer.proofs.write.Reads as write
+use Rattle.sheet.proofs.read_result.Kinds as read-kinds
+use Rattle.sheet.proofs.read_result.Reads as read
 use Rattle.printer.proofs.Writes.{Wrote, wrote, number-0}
 use Rattle.printer.proofs.InFull.{in-full}
 
@@ -68,3 +76,67 @@ read-is-written {buffer} {bytes} {r} {buffer′} {words} {out} {w} {out′} p z 
     number-0 {words = words} (record { lengths = h .lengths; few = h .few-words; enough = enough }) (r .order) out (h .second .known) (rw text at room) in
     let full = in-full (resultText (r .lens) (r .order) words) out n (q .answers) (q .bytes) in
     (ap (λ (s : Written). s .number) (q .answers) ∙ n, rw text (full .0), rw text (full .1))
+
+-- a call of `write`: the arguments at entry, what the checker knows of them, the answer and the slices at exit
+pub record Writing : Type 1 where
+  pub κs : Lfts 2
+  pub args : Dens κs write-kinds.ps
+  pub good : GoodsP κs write-kinds.ps args
+  pub answer : Written
+  pub exit : AtExit (endedOf 2 write-kinds.ps write-kinds.r) κs
+  pub post : write.Post κs args answer exit
+
+-- a call of `read_result`
+pub record Loading : Type 1 where
+  pub κs : Lfts 2
+  pub args : Dens κs read-kinds.ps
+  pub answer : ResultSheet
+  pub exit : AtExit (endedOf 2 read-kinds.ps read-kinds.r) κs
+  pub post : read.Post κs args answer exit
+
+abbrev pub lengths : Writing → List ℕ
+lengths c = c .args .0
+
+abbrev pub order : Writing → ℕ
+order c = c .args .1 .0
+
+abbrev pub words : Writing → List ℕ
+words c = c .args .1 .1 .0 .now
+
+abbrev pub out : Writing → List ℕ
+out c = c .args .1 .1 .1 .0 .now
+
+abbrev pub outAfter : Writing → List ℕ
+outAfter c = c .exit .1 .1 .1 .0 .now
+
+abbrev pub bytes : Loading → List ℕ
+bytes c = c .args .0 .now
+
+abbrev pub buffer : Loading → List ℕ
+buffer c = c .args .1 .0 .now
+
+abbrev pub bufferAfter : Loading → List ℕ
+bufferAfter c = c .exit .1 .0 .now
+
+four : (c : Writing) → length (lengths c) ≡ 4
+four c = let g = c .good in search needs
+
+-- what the call promises, under other names of its entry
+loaded : (c : Loading) {text : List ℕ} → bytes c ≡ text → ResultReadAs (buffer c) text (c .answer) (bufferAfter c)
+loaded c e = rw (← e) (c .post)
+
+wrote-for : (c : Writing) {ds : List ℕ} {k : ℕ} → lengths c ≡ ds → order c ≡ k → WrittenAs ds k (words c) (out c) (c .answer) (outAfter c)
+wrote-for c e f = rw (← e, ← f) (c .post)
+
+-- what was written, whatever stands behind it cut off, loads with the same lengths, order number and words; words have 32 bits
+pub comes-back : (w : Writing) (r : Loading) → Small (words w) → w .answer .number ≡ 0 → bytes r ≡ take (w .answer .count) (outAfter w)
+    → volume (lengths w) ≤ length (buffer r)
+    → (r .answer ≡ found (lengths w) (order w)) × (bufferAfter r ≡ take (volume (lengths w)) (words w) ++ drop (volume (lengths w)) (buffer r))
+comes-back w r small z e room = written-is-read (four w) small (w .post) z room (loaded r e)
+
+-- what loads is written for the loaded values byte for byte
+pub goes-out : (r : Loading) (w : Writing) → r .answer .number ≡ 0 → lengths w ≡ r .answer .lens → order w ≡ r .answer .order
+    → volume (r .answer .lens) ≤ length (words w) → take (volume (r .answer .lens)) (words w) ≡ take (volume (r .answer .lens)) (bufferAfter r)
+    → length (bytes r) ≤ length (out w)
+    → (w .answer .number ≡ 0) × (w .answer .count ≡ length (bytes r)) × (outAfter w ≡ bytes r ++ drop (length (bytes r)) (out w))
+goes-out r w z e f enough same room = read-is-written (r .post) z enough same room (wrote-for w e f)
