@@ -315,9 +315,10 @@ fn jobs_by_calls(t: &mut Bench, r: &mut Random) {
         let text = sheet(&random_sheet(r, 6));
         let told = job(&text, &[0; 1024], &[0; 1024]).0;
         let outcome = by_calls(t, &text);
-        t.verdict(outcome == Ok(told), || format!("three calls on {:?}", String::from_utf8_lossy(&text)));
+        t.verdict(outcome.as_ref() == Ok(&told), || format!("three calls on {:?}", String::from_utf8_lossy(&text)));
+        results::try_read(t, &told, &r.words(1024));
     }
-    t.group("whole jobs by three calls");
+    t.group("whole jobs by three calls; each result sheet is read back");
 }
 
 fn by_calls(t: &mut Bench, text: &[u8]) -> Result<Vec<u8>, String> {
