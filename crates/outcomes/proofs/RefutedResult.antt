@@ -5,7 +5,6 @@ use mathlib.Core.Bool.{Bool, true}
 use mathlib.Core.List.{List, [], _∷_, _++_, List·Memᴰ}
 use Prim.Native.Nat.{ℕ}
 use lib.Dec.{T}
-use lib.ListN.{replicate}
 use Rattle.lists.proofs.Test.{every, at-entry}
 use Rattle.layout.specs.Layout.{volume}
 use Rattle.text.specs.Print.{digits, decimal, field, fields, line}

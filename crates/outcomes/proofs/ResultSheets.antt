@@ -3,6 +3,7 @@
 -- source. From the law of accepted result sheets: both calls speak of one text.
 use mathlib.Core.Path.{_≡_, refl, sym, ap, _∙_}
 use mathlib.Core.List.{List, [], _∷_, _++_}
+use mathlib.Core.Logic.{_↔_}
 use Prim.Native.Nat.{ℕ, _≤_}
 use native.Mathlib.Omega.{arith}
 use lib.ListN.{length, take, drop}
@@ -20,14 +21,14 @@ use Rattle.text.proofs.SecondLines.{RightResult}
 use Rattle.blocks.specs.OnSheet.{OnSheet}
 use Rattle.sheet.specs.declared.ResultSheet.{ResultSheet}
 use Rattle.sheet.specs.ResultReader.{ResultReadAs}
-use Rattle.sheet.proofs.RightResults.{found, right-is-read, ReadRight, read-is-right}
+use Rattle.sheet.proofs.RightResults.{found, right-is-read, read-is-right}
 use Rattle.printer.specs.declared.Written.{Written}
 use Rattle.printer.specs.Writer.{writerNumber, WrittenAs}
 use Rattle.printer.proofs.write.Kinds as write-kinds
 use Rattle.printer.proofs.write.Reads as write
 use Rattle.sheet.proofs.read_result.Kinds as read-kinds
 use Rattle.sheet.proofs.read_result.Reads as read
-use Rattle.printer.proofs.Writes.{Wrote, wrote, number-0}
+use Rattle.printer.proofs.Writes.{wrote, number-0}
 use Rattle.printer.proofs.InFull.{in-full}
 
 -- a text of the writer is right for a reader that is lent at least the block's words
@@ -76,6 +77,47 @@ read-is-written {buffer} {bytes} {r} {buffer′} {words} {out} {w} {out′} p z 
     number-0 {words = words} (record { lengths = h .lengths; few = h .few-words; enough = enough }) (r .order) out (h .second .known) (rw text at room) in
     let full = in-full (resultText (r .lens) (r .order) words) out n (q .answers) (q .bytes) in
     (ap (λ (s : Written). s .number) (q .answers) ∙ n, rw text (full .0), rw text (full .1))
+
+-- a text that the writer writes, of a block for which the word buffer has room
+pub record WriterText (buffer bytes : List ℕ) : Type 0 where
+  pub ds : List ℕ
+  pub order : ℕ
+  pub words : List ℕ
+  pub out : List ℕ
+  pub four : length ds ≡ 4
+  pub small : Small words
+  pub room : volume ds ≤ length buffer
+  pub accepted : writerNumber ds order words out ≡ 0
+  pub text : bytes ≡ resultText ds order words
+
+-- the reader accepts exactly the writer's texts
+pub accepts-exactly : {buffer bytes : List ℕ} {r : ResultSheet} {buffer′ : List ℕ} → ResultReadAs buffer bytes r buffer′ → (r .number ≡ 0) ↔ WriterText buffer bytes
+unfolding resultText
+accepts-exactly {buffer} {bytes} {r} {buffer′} p = (forth, back)
+  where
+    forth : r .number ≡ 0 → WriterText buffer bytes
+    forth z =
+        let h = read-is-right p z .right in
+        record {
+          ds = r .lens;
+          order = r .order;
+          words = take (volume (r .lens)) buffer′;
+          out = bytes;
+          four = h .axes;
+          small = h .small;
+          room = h .room;
+          accepted =
+              number-0 {words = take (volume (r .lens)) buffer′}
+              (record { lengths = h .lengths; few = h .few-words; enough = omega (arith, h .block) }) (r .order) bytes (h .second .known)
+              (omega (arith, ap length (h .text)));
+          text = h .text;
+        }
+
+    back : WriterText buffer bytes → r .number ≡ 0
+    back t =
+        let w = wrote (t .ds) (t .order) (t .words) (t .out) (t .accepted) in
+        let read : ResultReadAs buffer (resultText (t .ds) (t .order) (t .words)) r buffer′ = rw (t .text) at p in
+        ap (λ (s : ResultSheet). s .number) (right-is-read read (text-right (t .four) (t .small) (w .block) (w .known) (t .room)) .0)
 
 -- a call of `write`: the arguments at entry, what the checker knows of them, the answer and the slices at exit
 pub record Writing : Type 1 where

@@ -1,7 +1,7 @@
 -- The whole sheet from its steps, whatever its second line is: the first step that refuses is the outcome, and where none does the
 -- sheet is accepted; what the function that both readers call then promises; and what each of the readers makes of it. From the definitions.
 use mathlib.Core.Path.{_≡_, refl, sym, ap, _∙_}
-use mathlib.Core.List.{List, [], _∷_, _++_}
+use mathlib.Core.List.{List, _++_}
 use Prim.Native.Nat.{ℕ, _+_, _-_, _≤_}
 use native.Mathlib.Omega.{arith}
 use lib.ListN.{length, drop, getD}

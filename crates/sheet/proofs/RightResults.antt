@@ -1,6 +1,6 @@
 -- The number of the reader of result sheets is 0 exactly when the bytes are the text of what it answers and stores; where it is not, the
 -- place is the first line at fault. From the laws of accepted and of refused result sheets.
-use mathlib.Core.Path.{_≡_, refl, sym, ap, _∙_}
+use mathlib.Core.Path.{_≡_, refl, ap, _∙_}
 use mathlib.Core.List.{List, [], _∷_, _++_}
 use Prim.Native.Nat.{ℕ}
 use native.Mathlib.Omega.{arith}

@@ -1,7 +1,7 @@
 -- A sheet is accepted exactly when its bytes are the text of lengths, numbers of a second line and words that pass the checks, and
 -- those are the ones answered; whatever the second line is, if it is read exactly where its text stands. Each step of the meaning is
 -- taken apart by the laws of steps, each line by the law of lines.
-use mathlib.Core.Path.{_≡_, refl, sym, ap, _∙_}
+use mathlib.Core.Path.{_≡_, sym, ap, _∙_}
 use mathlib.Core.Bool.{Bool, false}
 use mathlib.Core.List.{List, [], _∷_, _++_}
 use mathlib.Core.Logic.{_↔_}

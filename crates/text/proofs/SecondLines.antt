@@ -1,6 +1,6 @@
 -- The second line of a sheet and that of a result sheet are read exactly where their text stands; so a sheet is accepted exactly when it
 -- is the text of what it is answered with, and so is a result sheet. From the law of lines and the law of accepted sheets.
-use mathlib.Core.Path.{_≡_, refl, sym, ap, _∙_}
+use mathlib.Core.Path.{_≡_, refl, sym, ap}
 use mathlib.Core.Bool.{false}
 use mathlib.Core.List.{List, [], _∷_, _++_}
 use mathlib.Core.Logic.{_↔_}
@@ -15,7 +15,7 @@ use Rattle.text.specs.Sheet.{chainWord, orderWord}
 use Rattle.text.specs.Meaning.{Verdict, Outcome, refuseIf, onLine, onward, chainLine, orderLine, meaning, resultMeaning}
 use Rattle.text.proofs.Lines.{Small, Stands, line-then, line-text, text-line, tabs-fields}
 use Rattle.text.proofs.Steps.{refuse-go, on-line-go, onward-go}
-use Rattle.text.proofs.Accepted.{none-small, Second, RightBy, accepted-right-by, right-accepted-by, accepted-exactly-by}
+use Rattle.text.proofs.Accepted.{none-small, Second, RightBy, accepted-exactly-by}
 
 -- a chain that passes the checks of a sheet
 pub record GoodChain (chain : List ℕ) : Type 0 where
