@@ -1,5 +1,5 @@
--- The sheets and the whole job: any two outcomes that a contract allows from one entry coincide, answer and every lent slice. And a
--- wrong answer of the checks of a sheet's block.
+-- The sheets and the whole job: any two outcomes that a contract allows from one entry coincide, answer and every lent slice. And
+-- wrong answers of the checks of a sheet's block.
 use mathlib.Core.Path.{_≡_, sym, _∙_}
 use mathlib.Core.List.{[], _∷_}
 use Prim.Native.Nat.{ℕ}
