@@ -110,6 +110,29 @@ static void tiles(size_t m, size_t n, size_t r, size_t s) {
            m, n, r, s, least[0] / all, least[1] / all, least[2] / all, least[2] / least[0], least[3] / all, least[3] / least[1]);
 }
 
+/* The longest result sheet, 1,024 rows of one word of ten digits, written and read back, beside memmove of its bytes. */
+static void results(void) {
+    static uint8_t text[16384], copy[16384];
+    struct zib_shape shape = {{1024, 1, 1, 1}};
+    double least[3] = {1e18, 1e18, 1e18};
+    size_t bytes = 0;
+    for (size_t k = 0; k < 1024; k++) column[k] = UINT32_MAX;
+    for (int round = 0; round < ROUNDS; round++) {
+        double start = now();
+        bytes = zib_write_sheet(shape, 23, column, 1024, text, sizeof text).bytes;
+        double written = now();
+        zib_read_result(text, bytes, other, 1024);
+        double read = now();
+        memmove(copy, text, bytes);
+        __asm__ volatile("" ::: "memory");
+        double took[3] = {written - start, read - written, now() - read};
+        for (int w = 0; w < 3; w++)
+            if (took[w] < least[w]) least[w] = took[w];
+    }
+    printf("result sheet of %zu bytes: written %6.3f ns a byte, read back %6.3f, memmove %6.3f\n", bytes, least[0] / (double)bytes,
+           least[1] / (double)bytes, least[2] / (double)bytes);
+}
+
 int main(void) {
     printf("\nOther calls, least of %d rounds\n", ROUNDS);
     repeats(266, 3942); /* the longest count of any block */
@@ -120,5 +143,6 @@ int main(void) {
     tiles(1080, 960, 64, 64);
     tiles(1000, 1047, 16, 16);
     tiles(64, 16, 8, 8);
+    results();
     return 0;
 }

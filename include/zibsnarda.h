@@ -184,6 +184,21 @@ struct zib_sheet zib_read_sheet(const uint8_t *text, size_t text_bytes, uint32_t
 struct zib_written zib_write_sheet(struct zib_shape shape, size_t order, const uint32_t *words, size_t word_count, uint8_t *text,
                                    size_t text_bytes);
 
+/* What the reader of result sheets answers: lengths and order number. In a refusal all but number and place is 0. */
+struct zib_result {
+    uint32_t number;
+    size_t place;
+    size_t lengths[4];
+    size_t order;
+};
+
+/*
+ * Reads a result sheet, which is only read, and stores its words from the start of the word buffer, if the whole sheet is right.
+ * What zib_write_sheet wrote reads back the same, and every accepted sheet is the one that it writes for those values.
+ * Answers 0, or the first of 9, 10 (line 1), 1, 11, 3, 10 (line 2), 7, 10 (each row, then what is left over).
+ */
+struct zib_result zib_read_result(const uint8_t *text, size_t text_bytes, uint32_t *words, size_t word_count);
+
 /*
  * The whole job on a sheet, which is only read: its words, run through its chain, stand in `words` afterwards, and the
  * text of the result sheet from the start of `out`; words past the block stay. A refused sheet leaves words and scratch unchanged and writes one

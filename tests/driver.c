@@ -45,6 +45,7 @@ enum {
     ADD_CAMERA = 12,
     TO_TILES = 13,
     FROM_TILES = 14,
+    READ_RESULT = 15,
     /* these touch what they must not, to show that the guards bite */
     WRITE_PAST_END = 100,
     READ_PAST_END = 101,
@@ -122,6 +123,13 @@ static void give_written(struct zib_written w) {
 static void give_home(struct zib_home h) {
     give(h.number);
     give(h.count);
+}
+
+static void give_result(struct zib_result s) {
+    give(s.number);
+    give(s.place);
+    give_all(s.lengths, 4);
+    give(s.order);
 }
 
 static void make_rooms(void) {
@@ -202,6 +210,9 @@ static void run(uint64_t call) {
         break;
     case FROM_TILES:
         give(zib_from_tiles(words(0), word_count(0), words(1), word_count(1), numbers[0], numbers[1], numbers[2], numbers[3]));
+        break;
+    case READ_RESULT:
+        give_result(zib_read_result(buffers[0].at, buffers[0].bytes, words(1), word_count(1)));
         break;
     case WRITE_PAST_END:
         at[buffers[0].bytes] = 1;

@@ -16,6 +16,7 @@ pub const REMOVE_CAMERA: u64 = 11;
 pub const ADD_CAMERA: u64 = 12;
 pub const TO_TILES: u64 = 13;
 pub const FROM_TILES: u64 = 14;
+pub const READ_RESULT: u64 = 15;
 pub const WRITE_PAST_END: u64 = 100;
 pub const READ_PAST_END: u64 = 101;
 pub const WRITE_BEFORE_START: u64 = 102;

@@ -9,6 +9,7 @@ mod guards;
 mod random;
 mod reference;
 mod repeats;
+mod results;
 mod sheets;
 mod text;
 mod tiles;
@@ -21,7 +22,7 @@ fn main() {
     if short {
         command.remove(0);
     }
-    println!("seeds {} to {}{}", SEED, SEED + 5, if short { ", short form" } else { "" });
+    println!("seeds {} to {}{}", SEED, SEED + 6, if short { ", short form" } else { "" });
     let mut t = bench::Bench::new(driver::Driver::new(&command), short);
     guards::all(&mut t);
     flat::all(&mut t, SEED);
@@ -30,6 +31,7 @@ fn main() {
     repeats::all(&mut t, SEED + 3);
     cameras::all(&mut t, SEED + 4);
     tiles::all(&mut t, SEED + 5);
+    results::all(&mut t, SEED + 6);
     let well = t.driver.end();
     t.verdict(well, || "the driver did not end well".to_string());
     println!("{} passed, {} failed", t.passed, t.failed);

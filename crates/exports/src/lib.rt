@@ -3,12 +3,13 @@ ghost use Rattle.passes.specs.Promises.{TurnPromise, TurnBackPromise};
 ghost use Rattle.halves.specs.Promise.{TurnPromise as HalvesPromise};
 ghost use Rattle.axes.specs.Promises.{ChainPromise, RequestPromise, PlanPromise};
 ghost use Rattle.sheet.specs.Reader.{ReadAs};
-ghost use Rattle.sheet.specs.Writer.{WrittenAs};
+ghost use Rattle.sheet.specs.ResultReader.{ResultReadAs};
+ghost use Rattle.printer.specs.Writer.{WrittenAs};
 ghost use Rattle.job.specs.Job.{Done};
 ghost use Rattle.home.specs.Promise.{RepeatsPromise};
 ghost use Rattle.cameras.specs.Promises.{RemovePromise, AddPromise};
 ghost use Rattle.tiles.specs.Promises.{ToTilesPromise, FromTilesPromise};
-ghost use Rattle.exports.specs.Records.{answered, planned, sheetRead, sheetWritten, homeAfter};
+ghost use Rattle.exports.specs.Records.{answered, planned, sheetRead, sheetWritten, homeAfter, resultRead};
 
 // The lengths of four axes, last axis fastest.
 #[repr(C)]
@@ -56,6 +57,15 @@ pub struct Written {
 pub struct Home {
     pub number: u32,
     pub count: usize,
+}
+
+// What the reader of result sheets answers.
+#[repr(C)]
+pub struct ResultSheet {
+    pub number: u32,
+    pub place: usize,
+    pub lens: [usize; 4],
+    pub order: usize,
 }
 
 // The flat turn of m by n by passes.
@@ -168,7 +178,7 @@ pub extern "C" fn zib_write_sheet(
     ensures { λ r. ⌜ WrittenAs (shape .lens) order (now (words .entry)) (now (out .entry)) (sheetWritten r) (now (out .exit)) ⌝ }
 {
     let lens = shape.lens;
-    let w = sheet::write(lens, order, words, out);
+    let w = printer::write(lens, order, words, out);
     Written {
         number: w.number,
         count: w.count,
@@ -255,4 +265,19 @@ pub extern "C" fn zib_from_tiles(
     ensures { λ t. ⌜ FromTilesPromise m n r s (now (buf .entry)) (now (scratch .entry)) t (now (buf .exit)) (now (scratch .exit)) ⌝ }
 {
     tiles::from_tiles(buf, scratch, m, n, r, s)
+}
+
+// Reads a result sheet into a word buffer.
+#[no_mangle]
+pub extern "C" fn zib_read_result(bytes: &[u8], words: &mut [u32]) -> ResultSheet
+    ensures { λ r. ⌜ ResultReadAs (now (words .entry)) (now (bytes .entry)) (resultRead r) (now (words .exit)) ⌝ }
+{
+    let s = sheet::read_result(bytes, words);
+    let lens = s.lens;
+    ResultSheet {
+        number: s.number,
+        place: s.place,
+        lens: lens,
+        order: s.order,
+    }
 }
