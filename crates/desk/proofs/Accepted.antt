@@ -1,4 +1,5 @@
--- What the checks of each call tell of its numbers where none holds: readings and shifts within their limits, counts in range.
+-- What the checks of each call tell of its numbers where none holds: readings and shifts within their limits, counts in range. Each check in
+-- turn is passed.
 use mathlib.Core.Path.{_≡_}
 use mathlib.Core.Bool.{Bool, false}
 use mathlib.Core.List.{List, [], _∷_}
@@ -8,10 +9,10 @@ use native.Mathlib.Omega.{arith}
 use lib.Dec.{eqb, ltb, lit<}
 use lib.ListN.{length}
 use lib.IntN.{ℤ, pos, natAbs}
-use borrow.Author.Tests.{eqb-true, eqb-false, ltb-false, not-false}
+use borrow.Author.Tests.{eqb-true, eqb-false, eq-eqb, ltb-false, le-ltb, not-false}
 use Rattle.refusals.specs.FirstOf.{firstOf}
 use Rattle.refusals.specs.Conditions.{some, outOfRange, badLength}
-use Rattle.refusals.proofs.Some.{either-false}
+use Rattle.refusals.proofs.Some.{either-false, none-some}
 use Rattle.refusals.proofs.Conditions.{passed, ranged}
 use Rattle.signed.specs.Signed.{beyond}
 use Rattle.desk.specs.Exchange.{reading}
@@ -33,6 +34,13 @@ measured run e =
     let p = passed (badRun four run) 26 _ (lit< tt) e in
     let q = passed (farReading run) 18 0 (lit< tt) (p .1) in
     record { near = all-near (2 ^ 60) run (q .0); four = eqb-true (length run) 4 (not-false (four (length run)) (p .0)) }
+
+-- and the other way: a run of near readings has none that is far, and four of them are accepted
+pub none-far : (run : List ℤ) → ((k : ℕ) → natAbs (reading run k) ≤ 2 ^ 60) → farReading run ≡ false
+none-far run near = none-some (pos 0) (beyond (2 ^ 60)) run (λ k _. le-ltb (2 ^ 60) (natAbs (reading run k)) (near k))
+
+pub measures : (run : List ℤ) → FourNear run → firstOf (measureChecks run) ≡ 0
+measures run f = rw (eq-eqb (length run) 4 (f .four), none-far run (f .near))
 
 -- to frames
 pub record TicksNear (offset : ℤ) (ticks : ℕ) : Type 0 where

@@ -30,9 +30,11 @@ module _ (run : List ℤ) (near : Near run) where
   pub difference-kept : (j k : ℕ) → toZ w64 (ofZ w64 (reading run j -ℤ reading run k)) ≡ reading run j -ℤ reading run k
   difference-kept j k = toZ-ofZ (difference-fits j k)
 
+  pub twice-near : natAbs (twiceOffset run) ≤ 2 ^ 62
+  twice-near = near-sum (2 ^ 61) (2 ^ 61) (reading run 1 -ℤ reading run 0) (reading run 2 -ℤ reading run 3) (apart 1 0) (apart 2 3)
+
   pub twice-fits : SFits w64 (twiceOffset run)
-  twice-fits =
-      small (omega (arith, near-sum (2 ^ 61) (2 ^ 61) (reading run 1 -ℤ reading run 0) (reading run 2 -ℤ reading run 3) (apart 1 0) (apart 2 3)))
+  twice-fits = small (omega (arith, twice-near))
 
   pub offset-fits : SFits w64 (offsetOf run)
   offset-fits = sfits-le (mag-shr (twiceOffset run) 2) twice-fits
