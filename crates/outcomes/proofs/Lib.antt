@@ -26,3 +26,6 @@ pub mod RefutedJob
 pub mod Repeats
 -- removing and adding a camera: one outcome, and wrong ones refuted
 pub mod Cameras
+-- the join desk: one outcome, and wrong ones refuted
+pub mod Desk
+pub mod RefutedDesk
