@@ -12,9 +12,8 @@ use mir.Facts.{toZ-ofZ}
 use mir.ValLaws.{sfits-le}
 use Rattle.signed.proofs.Ends.{near-sum, near-difference, small}
 use Rattle.desk.specs.Exchange.{reading, twiceOffset, offsetOf, delayOf}
-use Rattle.desk.specs.Near.{Near}
 
-module _ (run : List ℤ) (near : Near run) where
+module _ (run : List ℤ) (near : (k : ℕ) → natAbs (reading run k) ≤ 2 ^ 60) where
   pub reading-fits : (k : ℕ) → SFits w64 (reading run k)
   reading-fits k = small (omega (arith, near k))
 

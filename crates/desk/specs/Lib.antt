@@ -3,4 +3,3 @@ pub mod Frames
 pub mod Shifts
 pub mod Conditions
 pub mod Promises
-pub mod Near
