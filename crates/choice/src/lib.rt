@@ -1,7 +1,9 @@
 // The choice of an exchange from two runs of readings, one a network path.
+mod parts;
 mod paths;
 mod search;
 
+use parts::exchange_of;
 use paths::chosen_at;
 ghost use Rattle.choice.specs.Promises.{ChosenAs, NumberAs};
 
@@ -16,12 +18,10 @@ pub fn choose<'a>(first: &'a [i64], second: &'a [i64]) -> &'a [i64]
     if number != 0 {
         return &first[..0];
     }
-    let at = 4 * exchange;
-    let end = at + 4;
     if path == 0 {
-        return &first[at..end];
+        return exchange_of(first, exchange);
     }
-    &second[at..end]
+    exchange_of(second, exchange)
 }
 
 // The number of that choice, 0 where it was accepted.

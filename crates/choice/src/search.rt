@@ -1,4 +1,5 @@
 // The usable exchange of a run with the smallest delay.
+use crate::parts::exchange_of;
 ghost use mathlib.Core.Path.{_≡_};
 ghost use mathlib.Core.Bool.{false};
 ghost use Rattle.desk.specs.Conditions.{farReading};
@@ -34,9 +35,7 @@ pub(crate) fn best(run: &[i64]) -> Held
     let mut least: i64 = -1;
     let mut j = 0;
     while j < n {
-        let at = 4 * j;
-        let end = at + 4;
-        let m = desk::offset_delay(&run[at..end]);
+        let m = desk::offset_delay(exchange_of(run, j));
         let d = m.delay;
         if beats(d, least) {
             found = j;

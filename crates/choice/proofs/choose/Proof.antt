@@ -1,5 +1,5 @@
--- `choose` meets its contract: the empty start of the first run where it is refused, else the part of four readings from the place of the
--- exchange that was chosen, in the run that holds it.
+-- `choose` meets its contract: the empty start of the first run where it is refused, else the part that is the
+-- exchange that was chosen, of the run that holds it.
 use mathlib.Core.Path.{_≡_, refl, sym, _∙_}
 use mathlib.Core.List.{List}
 use mathlib.Core.Logic.{⊎-elim}
@@ -12,7 +12,6 @@ use Rattle.choice.specs.Choice.{FirstWins, SecondWins}
 use Rattle.choice.specs.Conditions.{chooseChecks}
 use Rattle.choice.specs.Promises.Four.{of-first, of-second}
 use Rattle.choice.specs.Search.{PlaceAs}
-use Rattle.choice.proofs.Exchanges.{exchange-is}
 use Rattle.choice.proofs.choose.Statement.{statement}
 use Rattle.choice.proofs.choose.Tie as tie
 
@@ -36,84 +35,39 @@ returns c =
       refused = λ _. record { readings = refl; block = refl; place = omega arith };
     }
 
-mul-at : tie.Need-mul-at
-mul-at c =
+exchange-of-requires : tie.Need-exchange-of-requires
+exchange-of-requires c κs =
     let e : tie.Else1 = search in
     let p : tie.After-chosen-at = search in
-    ⊎-elim (λ w. omega (arith, w .1 .best .within)) (λ w. omega (arith, w .1 .best .within)) (p .chosen-at .ensures .given (e .if1 .left))
-
-add-end : tie.Need-add-end
-add-end c =
-    let e : tie.Else1 = search in
-    let p : tie.After-chosen-at = search in
-    ⊎-elim (λ w. omega (arith, w .1 .best .within)) (λ w. omega (arith, w .1 .best .within)) (p .chosen-at .ensures .given (e .if1 .left))
-
-mul-result : tie.Need-mul-result
-mul-result c =
-    let e : tie.Else1 = search in
-    let p : tie.After-chosen-at = search in
-    omega (arith, on-first (p .chosen-at .ensures) (e .if1 .left) (c .if2 .taken) .best .within)
-
-part-result-end : tie.Need-part-result-end
-part-result-end c =
-    let e : tie.Else1 = search in
-    let p : tie.After-chosen-at = search in
-    omega (arith, on-first (p .chosen-at .ensures) (e .if1 .left) (c .if2 .taken) .best .within)
+    on-first (p .chosen-at .ensures) (e .if1 .left) (c .if2 .taken) .best .within
 
 returns-2 : tie.Need-returns-2
 returns-2 c =
+    let x : tie.After-exchange-of = search in
     let t : tie.Then2 = search in
     let e : tie.Else1 = search in
     let p : tie.After-chosen-at = search in
-    let s : tie.Start = search in
-    let j = p .chosen-at .result .exchange in
     record {
-      given = λ _. of-first j (on-first (p .chosen-at .ensures) (e .if1 .left) (t .if2 .taken))
-          (record { readings = exchange-is (s .args .first .now) j; block = refl; place = omega arith });
+      given = λ _. of-first (p .chosen-at .result .exchange) (on-first (p .chosen-at .ensures) (e .if1 .left) (t .if2 .taken)) (x .exchange-of .ensures);
       refused = not-refused (p .chosen-at .ensures) (e .if1 .left);
     }
 
-mul-result-2 : tie.Need-mul-result-2
-mul-result-2 c =
+exchange-of-requires-2 : tie.Need-exchange-of-requires-2
+exchange-of-requires-2 c κs =
     let e : tie.Else1 = search in
     let p : tie.After-chosen-at = search in
-    omega (arith, on-second (p .chosen-at .ensures) (e .if1 .left) (c .if2 .left) .best .within)
-
-part-result-end-2 : tie.Need-part-result-end-2
-part-result-end-2 c =
-    let e : tie.Else1 = search in
-    let p : tie.After-chosen-at = search in
-    omega (arith, on-second (p .chosen-at .ensures) (e .if1 .left) (c .if2 .left) .best .within)
+    on-second (p .chosen-at .ensures) (e .if1 .left) (c .if2 .left) .best .within
 
 returns-3 : tie.Need-returns-3
 returns-3 c =
+    let x : tie.After-exchange-of2 = search in
     let t : tie.Else2 = search in
     let e : tie.Else1 = search in
     let p : tie.After-chosen-at = search in
-    let s : tie.Start = search in
-    let j = p .chosen-at .result .exchange in
     record {
-      given = λ _. of-second j (on-second (p .chosen-at .ensures) (e .if1 .left) (t .if2 .left))
-          (record { readings = exchange-is (s .args .second .now) j; block = refl; place = omega arith });
+      given = λ _. of-second (p .chosen-at .result .exchange) (on-second (p .chosen-at .ensures) (e .if1 .left) (t .if2 .left)) (x .exchange-of2 .ensures);
       refused = not-refused (p .chosen-at .ensures) (e .if1 .left);
     }
 
 pub choose-spec : {M : Type 1} → statement M
-choose-spec =
-    tie.close
-    (tie.spec
-    (search needs)
-    (search needs)
-    returns
-    mul-at
-    add-end
-    mul-result
-    (search needs)
-    (search needs)
-    part-result-end
-    returns-2
-    mul-result-2
-    (search needs)
-    (search needs)
-    part-result-end-2
-    returns-3)
+choose-spec = tie.close (tie.spec (search needs) (search needs) returns exchange-of-requires returns-2 exchange-of-requires-2 returns-3)

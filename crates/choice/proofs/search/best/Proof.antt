@@ -17,7 +17,7 @@ use Rattle.desk.specs.Promises.{MeasuredAs}
 use Rattle.desk.specs.declared.Measured.{Measured}
 use Rattle.choice.specs.Choice.{exchanges, exchange, delayAt}
 use Rattle.choice.specs.Search.{taken, HeldAs}
-use Rattle.choice.proofs.Exchanges.{exchange-measured, exchange-is}
+use Rattle.choice.proofs.Exchanges.{exchange-measured}
 use Rattle.choice.proofs.Held.{held-none, held-taken, held-left}
 use Rattle.choice.proofs.search.best.Statement.{statement}
 use Rattle.choice.proofs.search.best.Tie as tie
@@ -45,15 +45,17 @@ delay-is run j m none h p = ap (λ (both : ℤ × ℤ). both .1) (p .given (p .n
 loop-again : tie.Need-loop-again Inv-loop μ-loop
 loop-again c =
     let b : tie.After-beats Inv-loop μ-loop = search in
+    let d-told : tie.After-struct-told Inv-loop μ-loop = search in
     let m : tie.After-offset-delay Inv-loop μ-loop = search in
+    let x : tie.After-exchange-of Inv-loop μ-loop = search in
     let at : Loop = search in
     let s : Begin = search in
     let run = s .args .run .now in
     let l = at .loop in
     let d = m .offset-delay .result .delay in
     let kept : toZ w64 (ofZ w64 d) ≡ delayAt run (l .j)
-    = back {z = d} (search) ∙ delay-is run (l .j) (m .offset-delay .result) (s .pre) (omega arith)
-    (subst (λ (four : List ℤ). MeasuredAs four (m .offset-delay .result)) (exchange-is run (l .j)) (m .offset-delay .ensures)) in
+    = back {z = d} (d-told .struct-told .given .1 .1 .0 .1) ∙ delay-is run (l .j) (m .offset-delay .result) (s .pre) (omega arith)
+    (subst (λ (four : List ℤ). MeasuredAs four (m .offset-delay .result)) (x .exchange-of .ensures .readings) (m .offset-delay .ensures)) in
     let told = b .beats .ensures ∙ ap (λ (z : ℤ). taken z (toZ w64 (l .least))) kept in (
       omega arith,
       ⊎-elim
@@ -76,11 +78,6 @@ best-spec =
     Inv-loop
     μ-loop
     loop-holds
-    (search needs)
-    (search needs)
-    (search needs)
-    (search needs)
-    (search needs)
     (search needs)
     (search needs)
     (search needs)
