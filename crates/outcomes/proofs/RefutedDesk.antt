@@ -1,7 +1,7 @@
 -- Wrong outcomes of the join desk, each of which breaks its promise on a small case: rounding around zero, ties between and within the paths, a
 -- delay of zero, the ends of the common frames, the order of checks, and parts that hold the right readings elsewhere.
 use mathlib.Core.Path.{_≡_, refl, sym, ap, _∙_}
-use mathlib.Core.Bool.{not}
+use mathlib.Core.Bool.{Bool, true, false, cond, not}
 use mathlib.Core.List.{List, [], _∷_, _++_}
 use Prim.Native.Nat.{ℕ, suc, _+_, _*_, _^_, _<_}
 use native.Mathlib.Omega.{arith}
@@ -13,6 +13,7 @@ use Rattle.refusals.specs.FirstOf.{Check, firstOf}
 use Rattle.desk.specs.declared.Measured.{Measured}
 use Rattle.desk.specs.declared.Frames.{Frames}
 use Rattle.desk.specs.declared.Joined.{Joined}
+use Rattle.desk.specs.Conditions.{farReading}
 use Rattle.desk.specs.Promises.{Answers, MeasuredAs, FramesAs, JoinedAs}
 use Rattle.choice.specs.Choice.{exchanges, delayAt, FirstWins, SecondWins}
 use Rattle.choice.specs.Conditions.{chooseChecks}
@@ -20,6 +21,10 @@ use Rattle.choice.specs.Parts.{PartOf}
 use Rattle.choice.specs.Promises.{Four, ChosenAs, NumberAs}
 use Rattle.choice.specs.Promises.Four.{of-first, of-second}
 use Rattle.outcomes.proofs.Wrong.{other-number}
+
+-- the promise says that two tests find the same, and they do not
+other-test : {a b : Bool} → a ≡ b → T (not (eqb (cond a 1 0) (cond b 1 0))) → ⊥
+other-test e n = other-number (ap (λ (t : Bool). cond t 1 0) e) n
 
 -- signed numbers told apart: twice a number, and one more than twice a number for those below zero
 abbrev code : ℤ → ℕ
@@ -49,8 +54,8 @@ run-1 = pos 1 ∷ pos 0 ∷ pos 0 ∷ pos 0 ∷ []
 pub halves-towards-zero : MeasuredAs run-1 (measure 0 (pos 0) (negsuc 0)) → ⊥
 halves-towards-zero p = other (left (p .given refl)) tt
 
-pub offset-sign-turned : MeasuredAs run-1 (measure 0 (pos 0) (pos 1)) → ⊥
-offset-sign-turned p = other (right (p .given refl)) tt
+pub delay-sign-turned : MeasuredAs run-1 (measure 0 (pos 0) (pos 1)) → ⊥
+delay-sign-turned p = other (right (p .given refl)) tt
 
 pub negative-delay-refused : MeasuredAs run-1 (measure 19 (pos 0) (pos 0)) → ⊥
 negative-delay-refused p = other-number (p .number-is) tt
@@ -68,6 +73,13 @@ limit-refused p = other-number (p .number-is) tt
 
 pub limit-refused-below : {offset delay : ℤ} → MeasuredAs (negsuc 1152921504606846975 ∷ pos 0 ∷ pos 0 ∷ pos 0 ∷ []) (measure 18 offset delay) → ⊥
 limit-refused-below p = other-number (p .number-is) tt
+
+-- whether a reading is far: the limit itself is not, and the last reading counts like the first
+pub limit-is-far : true ≡ farReading (pos (2 ^ 60) ∷ []) → ⊥
+limit-is-far e = other-test e tt
+
+pub first-reading-only : false ≡ farReading (pos 0 ∷ negsuc (2 ^ 60) ∷ []) → ⊥
+first-reading-only e = other-test e tt
 
 -- to frames; at two ticks a frame offset −1 is an exact half below zero, and 1 one above
 abbrev framed : ℕ → ℤ → Frames
