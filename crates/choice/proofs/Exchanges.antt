@@ -5,13 +5,13 @@ use mathlib.Core.Bool.{false}
 use mathlib.Core.List.{List, [], _∷_}
 use Prim.Native.Nat.{ℕ, zero, suc, _+_, _-_, _*_, _^_, _<_, _≤_}
 use native.Mathlib.Omega.{arith}
-use lib.ListN.{length, take, drop, length-drop}
+use lib.ListN.{take, drop, length-drop}
 use lib.Seq.{length-take-le, getD-drop}
 use lib.IntN.{ℤ, pos, natAbs}
 use Rattle.refusals.specs.FirstOf.{firstOf}
 use Rattle.desk.specs.Exchange.{reading}
 use Rattle.desk.specs.Conditions.{farReading, measureChecks}
-use Rattle.desk.proofs.Accepted.{FourNear, all-near, measures}
+use Rattle.desk.proofs.Accepted.{all-near, measures}
 use Rattle.choice.specs.Choice.{exchanges, exchange}
 
 near-front : (n : ℕ) (run : List ℤ) → ((k : ℕ) → natAbs (reading run k) ≤ 2 ^ 60) → (k : ℕ) → natAbs (reading (take n run) k) ≤ 2 ^ 60

@@ -1,21 +1,19 @@
 -- What the choice means: which number is given when, and what a caller knows of the four readings that are handed back. From the promise and
 -- the laws of the tests.
-use mathlib.Core.Path.{_≡_, sym, _∙_}
-use mathlib.Core.Bool.{true, false, not, _||_}
+use mathlib.Core.Path.{_≡_}
+use mathlib.Core.Bool.{true, false, _||_}
 use mathlib.Core.List.{List}
 use mathlib.Core.Logic.{_↔_}
 use Prim.Native.Nat.{ℕ, _<_}
 use denote.Ref.{RefT}
 use lib.IntN.{ℤ, pos}
-use lib.Signed.{ltZ, _≤ℤ_}
-use lib.ListN.{length}
+use lib.Signed.{_≤ℤ_}
 use borrow.Author.Tests.{not-true}
-use Rattle.refusals.specs.FirstOf.{firstOf}
 use Rattle.refusals.proofs.Some.{either-false}
 use Rattle.signed.proofs.Ends.{le, fails}
 use Rattle.desk.specs.Exchange.{delayOf}
 use Rattle.choice.specs.Choice.{exchanges, usable, delayAt}
-use Rattle.choice.specs.Conditions.{anyUsable, noUsable, chooseChecks}
+use Rattle.choice.specs.Conditions.{anyUsable, noUsable}
 use Rattle.choice.specs.Promises.{Four}
 use Rattle.choice.specs.Promises.Four.{of-first, of-second}
 use Rattle.choice.proofs.Held.{any-none, none-any}

@@ -1,7 +1,7 @@
 -- What the checks of each call tell of its numbers where none holds: readings and shifts within their limits, counts in range. Each check in
 -- turn is passed.
 use mathlib.Core.Path.{_≡_}
-use mathlib.Core.Bool.{Bool, false}
+use mathlib.Core.Bool.{false}
 use mathlib.Core.List.{List, [], _∷_}
 use Prim.Native.Nat.{ℕ, zero, suc, _^_, _≤_, _<_}
 use native.Mathlib.Nat.{pos-of-ne-zero}

@@ -4,7 +4,7 @@ use mathlib.Core.Path.{_≡_, sym, ap, _∙_}
 use mathlib.Core.Bool.{false}
 use mathlib.Core.List.{List}
 use mathlib.Core.Logic.{⊎-elim}
-use Prim.Native.Nat.{ℕ, suc, _+_, _*_, _^_, _<_, _≤_}
+use Prim.Native.Nat.{ℕ, suc, _+_, _^_, _<_, _≤_}
 use native.Mathlib.Nat.{add-mul, mul-le-mul-right}
 use native.Mathlib.Omega.{arith}
 use lib.ListN.{length}
@@ -15,7 +15,7 @@ use Rattle.refusals.specs.Conditions.{some}
 use Rattle.refusals.proofs.Some.{none-some}
 use Rattle.signed.specs.Signed.{floorBy}
 use Rattle.signed.proofs.Ends.{above, below, sum, size, near}
-use Rattle.signed.proofs.Floor.{Floor, floor}
+use Rattle.signed.proofs.Floor.{floor}
 use Rattle.desk.specs.declared.Measured.{Measured}
 use Rattle.desk.specs.declared.Frames.{Frames}
 use Rattle.desk.specs.Exchange.{reading, twiceOffset, offsetOf}

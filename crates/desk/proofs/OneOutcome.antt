@@ -1,5 +1,5 @@
 -- Any two outcomes that one promise of the desk allows coincide: number and answer do, so the record does.
-use mathlib.Core.Path.{_≡_, ap, ap₂}
+use mathlib.Core.Path.{_≡_, ap₂}
 use mathlib.Core.List.{List}
 use Prim.Native.Nat.{ℕ}
 use lib.IntN.{ℤ}

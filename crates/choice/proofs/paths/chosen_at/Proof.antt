@@ -9,8 +9,6 @@ use lib.Dec.{lit<}
 use lib.IntN.{ℤ, pos}
 use lib.Signed.{ltZ}
 use borrow.Author.Needs.{needs}
-use mir.Syntax.{w64}
-use mir.Val.{toZ, ofZ}
 use Rattle.lists.proofs.Via.{via}
 use Rattle.refusals.specs.FirstOf.{check, firstOf}
 use Rattle.refusals.proofs.FirstOf.{refused-first}
@@ -18,7 +16,6 @@ use Rattle.refusals.proofs.Conditions.{passed}
 use Rattle.refusals.proofs.Some.{either-false}
 use Rattle.signed.proofs.Ends.{back}
 use Rattle.desk.specs.Conditions.{badRun, farReading}
-use Rattle.choice.specs.declared.paths.Place.{Place}
 use Rattle.choice.specs.Choice.{exchanges}
 use Rattle.choice.specs.Conditions.{fours, anyUsable, noUsable, runChecks, chooseChecks}
 use Rattle.choice.specs.Search.{taken, HeldAs, PlaceAs}
