@@ -3,7 +3,6 @@
 use mathlib.Core.Path.{_≡_, refl, sym, ap, subst}
 use mathlib.Core.Bool.{Bool, true, false, not, cond}
 use Prim.Native.Nat.{ℕ, zero, suc, _+_, _-_, _^_, _≤_, _<_}
-use mathlib.Core.Logic.{_⊎_, inl, inr}
 use borrow.Author.Tests.{ltb-true, ltb-false, leb-false, lt-ltb, le-ltb}
 use native.Mathlib.Omega.{arith}
 use lib.Dec.{T, ltb, ltb→lt, lt→ltb, leb→le, le→leb}
@@ -47,11 +46,6 @@ negated (negsuc n) = record { up = refl; down = refl }
 
 pub difference : (a b : ℤ) → above (a -ℤ b) + (below a + above b) ≡ (above a + below b) + below (a -ℤ b)
 difference a b = omega (arith, sum a (negℤ b), negated b)
-
--- one of the two is 0
-pub one-side : (a : ℤ) → (above a ≡ 0) ⊎ (below a ≡ 0)
-one-side (pos n) = inr refl
-one-side (negsuc n) = inl refl
 
 pub size : (a : ℤ) → natAbs a ≡ above a + below a
 size (pos n) = omega arith

@@ -1,5 +1,5 @@
 -- Division of signed numbers, rounded towards minus infinity: what it means by inequalities, that there is one such quotient, and what the
--- machine's `/`, `%` and `>>` have to do with it. By cases on the sign, each case from the laws of division of naturals.
+-- machine's `/` and `%` have to do with it. By cases on the sign, each case from the laws of division of naturals.
 use mathlib.Core.Path.{_≡_, refl, ap, _∙_}
 use mathlib.Core.Bool.{true, false}
 use Prim.Native.Nat.{ℕ, suc, _+_, _*_, _/_, _%_, _≤_, _<_}
@@ -7,7 +7,7 @@ use native.Mathlib.Nat.{zero-mul, suc-mul, add-mul, div-mul-le-self, lt-div-mul-
 use native.Mathlib.Omega.{arith}
 use lib.Dec.{leb→le}
 use lib.IntN.{ℤ, pos, negsuc, negℤ, natAbs, _+ℤ_, _-ℤ_, _*ℤ_}
-use lib.Signed.{ltZ, quotZ, remZ, shrZ, _≤ℤ_, _<ℤ_}
+use lib.Signed.{ltZ, quotZ, remZ, _≤ℤ_, _<ℤ_}
 use mir.Syntax.{w64}
 use mir.Val.{ofZ}
 use Rattle.signed.specs.Signed.{floorBy}
@@ -55,11 +55,6 @@ rounds-down n z h =
     let m = times q n in
     let s = sum (q *ℤ pos n) (pos n) in
     (le (omega (arith, f, m)), lt (omega (arith, f, m, s)))
-
--- `>>` rounds down
-pub shifted : (n : ℕ) (z : ℤ) → shrZ z n ≡ floorBy n z
-shifted n (pos a) = refl
-shifted n (negsuc a) = refl
 
 -- where `%` leaves no negative remainder `/` has rounded down, else one more is to be taken off
 pub quot-floor : (z d : ℤ) → pos 1 ≤ℤ d → ltZ (remZ z d) (pos 0) ≡ false → Floor (natAbs d) z (quotZ z d)
