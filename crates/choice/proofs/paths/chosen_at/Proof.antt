@@ -5,20 +5,17 @@ use mathlib.Core.List.{List, [], _∷_}
 use mathlib.Core.Logic.{inl, inr}
 use Prim.Native.Nat.{ℕ}
 use native.Mathlib.Omega.{arith}
-use lib.Dec.{lit<}
 use lib.IntN.{ℤ, pos}
 use lib.Signed.{ltZ}
 use borrow.Author.Needs.{needs}
 use Rattle.lists.proofs.Via.{via}
 use Rattle.refusals.specs.FirstOf.{check, firstOf}
 use Rattle.refusals.proofs.FirstOf.{refused-first}
-use Rattle.refusals.proofs.Conditions.{passed}
-use Rattle.refusals.proofs.Some.{either-false}
 use Rattle.signed.proofs.Ends.{back}
-use Rattle.desk.specs.Conditions.{badRun, farReading}
 use Rattle.choice.specs.Choice.{exchanges}
-use Rattle.choice.specs.Conditions.{fours, anyUsable, noUsable, runChecks, chooseChecks}
+use Rattle.choice.specs.Conditions.{anyUsable, noUsable, runChecks, chooseChecks}
 use Rattle.choice.specs.Search.{taken, HeldAs, PlaceAs}
+use Rattle.choice.proofs.Runs.{runs-pass}
 use Rattle.choice.proofs.Held.{second-wins, first-wins, none-wins, any-best}
 use Rattle.choice.proofs.paths.chosen_at.Statement.{statement}
 use Rattle.choice.proofs.paths.chosen_at.Tie as tie
@@ -31,20 +28,11 @@ or-true : (a : Bool) → not (a || true) ≡ false
 or-true true = refl
 or-true false = refl
 
--- both runs are whole and no reading is too far
+-- no check of the runs holds
 module _ (first second : List ℤ) (e : firstOf (runChecks first second) ≡ 0) where
-  whole : (badRun fours first || badRun fours second) ≡ false
-  whole = passed (badRun fours first || badRun fours second) 26 _ (lit< tt) e .0
-
-  both-near : (farReading first || farReading second) ≡ false
-  both-near = passed (farReading first || farReading second) 18 0 (lit< tt) (passed (badRun fours first || badRun fours second) 26 _ (lit< tt) e .1) .0
-
-  near : (farReading first ≡ false) × (farReading second ≡ false)
-  near = either-false (farReading first) (farReading second) both-near
-
   -- so the last check decides
   number : (t : Bool) → noUsable first second ≡ t → firstOf (chooseChecks first second) ≡ cond t 19 0
-  number t n = rw (whole, both-near, n)
+  number t n = let p = runs-pass first second 0 e in rw (p .whole, p .near, n)
 
   -- what is held of each path, and what the tests found of the two delays
   module _ (j k : ℕ) (before after : ℤ) (held : HeldAs first (exchanges first) j before) (held′ : HeldAs second (exchanges second) k after) where
@@ -73,10 +61,10 @@ returns c =
     refusal (e ∙ sym (refused-first (runChecks first second) (check 19 (noUsable first second) ∷ []) (λ z. c .if1 .taken (e ∙ z)))) (c .if1 .taken)
 
 best-requires : tie.Need-best-requires
-best-requires c κs = let s : tie.Start = search in near (s .args .first .now) (s .args .second .now) (search via) .0
+best-requires c κs = let s : tie.Start = search in runs-pass (s .args .first .now) (s .args .second .now) 0 (search via) .first-near
 
 best-requires-2 : tie.Need-best-requires-2
-best-requires-2 c κs = let s : tie.Start = search in near (s .args .first .now) (s .args .second .now) (search via) .1
+best-requires-2 c κs = let s : tie.Start = search in runs-pass (s .args .first .now) (s .args .second .now) 0 (search via) .second-near
 
 returns-2 : tie.Need-returns-2
 returns-2 c =
