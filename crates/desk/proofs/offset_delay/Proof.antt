@@ -2,15 +2,18 @@
 -- or sum overflows, and what the machine reads back from the bits of each is what it is.
 use mathlib.Core.Path.{_≡_}
 use mathlib.Core.List.{List}
-use Prim.Native.Nat.{ℕ, _<_}
+use Prim.Native.Nat.{ℕ, _^_, _<_, _≤_}
 use native.Mathlib.Omega.{arith}
 use lib.Dec.{lit<}
 use lib.ListN.{length}
-use lib.IntN.{ℤ}
+use lib.IntN.{ℤ, natAbs, _+ℤ_, _-ℤ_}
 use borrow.Author.Needs.{needs}
+use mir.Syntax.{w64}
+use mir.Val.{SFits, toZ, ofZ}
 use mir.Facts.{toZ-ofZ}
 use Rattle.lists.proofs.Via.{via}
 use Rattle.refusals.specs.FirstOf.{firstOf}
+use Rattle.desk.specs.Exchange.{reading}
 use Rattle.desk.specs.Conditions.{measureChecks}
 use Rattle.desk.proofs.Answers.{refused, accepted}
 use Rattle.desk.proofs.Accepted.{measured}
@@ -18,57 +21,34 @@ use Rattle.desk.proofs.Readings.{reading-kept, difference-kept, differe
 use Rattle.desk.proofs.offset_delay.Statement.{statement}
 use Rattle.desk.proofs.offset_delay.Tie as tie
 
--- there are four
-place : (k : ℕ) (run : List ℤ) → k < 4 → firstOf (measureChecks run) ≡ 0 → k < length run
-place k run h e = omega (arith, measured run e .four)
+-- what the checks tell of the four readings, read back from their bits
+module _ (run : List ℤ) (e : firstOf (measureChecks run) ≡ 0) where
+  abbrev kept : ℕ → ℤ
+  kept k = toZ w64 (ofZ w64 (reading run k))
 
-sub-sum : tie.Need-sub-sum
-sub-sum c =
-    let s : tie.Start = search in
-    let run = s .args .run .now in
-    let n = measured run (search via) .near in
-    simp (reading-kept run n) (difference-fits run n 1 0)
+  abbrev apart : ℕ → ℕ → ℤ
+  apart j k = toZ w64 (ofZ w64 (kept j -ℤ kept k))
 
-sub-sum-2 : tie.Need-sub-sum-2
-sub-sum-2 c =
-    let s : tie.Start = search in
-    let run = s .args .run .now in
-    let n = measured run (search via) .near in
-    simp (reading-kept run n) (difference-fits run n 2 3)
+  near : (k : ℕ) → natAbs (reading run k) ≤ 2 ^ 60
+  near = measured run e .near
 
-sub-delay : tie.Need-sub-delay
-sub-delay c =
-    let s : tie.Start = search in
-    let run = s .args .run .now in
-    let n = measured run (search via) .near in
-    simp (reading-kept run n) (difference-fits run n 3 0)
+  place : (k : ℕ) → k < 4 → k < length run
+  place k h = omega (arith, measured run e .four)
 
-sub-delay-2 : tie.Need-sub-delay-2
-sub-delay-2 c =
-    let s : tie.Start = search in
-    let run = s .args .run .now in
-    let n = measured run (search via) .near in
-    simp (reading-kept run n) (difference-fits run n 2 1)
+  apart-fits : (j k : ℕ) → SFits w64 (kept j -ℤ kept k)
+  apart-fits j k = simp (reading-kept run near) (difference-fits run near j k)
 
-add-sum : tie.Need-add-sum
-add-sum c =
-    let s : tie.Start = search in
-    let run = s .args .run .now in
-    let n = measured run (search via) .near in
-    simp (reading-kept run n, difference-kept run n) (twice-fits run n)
+  sum-fits : SFits w64 (apart 1 0 +ℤ apart 2 3)
+  sum-fits = simp (reading-kept run near, difference-kept run near) (twice-fits run near)
 
-sub-delay-3 : tie.Need-sub-delay-3
-sub-delay-3 c =
-    let s : tie.Start = search in
-    let run = s .args .run .now in
-    let n = measured run (search via) .near in
-    simp (reading-kept run n, difference-kept run n) (delay-fits run n)
+  rest-fits : SFits w64 (apart 3 0 -ℤ apart 2 1)
+  rest-fits = simp (reading-kept run near, difference-kept run near) (delay-fits run near)
 
 returns-2 : tie.Need-returns-2
 returns-2 c =
     let s : tie.Start = search in
     let run = s .args .run .now in
-    let n = measured run (search via) .near in
+    let n = near run (search via) in
     accepted (search via)
     (simp (reading-kept run n, difference-kept run n, toZ-ofZ (twice-fits run n), toZ-ofZ (offset-fits run n), toZ-ofZ (delay-fits run n)))
 
@@ -78,14 +58,14 @@ offset-delay-spec =
     (tie.spec
     (search needs)
     (λ c. search refused)
-    (λ c. let s : tie.Start = search in place 0 (s .args .run .now) (lit< tt) (search via))
-    (λ c. let s : tie.Start = search in place 1 (s .args .run .now) (lit< tt) (search via))
-    (λ c. let s : tie.Start = search in place 2 (s .args .run .now) (lit< tt) (search via))
-    (λ c. let s : tie.Start = search in place 3 (s .args .run .now) (lit< tt) (search via))
-    sub-sum
-    sub-sum-2
-    add-sum
-    sub-delay
-    sub-delay-2
-    sub-delay-3
+    (λ c. let s : tie.Start = search in place (s .args .run .now) (search via) 0 (lit< tt))
+    (λ c. let s : tie.Start = search in place (s .args .run .now) (search via) 1 (lit< tt))
+    (λ c. let s : tie.Start = search in place (s .args .run .now) (search via) 2 (lit< tt))
+    (λ c. let s : tie.Start = search in place (s .args .run .now) (search via) 3 (lit< tt))
+    (λ c. let s : tie.Start = search in apart-fits (s .args .run .now) (search via) 1 0)
+    (λ c. let s : tie.Start = search in apart-fits (s .args .run .now) (search via) 2 3)
+    (λ c. let s : tie.Start = search in sum-fits (s .args .run .now) (search via))
+    (λ c. let s : tie.Start = search in apart-fits (s .args .run .now) (search via) 3 0)
+    (λ c. let s : tie.Start = search in apart-fits (s .args .run .now) (search via) 2 1)
+    (λ c. let s : tie.Start = search in rest-fits (s .args .run .now) (search via))
     returns-2)
