@@ -7,15 +7,16 @@ use Prim.Native.Nat.{ℕ, suc, _+_, _*_, _^_, _<_}
 use native.Mathlib.Omega.{arith}
 use denote.Ref.{RefT}
 use lib.Dec.{T, eqb, lit<}
+use lib.ListN.{length}
 use lib.IntN.{ℤ, pos, negsuc}
-use lib.Signed.{_<ℤ_}
+use lib.Signed.{_≤ℤ_, _<ℤ_}
 use Rattle.refusals.specs.FirstOf.{Check, firstOf}
 use Rattle.desk.specs.declared.Measured.{Measured}
 use Rattle.desk.specs.declared.Frames.{Frames}
 use Rattle.desk.specs.declared.Joined.{Joined}
 use Rattle.desk.specs.Conditions.{farReading}
 use Rattle.desk.specs.Promises.{Answers, MeasuredAs, FramesAs, JoinedAs}
-use Rattle.choice.specs.Choice.{exchanges, delayAt, FirstWins, SecondWins}
+use Rattle.choice.specs.Choice.{exchanges, exchange, delayAt, FirstWins, SecondWins}
 use Rattle.choice.specs.Conditions.{chooseChecks}
 use Rattle.choice.specs.Parts.{PartOf}
 use Rattle.choice.specs.Promises.{Four, ChosenAs, NumberAs}
@@ -181,6 +182,13 @@ larger-loses j e w =
     let l = rw e at (w .best .smallest 1 (lit< tt) refl) in
     l .le
 
+first-loses : (j : ℕ) → FirstWins delay-1 delay-0 j → ⊥
+unfolding delayAt
+first-loses j w =
+    let z : j ≡ 0 = omega (arith, w .best .within) in
+    let l : pos 1 ≤ℤ pos 0 = rw z at (w .ahead 0 (lit< tt) refl) in
+    l .le
+
 -- of the part: both runs hold an exchange with delay 0, and they lie in different blocks of memory
 module _ (first second r : RefT (List ℤ)) (p : ChosenAs first second r) where
   pub second-path-wins-ties : first .now ≡ delay-0 → second .now ≡ delay-0 → PartOf second 0 4 r → (second .ptr .0 ≡ first .ptr .0 → ⊥) → ⊥
@@ -190,6 +198,27 @@ module _ (first second r : RefT (List ℤ)) (p : ChosenAs first second r) where
       go : Four first second r → ⊥
       go (of-first j w o) = n (sym (q .block) ∙ o .block)
       go (of-second j w o) = second-loses j (rw (e, f) at w)
+
+  -- the first path is taken although the second has the smaller delay
+  pub first-path-always : first .now ≡ delay-1 → second .now ≡ delay-0 → PartOf first 0 4 r → (second .ptr .0 ≡ first .ptr .0 → ⊥) → ⊥
+  unfolding delayAt
+  first-path-always e f q n = go (p .given (rw (e, f)))
+    where
+      go : Four first second r → ⊥
+      go (of-first j w o) = first-loses j (rw (e, f) at w)
+      go (of-second j w o) = n (sym (o .block) ∙ q .block)
+
+  -- nothing is handed back although an exchange is usable
+  pub nothing-handed-back : first .now ≡ delay-0 → second .now ≡ [] → r .now ≡ [] → ⊥
+  unfolding delayAt
+  nothing-handed-back e f q = go (p .given (rw (e, f)))
+    where
+      count : (j : ℕ) → j < exchanges delay-0 → 0 ≡ length (exchange delay-0 j) → ⊥
+      count j h l = let z : j ≡ 0 = omega arith in other-number (rw z at l) tt
+
+      go : Four first second r → ⊥
+      go (of-first j w o) = count j (rw e at (w .best .within)) (ap length (sym q ∙ rw e at (o .readings)))
+      go (of-second j w o) = let g : j < exchanges [] = rw f at (w .best .within) in omega arith
 
   -- nothing is usable, and the empty start of the second run is handed back
   pub empty-start-of-second : first .now ≡ [] → second .now ≡ [] → PartOf second 0 0 r → (second .ptr .0 ≡ first .ptr .0 → ⊥) → ⊥
