@@ -26,7 +26,7 @@ extern "C" {
 /* The numbers that come back. */
 enum {
     ZIB_ACCEPTED = 0,
-    ZIB_BAD_LENGTH = 1,     /* an axis length is 0 or above 4,096 */
+    ZIB_BAD_LENGTH = 1,     /* an axis length is 0 or above 4,096; so is a camera count or a frame count of zib_join */
     ZIB_TOO_MANY_WORDS = 2, /* the lengths multiply to more than 1,048,576 */
     ZIB_SHORT_BUFFER = 3,   /* the buffer has fewer words than the block */
     ZIB_SHORT_SCRATCH = 4,  /* scratch has fewer words than the call needs */
@@ -40,8 +40,13 @@ enum {
     ZIB_BAD_TILE = 15,      /* a tile side is 0 or above 64 */
     ZIB_BAD_COLUMN = 16,    /* a column number is above the last camera (removing) or above the camera count (adding) */
     ZIB_NO_ROOM = 17,       /* the buffer lacks room for the block with one camera more */
+    ZIB_FAR_NUMBER = 18,    /* a reading is beyond 2 to the 60th either side of zero; an offset or a shift beyond 2 to the 61st */
+    ZIB_NOTHING_USABLE = 19, /* no usable exchange exists */
+    ZIB_NONE_COMMON = 20,   /* no frame is common to all cameras */
+    ZIB_BAD_TICKS = 21,     /* ticks per frame outside 1 to 1,000,000 */
     ZIB_SHORT_BYTES = 24,   /* the byte buffer is shorter than the result sheet */
-    ZIB_OTHER_COLUMN = 25   /* the column's length isn't the frame count */
+    ZIB_OTHER_COLUMN = 25,  /* the column's length isn't the frame count */
+    ZIB_BAD_RUN = 26        /* a run isn't four readings (offset and delay), or no multiple of four (choosing) */
 };
 
 /*
@@ -206,6 +211,67 @@ struct zib_result zib_read_result(const uint8_t *text, size_t text_bytes, uint32
  * Answers how many bytes the text has; bytes after it stay.
  */
 size_t zib_job(const uint8_t *text, size_t text_bytes, uint32_t *words, uint32_t *scratch, uint8_t *out);
+
+/*
+ * The join desk. An exchange is four readings in ticks of 27 MHz: sent, received, returned, received back (T1 to T4). A run holds
+ * exchanges one after the other. Runs and shifts are only read, so they may overlap one another; an empty run still has a pointer that is
+ * not null.
+ */
+
+/* What zib_offset_delay answers; offset and delay are 0 in a refusal. */
+struct zib_measured {
+    uint32_t number;
+    int64_t offset;
+    int64_t delay;
+};
+
+/*
+ * The offset ((T2-T1)+(T3-T4))/2 and the delay (T4-T1)-(T3-T2) of one exchange; a half offset is rounded towards minus infinity.
+ * A negative delay is answered too. Answers 0, or the first of 26, 18 that holds.
+ */
+struct zib_measured zib_offset_delay(const int64_t *run, size_t reading_count);
+
+/* What zib_to_frames answers; frames are 0 in a refusal. */
+struct zib_frames {
+    uint32_t number;
+    int64_t frames;
+};
+
+/*
+ * An offset as the nearest whole number of frames, an exact half towards plus infinity. No offset of zib_offset_delay meets 18 here.
+ * Answers 0, or the first of 21, 18 that holds.
+ */
+struct zib_frames zib_to_frames(int64_t offset, size_t ticks_per_frame);
+
+/* What zib_join answers: the common frames run from `first` up to, not including, `end`. Both are 0 in a refusal. */
+struct zib_joined {
+    uint32_t number;
+    int64_t first;
+    int64_t end;
+};
+
+/*
+ * The frames that all cameras have: one shift a camera, each with `frames` frames from its shift on. No shift of zib_to_frames meets 18
+ * here. Answers 0, or the first of 1, 18, 20 that holds.
+ */
+struct zib_joined zib_join(const int64_t *shifts, size_t shift_count, size_t frames);
+
+/* A part of a run: readings that stand in the run itself, and how many they are. */
+struct zib_part {
+    const int64_t *readings;
+    size_t count;
+};
+
+/*
+ * Chooses from two runs of the same camera, one a network path: the usable exchange with the smallest delay, the first path winning ties
+ * and then the earlier exchange. A negative delay is not usable. Stores in *part its four readings, as a part of the run that holds them;
+ * where the choice is refused, the empty start of the first run. *part must hold some part or run before the call, the first run for
+ * instance, and must not lie in the runs.
+ */
+void zib_choose(const int64_t *first, size_t first_count, const int64_t *second, size_t second_count, struct zib_part *part);
+
+/* The number of that choice: 0, or the first of 26, 18, 19 that holds, each for both runs. */
+uint32_t zib_choose_number(const int64_t *first, size_t first_count, const int64_t *second, size_t second_count);
 
 #ifdef __cplusplus
 }

@@ -9,6 +9,8 @@ ghost use Rattle.job.specs.Job.{Done};
 ghost use Rattle.home.specs.Promise.{RepeatsPromise};
 ghost use Rattle.cameras.specs.Promises.{RemovePromise, AddPromise};
 ghost use Rattle.tiles.specs.Promises.{ToTilesPromise, FromTilesPromise};
+ghost use Rattle.desk.specs.Promises.{MeasuredAs, FramesAs, JoinedAs};
+ghost use Rattle.choice.specs.Promises.{ChosenAs, NumberAs};
 ghost use Rattle.exports.specs.Records.{answered, planned, sheetRead, sheetWritten, homeAfter, resultRead};
 
 // The lengths of four axes, last axis fastest.
@@ -280,4 +282,46 @@ pub extern "C" fn zib_read_result(bytes: &[u8], words: &mut [u32]) -> ResultShee
         lens: lens,
         order: s.order,
     }
+}
+
+// The offset and the delay of one exchange of four readings.
+#[no_mangle]
+pub extern "C" fn zib_offset_delay(run: &[i64]) -> desk::Measured
+    ensures { λ r. ⌜ MeasuredAs (now (run .entry)) r ⌝ }
+{
+    desk::offset_delay(run)
+}
+
+// An offset in ticks as a whole number of frames.
+#[no_mangle]
+pub extern "C" fn zib_to_frames(offset: i64, ticks: usize) -> desk::Frames
+    ensures { λ r. ⌜ FramesAs offset ticks r ⌝ }
+{
+    desk::to_frames(offset, ticks)
+}
+
+// The frames that are common to all cameras.
+#[no_mangle]
+pub extern "C" fn zib_join(shifts: &[i64], frames: usize) -> desk::Joined
+    ensures { λ r. ⌜ JoinedAs (now (shifts .entry)) frames r ⌝ }
+{
+    desk::join(shifts, frames)
+}
+
+// The four readings of the exchange that is chosen of two runs. No exported function may return a reference, so the part is stored where the
+// caller says.
+#[no_mangle]
+pub extern "C" fn zib_choose<'a>(first: &'a [i64], second: &'a [i64], part: &mut &'a [i64])
+    ensures { λ _. ⌜ ChosenAs (first .entry) (second .entry) (now (part .exit)) ⌝ }
+{
+    let four = choice::choose(first, second);
+    *part = four;
+}
+
+// The number of that choice.
+#[no_mangle]
+pub extern "C" fn zib_choose_number(first: &[i64], second: &[i64]) -> u32
+    ensures { λ r. ⌜ NumberAs (now (first .entry)) (now (second .entry)) r ⌝ }
+{
+    choice::choose_number(first, second)
 }

@@ -32,3 +32,6 @@ pub mod Cameras
 -- the conversions to tiles and back: one outcome, and wrong ones refuted
 pub mod Tiles
 pub mod RefutedTiles
+-- the join desk: one outcome, and wrong ones refuted
+pub mod Desk
+pub mod RefutedDesk
