@@ -59,6 +59,80 @@ static void cameras(size_t frames, size_t count) {
            least[0] / all, least[1] / all, least[1] / least[0], least[2] / all, least[2] / least[0]);
 }
 
+static _Alignas(64) uint32_t band[64 * 4096];
+
+static size_t less(size_t a, size_t b) { return a < b ? a : b; }
+
+/* The block to tiles, or back, by a second block: run by run into it, then copied back. */
+static void tiles_copied(size_t m, size_t n, size_t r, size_t s, int into) {
+    size_t at = 0;
+    for (size_t top = 0; top < m; top += r)
+        for (size_t left = 0; left < n; left += s)
+            for (size_t i = top; i < less(m, top + r); i++) {
+                size_t run = less(s, n - left), from = i * n + left;
+                if (into)
+                    memcpy(other + at, block + from, run * sizeof *block);
+                else
+                    memcpy(other + from, block + at, run * sizeof *block);
+                at += run;
+            }
+    __asm__ volatile("" ::: "memory");
+    memcpy(block, other, m * n * sizeof *block);
+    __asm__ volatile("" ::: "memory");
+}
+
+/* Tiles, there and back, beside an out-of-place copy with copy back, as multiples of it. */
+static void tiles(size_t m, size_t n, size_t r, size_t s) {
+    size_t words = m * n, turns = 200000 / words + 1;
+    double least[4] = {1e18, 1e18, 1e18, 1e18};
+    for (int round = 0; round < ROUNDS; round++) {
+        double took[4] = {0, 0, 0, 0};
+        for (size_t k = 0; k < turns; k++) {
+            double start = now();
+            tiles_copied(m, n, r, s, 1);
+            double copied = now();
+            tiles_copied(m, n, r, s, 0);
+            double copied_back = now();
+            zib_to_tiles(block, words, band, r * n, m, n, r, s);
+            double tiled = now();
+            zib_from_tiles(block, words, band, r * n, m, n, r, s);
+            double end = now();
+            took[0] += copied - start;
+            took[1] += copied_back - copied;
+            took[2] += tiled - copied_back;
+            took[3] += end - tiled;
+        }
+        for (int w = 0; w < 4; w++)
+            if (took[w] < least[w]) least[w] = took[w];
+    }
+    double all = (double)(turns * words);
+    printf("tiles, %4zu by %4zu in %2zu by %2zu: copied %6.3f and back %6.3f ns a word, to tiles %6.3f (%.2f times), from tiles %6.3f (%.2f times)\n",
+           m, n, r, s, least[0] / all, least[1] / all, least[2] / all, least[2] / least[0], least[3] / all, least[3] / least[1]);
+}
+
+/* The longest result sheet, 1,024 rows of one word of ten digits, written and read back, beside memmove of its bytes. */
+static void results(void) {
+    static uint8_t text[16384], copy[16384];
+    struct zib_shape shape = {{1024, 1, 1, 1}};
+    double least[3] = {1e18, 1e18, 1e18};
+    size_t bytes = 0;
+    for (size_t k = 0; k < 1024; k++) column[k] = UINT32_MAX;
+    for (int round = 0; round < ROUNDS; round++) {
+        double start = now();
+        bytes = zib_write_sheet(shape, 23, column, 1024, text, sizeof text).bytes;
+        double written = now();
+        zib_read_result(text, bytes, other, 1024);
+        double read = now();
+        memmove(copy, text, bytes);
+        __asm__ volatile("" ::: "memory");
+        double took[3] = {written - start, read - written, now() - read};
+        for (int w = 0; w < 3; w++)
+            if (took[w] < least[w]) least[w] = took[w];
+    }
+    printf("result sheet of %zu bytes: written %6.3f ns a byte, read back %6.3f, memmove %6.3f\n", bytes, least[0] / (double)bytes,
+           least[1] / (double)bytes, least[2] / (double)bytes);
+}
+
 int main(void) {
     printf("\nOther calls, least of %d rounds\n", ROUNDS);
     repeats(266, 3942); /* the longest count of any block */
@@ -66,5 +140,9 @@ int main(void) {
     cameras(1000, 16);
     cameras(1000, 1000);
     cameras(4096, 256);
+    tiles(1080, 960, 64, 64);
+    tiles(1000, 1047, 16, 16);
+    tiles(64, 16, 8, 8);
+    results();
     return 0;
 }

@@ -10,7 +10,7 @@
  * No call allocates, keeps a pointer, or reads or writes anything besides what it is lent.
  *
  * Sides and lengths are 1 to 4,096; a block has at most 1,048,576 words, from the first word of the buffer on.
- * A buffer may not be longer than the block: turns, chains and requests take one of exactly the block's size. Where a call says
+ * A buffer may not be longer than the block: turns, chains, requests and tiles take one of exactly the block's size. Where a call says
  * otherwise (cameras, sheets), the words past the block stay unchanged, and so does scratch past what is needed.
  */
 #ifndef ZIBSNARDA_H
@@ -26,7 +26,7 @@ extern "C" {
 /* The numbers that come back. */
 enum {
     ZIB_ACCEPTED = 0,
-    ZIB_BAD_LENGTH = 1,     /* an axis length is 0 or above 4,096 */
+    ZIB_BAD_LENGTH = 1,     /* an axis length is 0 or above 4,096; so is a camera count or a frame count of zib_join */
     ZIB_TOO_MANY_WORDS = 2, /* the lengths multiply to more than 1,048,576 */
     ZIB_SHORT_BUFFER = 3,   /* the buffer has fewer words than the block */
     ZIB_SHORT_SCRATCH = 4,  /* scratch has fewer words than the call needs */
@@ -37,10 +37,16 @@ enum {
     ZIB_BAD_LINE = 10,      /* a sheet line is malformed, missing or left over; place is its line number, from 1 */
     ZIB_LARGE_SHEET = 11,   /* a sheet's lengths multiply to more than 1,024 */
     ZIB_LONG_BUFFER = 13,   /* the buffer has more words than the block */
+    ZIB_BAD_TILE = 15,      /* a tile side is 0 or above 64 */
     ZIB_BAD_COLUMN = 16,    /* a column number is above the last camera (removing) or above the camera count (adding) */
     ZIB_NO_ROOM = 17,       /* the buffer lacks room for the block with one camera more */
+    ZIB_FAR_NUMBER = 18,    /* a reading is beyond 2 to the 60th either side of zero; an offset or a shift beyond 2 to the 61st */
+    ZIB_NOTHING_USABLE = 19, /* no usable exchange exists */
+    ZIB_NONE_COMMON = 20,   /* no frame is common to all cameras */
+    ZIB_BAD_TICKS = 21,     /* ticks per frame outside 1 to 1,000,000 */
     ZIB_SHORT_BYTES = 24,   /* the byte buffer is shorter than the result sheet */
-    ZIB_OTHER_COLUMN = 25   /* the column's length isn't the frame count */
+    ZIB_OTHER_COLUMN = 25,  /* the column's length isn't the frame count */
+    ZIB_BAD_RUN = 26        /* a run isn't four readings (offset and delay), or no multiple of four (choosing) */
 };
 
 /*
@@ -87,6 +93,22 @@ uint32_t zib_remove_camera(uint32_t *buffer, size_t buffer_words, size_t frames,
  */
 uint32_t zib_add_camera(uint32_t *buffer, size_t buffer_words, size_t frames, size_t cameras, size_t column, const uint32_t *words,
                         size_t word_count);
+
+/*
+ * Stores the block of m rows and n columns as tiles of r by s words (r and s 1 to 64): tiles row by row, each stored together row by
+ * row; tiles at the right and lower edge are smaller. A tile may be larger than the block. The word of row i and column j then stands
+ * at b*r*n + h*u*s + (i-b*r)*w + (j-u*s), where b = i/r, u = j/s (whole numbers), h = min(r, m-b*r) and w = min(s, n-u*s).
+ * Scratch has at least r*n words, whatever m is; that many first words of it are zero afterwards.
+ * Answers 0, or the first of 1, 2, 15, 3, 13, 4 that holds.
+ */
+uint32_t zib_to_tiles(uint32_t *buffer, size_t buffer_words, uint32_t *scratch, size_t scratch_words, size_t m, size_t n, size_t r,
+                      size_t s);
+
+/*
+ * Undoes zib_to_tiles with the same m, n, r and s. Scratch and answers are those of zib_to_tiles.
+ */
+uint32_t zib_from_tiles(uint32_t *buffer, size_t buffer_words, uint32_t *scratch, size_t scratch_words, size_t m, size_t n, size_t r,
+                        size_t s);
 
 /*
  * Four axes. A block has axes 0 to 3 with these lengths, the last fastest. Swap k (0, 1 or 2) exchanges the axes at
@@ -167,6 +189,21 @@ struct zib_sheet zib_read_sheet(const uint8_t *text, size_t text_bytes, uint32_t
 struct zib_written zib_write_sheet(struct zib_shape shape, size_t order, const uint32_t *words, size_t word_count, uint8_t *text,
                                    size_t text_bytes);
 
+/* What the reader of result sheets answers: lengths and order number. In a refusal all but number and place is 0. */
+struct zib_result {
+    uint32_t number;
+    size_t place;
+    size_t lengths[4];
+    size_t order;
+};
+
+/*
+ * Reads a result sheet, which is only read, and stores its words from the start of the word buffer, if the whole sheet is right.
+ * What zib_write_sheet wrote reads back the same, and every accepted sheet is the one that it writes for those values.
+ * Answers 0, or the first of 9, 10 (line 1), 1, 11, 3, 10 (line 2), 7, 10 (each row, then what is left over).
+ */
+struct zib_result zib_read_result(const uint8_t *text, size_t text_bytes, uint32_t *words, size_t word_count);
+
 /*
  * The whole job on a sheet, which is only read: its words, run through its chain, stand in `words` afterwards, and the
  * text of the result sheet from the start of `out`; words past the block stay. A refused sheet leaves words and scratch unchanged and writes one
@@ -174,6 +211,67 @@ struct zib_written zib_write_sheet(struct zib_shape shape, size_t order, const u
  * Answers how many bytes the text has; bytes after it stay.
  */
 size_t zib_job(const uint8_t *text, size_t text_bytes, uint32_t *words, uint32_t *scratch, uint8_t *out);
+
+/*
+ * The join desk. An exchange is four readings in ticks of 27 MHz: sent, received, returned, received back (T1 to T4). A run holds
+ * exchanges one after the other. Runs and shifts are only read, so they may overlap one another; an empty run still has a pointer that is
+ * not null.
+ */
+
+/* What zib_offset_delay answers; offset and delay are 0 in a refusal. */
+struct zib_measured {
+    uint32_t number;
+    int64_t offset;
+    int64_t delay;
+};
+
+/*
+ * The offset ((T2-T1)+(T3-T4))/2 and the delay (T4-T1)-(T3-T2) of one exchange; a half offset is rounded towards minus infinity.
+ * A negative delay is answered too. Answers 0, or the first of 26, 18 that holds.
+ */
+struct zib_measured zib_offset_delay(const int64_t *run, size_t reading_count);
+
+/* What zib_to_frames answers; frames are 0 in a refusal. */
+struct zib_frames {
+    uint32_t number;
+    int64_t frames;
+};
+
+/*
+ * An offset as the nearest whole number of frames, an exact half towards plus infinity. No offset of zib_offset_delay meets 18 here.
+ * Answers 0, or the first of 21, 18 that holds.
+ */
+struct zib_frames zib_to_frames(int64_t offset, size_t ticks_per_frame);
+
+/* What zib_join answers: the common frames run from `first` up to, not including, `end`. Both are 0 in a refusal. */
+struct zib_joined {
+    uint32_t number;
+    int64_t first;
+    int64_t end;
+};
+
+/*
+ * The frames that all cameras have: one shift a camera, each with `frames` frames from its shift on. No shift of zib_to_frames meets 18
+ * here. Answers 0, or the first of 1, 18, 20 that holds.
+ */
+struct zib_joined zib_join(const int64_t *shifts, size_t shift_count, size_t frames);
+
+/* A part of a run: readings that stand in the run itself, and how many they are. */
+struct zib_part {
+    const int64_t *readings;
+    size_t count;
+};
+
+/*
+ * Chooses from two runs of the same camera, one a network path: the usable exchange with the smallest delay, the first path winning ties
+ * and then the earlier exchange. A negative delay is not usable. Stores in *part its four readings, as a part of the run that holds them;
+ * where the choice is refused, the empty start of the first run. *part must hold some part or run before the call, the first run for
+ * instance, and must not lie in the runs.
+ */
+void zib_choose(const int64_t *first, size_t first_count, const int64_t *second, size_t second_count, struct zib_part *part);
+
+/* The number of that choice: 0, or the first of 26, 18, 19 that holds, each for both runs. */
+uint32_t zib_choose_number(const int64_t *first, size_t first_count, const int64_t *second, size_t second_count);
 
 #ifdef __cplusplus
 }

@@ -43,6 +43,14 @@ enum {
     REPEATS = 10,
     REMOVE_CAMERA = 11,
     ADD_CAMERA = 12,
+    TO_TILES = 13,
+    FROM_TILES = 14,
+    READ_RESULT = 15,
+    OFFSET_DELAY = 20,
+    TO_FRAMES = 21,
+    JOIN = 22,
+    CHOOSE = 23,
+    CHOOSE_NUMBER = 24,
     /* these touch what they must not, to show that the guards bite */
     WRITE_PAST_END = 100,
     READ_PAST_END = 101,
@@ -83,6 +91,8 @@ static uint64_t get_number(void) {
 
 static void give(uint64_t v) { answer[answered++] = v; }
 
+static int64_t *readings(int k) { return (int64_t *)buffers[k].at; }
+static size_t reading_count(int k) { return buffers[k].bytes / sizeof(int64_t); }
 static uint32_t *words(int k) { return (uint32_t *)buffers[k].at; }
 static size_t word_count(int k) { return buffers[k].bytes / sizeof(uint32_t); }
 
@@ -120,6 +130,47 @@ static void give_written(struct zib_written w) {
 static void give_home(struct zib_home h) {
     give(h.number);
     give(h.count);
+}
+
+static void give_result(struct zib_result s) {
+    give(s.number);
+    give(s.place);
+    give_all(s.lengths, 4);
+    give(s.order);
+}
+
+static void give_measured(struct zib_measured m) {
+    give(m.number);
+    give((uint64_t)m.offset);
+    give((uint64_t)m.delay);
+}
+
+static void give_frames(struct zib_frames f) {
+    give(f.number);
+    give((uint64_t)f.frames);
+}
+
+static void give_joined(struct zib_joined j) {
+    give(j.number);
+    give((uint64_t)j.first);
+    give((uint64_t)j.end);
+}
+
+/* Where the part stands: its path, its first reading's place in that run, its length; then its readings. The runs lie in rooms of their own. */
+static void give_part(struct zib_part part) {
+    uint64_t from_first = (uint64_t)((unsigned char *)part.readings - buffers[0].at);
+    uint64_t from_second = (uint64_t)((unsigned char *)part.readings - buffers[1].at);
+    give(from_first <= buffers[0].bytes ? 0 : from_second <= buffers[1].bytes ? 1 : 2);
+    give(from_first <= buffers[0].bytes ? from_first : from_second);
+    give(part.count);
+    for (size_t k = 0; k < part.count; k++) give((uint64_t)part.readings[k]);
+}
+
+static struct zib_part choose(void) {
+    static const int64_t some = 0;
+    struct zib_part part = {&some, 1};
+    zib_choose(readings(0), reading_count(0), readings(1), reading_count(1), &part);
+    return part;
 }
 
 static void make_rooms(void) {
@@ -194,6 +245,30 @@ static void run(uint64_t call) {
         break;
     case ADD_CAMERA:
         give(zib_add_camera(words(0), word_count(0), numbers[0], numbers[1], numbers[2], words(1), word_count(1)));
+        break;
+    case TO_TILES:
+        give(zib_to_tiles(words(0), word_count(0), words(1), word_count(1), numbers[0], numbers[1], numbers[2], numbers[3]));
+        break;
+    case FROM_TILES:
+        give(zib_from_tiles(words(0), word_count(0), words(1), word_count(1), numbers[0], numbers[1], numbers[2], numbers[3]));
+        break;
+    case READ_RESULT:
+        give_result(zib_read_result(buffers[0].at, buffers[0].bytes, words(1), word_count(1)));
+        break;
+    case OFFSET_DELAY:
+        give_measured(zib_offset_delay(readings(0), reading_count(0)));
+        break;
+    case TO_FRAMES:
+        give_frames(zib_to_frames((int64_t)numbers[0], numbers[1]));
+        break;
+    case JOIN:
+        give_joined(zib_join(readings(0), reading_count(0), numbers[0]));
+        break;
+    case CHOOSE:
+        give_part(choose());
+        break;
+    case CHOOSE_NUMBER:
+        give(zib_choose_number(readings(0), reading_count(0), readings(1), reading_count(1)));
         break;
     case WRITE_PAST_END:
         at[buffers[0].bytes] = 1;

@@ -14,6 +14,14 @@ pub const JOB: u64 = 9;
 pub const REPEATS: u64 = 10;
 pub const REMOVE_CAMERA: u64 = 11;
 pub const ADD_CAMERA: u64 = 12;
+pub const TO_TILES: u64 = 13;
+pub const FROM_TILES: u64 = 14;
+pub const READ_RESULT: u64 = 15;
+pub const OFFSET_DELAY: u64 = 20;
+pub const TO_FRAMES: u64 = 21;
+pub const JOIN: u64 = 22;
+pub const CHOOSE: u64 = 23;
+pub const CHOOSE_NUMBER: u64 = 24;
 pub const WRITE_PAST_END: u64 = 100;
 pub const READ_PAST_END: u64 = 101;
 pub const WRITE_BEFORE_START: u64 = 102;
@@ -37,6 +45,11 @@ pub fn words(from: &[u32]) -> Buffer {
 pub fn sizes(from: &[u64]) -> Buffer {
     let bytes = from.iter().flat_map(|v| v.to_le_bytes()).collect();
     Buffer { bytes, writable: true }
+}
+
+pub fn readings(from: &[i64]) -> Buffer {
+    let bytes = from.iter().flat_map(|v| v.to_le_bytes()).collect();
+    Buffer { bytes, writable: false }
 }
 
 pub fn bytes(from: &[u8]) -> Buffer {

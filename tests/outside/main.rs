@@ -3,14 +3,17 @@
 mod axes;
 mod bench;
 mod cameras;
+mod desk;
 mod driver;
 mod flat;
 mod guards;
 mod random;
 mod reference;
 mod repeats;
+mod results;
 mod sheets;
 mod text;
+mod tiles;
 
 const SEED: u64 = 20_240_601;
 
@@ -20,7 +23,7 @@ fn main() {
     if short {
         command.remove(0);
     }
-    println!("seeds {} to {}{}", SEED, SEED + 4, if short { ", short form" } else { "" });
+    println!("seeds {} to {}{}", SEED, SEED + 7, if short { ", short form" } else { "" });
     let mut t = bench::Bench::new(driver::Driver::new(&command), short);
     guards::all(&mut t);
     flat::all(&mut t, SEED);
@@ -28,6 +31,9 @@ fn main() {
     sheets::all(&mut t, SEED + 2);
     repeats::all(&mut t, SEED + 3);
     cameras::all(&mut t, SEED + 4);
+    tiles::all(&mut t, SEED + 5);
+    results::all(&mut t, SEED + 6);
+    desk::all(&mut t, SEED + 7);
     let well = t.driver.end();
     t.verdict(well, || "the driver did not end well".to_string());
     println!("{} passed, {} failed", t.passed, t.failed);

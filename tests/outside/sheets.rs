@@ -3,6 +3,7 @@ use crate::bench::Bench;
 use crate::driver::{bytes, sizes, words, Answer, Request, CHAIN, JOB, READ_SHEET, WRITE_SHEET};
 use crate::random::Random;
 use crate::reference::{longest, volume};
+use crate::results::{self, reads_back};
 use crate::text::{job, read, result, sheet, write, Sheet, MOST_BYTES};
 
 type Lengths = [u64; 4];
@@ -31,12 +32,13 @@ fn try_read(t: &mut Bench, text: &[u8], buffer: &[u32]) {
 
 fn try_write(t: &mut Bench, lengths: Lengths, order: u64, block: &[u32], out: &[u8]) {
     let mut left = out.to_vec();
-    let numbers = match write(lengths, order, block, out.len()) {
+    let outcome = write(lengths, order, block, out.len());
+    let numbers = match &outcome {
         Ok(text) => {
-            left[..text.len()].copy_from_slice(&text);
+            left[..text.len()].copy_from_slice(text);
             vec![0, text.len() as u64]
         }
-        Err(number) => vec![number, 0],
+        Err(number) => vec![*number, 0],
     };
     let mut asked = lengths.to_vec();
     asked.push(order);
@@ -44,6 +46,9 @@ fn try_write(t: &mut Bench, lengths: Lengths, order: u64, block: &[u32], out: &[
     let q = Request { call: WRITE_SHEET, numbers: asked, buffers: vec![lent.clone(), bytes(out)] };
     let e = Answer { numbers, buffers: vec![lent, bytes(&left)] };
     t.expect_both(&q, &e, || format!("writing {:?}, order {}, {} words to {} bytes", lengths, order, block.len(), out.len()));
+    if outcome.is_ok() {
+        reads_back(t, &q, lengths, order, block);
+    }
 }
 
 fn random_word(r: &mut Random) -> u32 {
@@ -55,7 +60,7 @@ fn random_word(r: &mut Random) -> u32 {
     }
 }
 
-fn random_sheet(r: &mut Random, side: u64) -> Sheet {
+pub fn random_sheet(r: &mut Random, side: u64) -> Sheet {
     loop {
         let lengths = [r.within(1, side), r.within(1, side), r.within(1, side), r.within(1, side)];
         if volume(&lengths) <= 1024 {
@@ -91,7 +96,7 @@ const FIELDS: &[&str] = &[
     "9999999999", "10000000000", "18446744073709551616", "+1", "-1", "1 ", " 1", "0x1", "1e1", "shape", "chain", "row", "order",
 ];
 
-fn damage(r: &mut Random, text: &mut Vec<u8>) {
+pub fn damage(r: &mut Random, text: &mut Vec<u8>) {
     let at = r.below(text.len() as u64 + 1) as usize;
     let there = at < text.len();
     match r.below(8) {
@@ -244,7 +249,7 @@ fn writes(t: &mut Bench, r: &mut Random) {
         }
         try_write(t, s.lengths, order, &block[..s.words.len() - 1], &r.bytes(exact));
     }
-    t.group("result sheets written: bytes short by one, exact, longer");
+    t.group("result sheets written: bytes short by one, exact, longer; what was written is read back");
     // every set of the checks 1, 11, 3, 7 and 24
     for set in 0..32 {
         let holds = |k: u32| set & (1 << k) != 0;
@@ -280,6 +285,9 @@ fn try_job(t: &mut Bench, r: &mut Random, text: &[u8]) {
         buffers: vec![lent, words(&words_left), words(&scratch_left), bytes(&left)],
     };
     t.expect_both(&q, &e, || format!("the job of {:?}", String::from_utf8_lossy(text)));
+    if read(text, 1024).is_ok() {
+        results::try_read(t, &told, &r.words(1024));
+    }
 }
 
 // The whole job in one call, on right sheets and on damaged ones.
@@ -298,7 +306,7 @@ fn whole_jobs(t: &mut Bench, r: &mut Random) {
         }
         try_job(t, r, &text);
     }
-    t.group("whole jobs on right and on damaged sheets");
+    t.group("whole jobs on right and on damaged sheets; each result sheet is read back");
 }
 
 // A sheet read, run through its chain and written, call after call, gives what the whole job gives.
@@ -307,9 +315,10 @@ fn jobs_by_calls(t: &mut Bench, r: &mut Random) {
         let text = sheet(&random_sheet(r, 6));
         let told = job(&text, &[0; 1024], &[0; 1024]).0;
         let outcome = by_calls(t, &text);
-        t.verdict(outcome == Ok(told), || format!("three calls on {:?}", String::from_utf8_lossy(&text)));
+        t.verdict(outcome.as_ref() == Ok(&told), || format!("three calls on {:?}", String::from_utf8_lossy(&text)));
+        results::try_read(t, &told, &r.words(1024));
     }
-    t.group("whole jobs by three calls");
+    t.group("whole jobs by three calls; each result sheet is read back");
 }
 
 fn by_calls(t: &mut Bench, text: &[u8]) -> Result<Vec<u8>, String> {
@@ -317,7 +326,10 @@ fn by_calls(t: &mut Bench, text: &[u8]) -> Result<Vec<u8>, String> {
     let sheet = t.driver.ask(0, &Request { call: READ_SHEET, numbers: vec![], buffers })?;
     let (lengths, swaps) = (&sheet.numbers[2..6], &sheet.numbers[6..6 + sheet.numbers[38] as usize]);
     let scratch = words(&vec![0; longest(lengths) as usize]);
-    let buffers = vec![sheet.buffers[1].clone(), scratch, sizes(swaps).read_only()];
+    // the chain is lent the block's part of the words
+    let mut block = sheet.buffers[1].clone();
+    block.bytes.truncate(4 * volume(lengths) as usize);
+    let buffers = vec![block, scratch, sizes(swaps).read_only()];
     let moved = t.driver.ask(0, &Request { call: CHAIN, numbers: lengths.to_vec(), buffers })?;
     let buffers = vec![moved.buffers[0].clone().read_only(), bytes(&[0; MOST_BYTES])];
     let written = t.driver.ask(0, &Request { call: WRITE_SHEET, numbers: moved.numbers[2..7].to_vec(), buffers })?;

@@ -1,4 +1,4 @@
-// Sheets as document 01 describes them, read and written by copying text.
+// Sheets as document 01 describes them and result sheets as document 02, item 1, has them loaded, read and written by copying text.
 use crate::reference::{bad_length, first, laid, named, need, number_of, reordered, volume, zeroed};
 
 type Lengths = [u64; 4];
@@ -10,6 +10,13 @@ pub const MOST_WORDS: u128 = 1024;
 pub struct Sheet {
     pub lengths: Lengths,
     pub chain: Vec<u64>,
+    pub words: Vec<u32>,
+}
+
+#[derive(Clone, Debug, PartialEq)]
+pub struct Outcome {
+    pub lengths: Lengths,
+    pub order: u64,
     pub words: Vec<u32>,
 }
 
@@ -40,7 +47,10 @@ fn record(line: Option<&[u8]>, word: &str) -> Option<Vec<u64>> {
     fields.map(number).collect()
 }
 
-pub fn read(text: &[u8], room: usize) -> Result<Sheet, Refusal> {
+// Lengths, numbers of line 2 and words; `second` judges line 2.
+type Page = (Lengths, Vec<u64>, Vec<u32>);
+
+fn page(text: &[u8], room: usize, second: fn(Option<&[u8]>) -> Result<Vec<u64>, Refusal>) -> Result<Page, Refusal> {
     if text.len() > MOST_BYTES {
         return Err((9, 0));
     }
@@ -55,13 +65,7 @@ pub fn read(text: &[u8], room: usize) -> Result<Sheet, Refusal> {
     if number != 0 {
         return Err((number, 0));
     }
-    let chain = record(lines.next(), "chain").ok_or((10, 2))?;
-    if chain.len() > 32 {
-        return Err((5, 0));
-    }
-    if let Some(place) = chain.iter().position(|&k| k > 2) {
-        return Err((6, place as u64));
-    }
+    let numbers = second(lines.next())?;
     let rows = lengths[0] * lengths[1] * lengths[2];
     let mut words = Vec::new();
     for row in 0..rows {
@@ -70,8 +74,37 @@ pub fn read(text: &[u8], room: usize) -> Result<Sheet, Refusal> {
     }
     match lines.next() {
         Some(_) => Err((10, 3 + rows)),
-        None => Ok(Sheet { lengths, chain, words }),
+        None => Ok((lengths, numbers, words)),
     }
+}
+
+// Line 2 of a sheet: its form, 5, 6.
+fn chain(line: Option<&[u8]>) -> Result<Vec<u64>, Refusal> {
+    let chain = record(line, "chain").ok_or((10, 2))?;
+    if chain.len() > 32 {
+        return Err((5, 0));
+    }
+    match chain.iter().position(|&k| k > 2) {
+        Some(place) => Err((6, place as u64)),
+        None => Ok(chain),
+    }
+}
+
+// Line 2 of a result sheet: its form, one number; 7.
+fn order(line: Option<&[u8]>) -> Result<Vec<u64>, Refusal> {
+    let order = record(line, "order").filter(|v| v.len() == 1).ok_or((10, 2))?;
+    if order[0] > 23 {
+        return Err((7, 0));
+    }
+    Ok(order)
+}
+
+pub fn read(text: &[u8], room: usize) -> Result<Sheet, Refusal> {
+    page(text, room, chain).map(|(lengths, chain, words)| Sheet { lengths, chain, words })
+}
+
+pub fn read_result(text: &[u8], room: usize) -> Result<Outcome, Refusal> {
+    page(text, room, order).map(|(lengths, numbers, words)| Outcome { lengths, order: numbers[0], words })
 }
 
 fn line(word: &str, values: impl Iterator<Item = u64>) -> String {

@@ -2,13 +2,15 @@
 use Rattle.axes.specs.declared.Answer.{Answer as Below-Answer}
 use Rattle.axes.specs.declared.Planned.{Planned as Below-Planned}
 use Rattle.sheet.specs.declared.Sheet.{Sheet as Below-Sheet}
-use Rattle.sheet.specs.declared.Written.{Written as Below-Written}
+use Rattle.printer.specs.declared.Written.{Written as Below-Written}
 use Rattle.home.specs.declared.Home.{Home as Below-Home}
+use Rattle.sheet.specs.declared.ResultSheet.{ResultSheet as Below-ResultSheet}
 use Rattle.exports.specs.declared.Answer.{Answer}
 use Rattle.exports.specs.declared.Planned.{Planned}
 use Rattle.exports.specs.declared.Sheet.{Sheet}
 use Rattle.exports.specs.declared.Written.{Written}
 use Rattle.exports.specs.declared.Home.{Home}
+use Rattle.exports.specs.declared.ResultSheet.{ResultSheet}
 
 -- what a chain or a direct request answers
 abbrev pub answered : Answer → Below-Answer
@@ -29,3 +31,7 @@ sheetWritten r = record { number = r .number; count = r .count }
 -- what the count of repeats answers
 abbrev pub homeAfter : Home → Below-Home
 homeAfter r = record { number = r .number; count = r .count }
+
+-- what the reader of result sheets answers
+abbrev pub resultRead : ResultSheet → Below-ResultSheet
+resultRead r = record { number = r .number; place = r .place; lens = r .lens; order = r .order }

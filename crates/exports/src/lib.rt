@@ -3,11 +3,15 @@ ghost use Rattle.passes.specs.Promises.{TurnPromise, TurnBackPromise};
 ghost use Rattle.halves.specs.Promise.{TurnPromise as HalvesPromise};
 ghost use Rattle.axes.specs.Promises.{ChainPromise, RequestPromise, PlanPromise};
 ghost use Rattle.sheet.specs.Reader.{ReadAs};
-ghost use Rattle.sheet.specs.Writer.{WrittenAs};
+ghost use Rattle.sheet.specs.ResultReader.{ResultReadAs};
+ghost use Rattle.printer.specs.Writer.{WrittenAs};
 ghost use Rattle.job.specs.Job.{Done};
 ghost use Rattle.home.specs.Promise.{RepeatsPromise};
 ghost use Rattle.cameras.specs.Promises.{RemovePromise, AddPromise};
-ghost use Rattle.exports.specs.Records.{answered, planned, sheetRead, sheetWritten, homeAfter};
+ghost use Rattle.tiles.specs.Promises.{ToTilesPromise, FromTilesPromise};
+ghost use Rattle.desk.specs.Promises.{MeasuredAs, FramesAs, JoinedAs};
+ghost use Rattle.choice.specs.Promises.{ChosenAs, NumberAs};
+ghost use Rattle.exports.specs.Records.{answered, planned, sheetRead, sheetWritten, homeAfter, resultRead};
 
 // The lengths of four axes, last axis fastest.
 #[repr(C)]
@@ -55,6 +59,15 @@ pub struct Written {
 pub struct Home {
     pub number: u32,
     pub count: usize,
+}
+
+// What the reader of result sheets answers.
+#[repr(C)]
+pub struct ResultSheet {
+    pub number: u32,
+    pub place: usize,
+    pub lens: [usize; 4],
+    pub order: usize,
 }
 
 // The flat turn of m by n by passes.
@@ -167,7 +180,7 @@ pub extern "C" fn zib_write_sheet(
     ensures { λ r. ⌜ WrittenAs (shape .lens) order (now (words .entry)) (now (out .entry)) (sheetWritten r) (now (out .exit)) ⌝ }
 {
     let lens = shape.lens;
-    let w = sheet::write(lens, order, words, out);
+    let w = printer::write(lens, order, words, out);
     Written {
         number: w.number,
         count: w.count,
@@ -224,4 +237,91 @@ pub extern "C" fn zib_add_camera(
     ensures { λ r. ⌜ AddPromise frames cameras column (now (words .entry)) (now (buf .entry)) r (now (buf .exit)) ⌝ }
 {
     cameras::add(buf, frames, cameras, column, words)
+}
+
+// An m by n block stored as tiles of r by s words.
+#[no_mangle]
+pub extern "C" fn zib_to_tiles(
+    buf: &mut [u32],
+    scratch: &mut [u32],
+    m: usize,
+    n: usize,
+    r: usize,
+    s: usize,
+) -> u32
+    ensures { λ t. ⌜ ToTilesPromise m n r s (now (buf .entry)) (now (scratch .entry)) t (now (buf .exit)) (now (scratch .exit)) ⌝ }
+{
+    tiles::to_tiles(buf, scratch, m, n, r, s)
+}
+
+// The tiles of r by s words of an m by n block stored as the block again.
+#[no_mangle]
+pub extern "C" fn zib_from_tiles(
+    buf: &mut [u32],
+    scratch: &mut [u32],
+    m: usize,
+    n: usize,
+    r: usize,
+    s: usize,
+) -> u32
+    ensures { λ t. ⌜ FromTilesPromise m n r s (now (buf .entry)) (now (scratch .entry)) t (now (buf .exit)) (now (scratch .exit)) ⌝ }
+{
+    tiles::from_tiles(buf, scratch, m, n, r, s)
+}
+
+// Reads a result sheet into a word buffer.
+#[no_mangle]
+pub extern "C" fn zib_read_result(bytes: &[u8], words: &mut [u32]) -> ResultSheet
+    ensures { λ r. ⌜ ResultReadAs (now (words .entry)) (now (bytes .entry)) (resultRead r) (now (words .exit)) ⌝ }
+{
+    let s = sheet::read_result(bytes, words);
+    let lens = s.lens;
+    ResultSheet {
+        number: s.number,
+        place: s.place,
+        lens: lens,
+        order: s.order,
+    }
+}
+
+// The offset and the delay of one exchange of four readings.
+#[no_mangle]
+pub extern "C" fn zib_offset_delay(run: &[i64]) -> desk::Measured
+    ensures { λ r. ⌜ MeasuredAs (now (run .entry)) r ⌝ }
+{
+    desk::offset_delay(run)
+}
+
+// An offset in ticks as a whole number of frames.
+#[no_mangle]
+pub extern "C" fn zib_to_frames(offset: i64, ticks: usize) -> desk::Frames
+    ensures { λ r. ⌜ FramesAs offset ticks r ⌝ }
+{
+    desk::to_frames(offset, ticks)
+}
+
+// The frames that are common to all cameras.
+#[no_mangle]
+pub extern "C" fn zib_join(shifts: &[i64], frames: usize) -> desk::Joined
+    ensures { λ r. ⌜ JoinedAs (now (shifts .entry)) frames r ⌝ }
+{
+    desk::join(shifts, frames)
+}
+
+// The four readings of the exchange that is chosen of two runs. No exported function may return a reference, so the part is stored where the
+// caller says.
+#[no_mangle]
+pub extern "C" fn zib_choose<'a>(first: &'a [i64], second: &'a [i64], part: &mut &'a [i64])
+    ensures { λ _. ⌜ ChosenAs (first .entry) (second .entry) (now (part .exit)) ⌝ }
+{
+    let four = choice::choose(first, second);
+    *part = four;
+}
+
+// The number of that choice.
+#[no_mangle]
+pub extern "C" fn zib_choose_number(first: &[i64], second: &[i64]) -> u32
+    ensures { λ r. ⌜ NumberAs (now (first .entry)) (now (second .entry)) r ⌝ }
+{
+    choice::choose_number(first, second)
 }

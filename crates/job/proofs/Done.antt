@@ -26,12 +26,12 @@ use Rattle.text.specs.Sheet.{refusalText, resultText}
 use Rattle.text.specs.Meaning.{Outcome, meaning}
 use Rattle.text.proofs.Length.{fields-few, result-fits}
 use Rattle.sheet.specs.declared.Sheet.{Sheet}
-use Rattle.sheet.specs.declared.Written.{Written}
-use Rattle.sheet.specs.Writer.{writerNumber, WrittenAs}
-use Rattle.sheet.specs.RefusalWriter.{RefusalWrittenAs}
-use Rattle.sheet.proofs.Writes.{number-0}
-use Rattle.sheet.proofs.RefusalLine.{length-refusal, line-fits}
-use Rattle.sheet.proofs.InFull.{in-full}
+use Rattle.printer.specs.declared.Written.{Written}
+use Rattle.printer.specs.Writer.{writerNumber, WrittenAs}
+use Rattle.printer.specs.RefusalWriter.{RefusalWrittenAs}
+use Rattle.printer.proofs.Writes.{number-0}
+use Rattle.printer.proofs.RefusalLine.{length-refusal, line-fits}
+use Rattle.printer.proofs.InFull.{in-full}
 use Rattle.job.specs.Job.{jobWords, jobText, Done}
 use Rattle.job.specs.RunOn.{RunOn}
 use Rattle.job.proofs.Readings.{swapsOf, Turned-away, Taken}
@@ -103,8 +103,8 @@ module _ {bytes words scratch out : List ℕ} {r : Sheet} {words₁ ws : List �
       words = le-ltb 1048576 (volume ds) (omega (arith, t .right .few-words));
       exact = t .right .block;
     };
-    short = le-ltb 32 (length (swapsOf r)) (t .right .few-swaps);
-    swaps = t .right .swaps;
+    short = le-ltb 32 (length (swapsOf r)) (t .right .second .few-swaps);
+    swaps = t .right .second .swaps;
     room = omega (arith, chain-few ds (swapsOf r), longest-le-volume ds (t .right .lengths), t .right .few-words);
   }
 

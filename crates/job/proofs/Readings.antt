@@ -7,7 +7,7 @@ use native.Mathlib.Omega.{arith}
 use lib.ListN.{length, take, replicate, length-append}
 use lib.Seq.{take-at}
 use Rattle.text.specs.Meaning.{Outcome, meaning}
-use Rattle.text.proofs.Accepted.{Right, accepted-right}
+use Rattle.text.proofs.SecondLines.{Right, accepted-exactly}
 use Rattle.text.proofs.Bounds.{Bounded, Within, meaning-within}
 use Rattle.sheet.specs.declared.Sheet.{Sheet}
 use Rattle.sheet.specs.Swaps.{padded}
@@ -66,7 +66,7 @@ module _ {buffer bytes : List ℕ} {r : Sheet} {buffer′ : List ℕ} (p : ReadA
             record {
               means = means;
               stored = p .words ∙ ap (λ (o : Outcome). kept o buffer) means;
-              right = accepted-right buffer bytes (r .lens) (swapsOf r) words means;
+              right = accepted-exactly buffer bytes (r .lens) (swapsOf r) words .0 means;
               inside = omega (arith, count, ap length swaps, length-append chain (replicate (32 - length chain) 0));
               count = sym (ap length first) ∙ sym count;
             },

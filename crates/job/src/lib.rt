@@ -26,7 +26,7 @@ pub fn job(
 {
     let sheet = sheet::read(bytes, words);
     if sheet.number != 0 {
-        let told = sheet::write_refusal(sheet.number, sheet.place as u32, out);
+        let told = printer::write_refusal(sheet.number, sheet.place as u32, out);
         return told.count;
     }
     let lens = sheet.lens;
@@ -34,6 +34,6 @@ pub fn job(
     let count = sheet.count;
     let answer = run(words, scratch, lens, &swaps[..count]);
     let turned = answer.lens;
-    let written = sheet::write(turned, answer.order, words, out);
+    let written = printer::write(turned, answer.order, words, out);
     written.count
 }

@@ -6,8 +6,12 @@ use native.Mathlib.Numerals.{add-one}
 use lib.ListN.{length, drop, getD, drop-of-length-le}
 use lib.Seq.{drop-cons}
 
-pub drop-next : (l : List ℕ) (k : ℕ) → k < length l → drop k l ≡ getD l k 0 ∷ drop (k + 1) l
-drop-next l k h = rw (add-one, drop-cons l k 0 h)
+-- z is what an entry past the end is read as
+pub drop-next-or : {A : Type 0} (z : A) (l : List A) (k : ℕ) → k < length l → drop k l ≡ getD l k z ∷ drop (k + 1) l
+drop-next-or z l k h = rw (add-one, drop-cons l k z h)
 
-pub drop-end : (l : List ℕ) (k : ℕ) → length l ≤ k → drop k l ≡ []
+pub drop-next : (l : List ℕ) (k : ℕ) → k < length l → drop k l ≡ getD l k 0 ∷ drop (k + 1) l
+drop-next l k h = drop-next-or 0 l k h
+
+pub drop-end : {A : Type 0} (l : List A) (k : ℕ) → length l ≤ k → drop k l ≡ []
 drop-end l k h = drop-of-length-le l {i = k} h

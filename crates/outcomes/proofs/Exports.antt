@@ -9,20 +9,24 @@ use borrow.Author.Needs.{needs}
 use Rattle.axes.specs.declared.Answer.{Answer as Below-Answer}
 use Rattle.axes.specs.declared.Planned.{Planned as Below-Planned}
 use Rattle.sheet.specs.declared.Sheet.{Sheet as Below-Sheet}
-use Rattle.sheet.specs.declared.Written.{Written as Below-Written}
+use Rattle.printer.specs.declared.Written.{Written as Below-Written}
 use Rattle.home.specs.declared.Home.{Home as Below-Home}
+use Rattle.sheet.specs.declared.ResultSheet.{ResultSheet as Below-ResultSheet}
 use Rattle.exports.specs.declared.Answer.{Answer}
 use Rattle.exports.specs.declared.Planned.{Planned}
 use Rattle.exports.specs.declared.Sheet.{Sheet}
 use Rattle.exports.specs.declared.Written.{Written}
 use Rattle.exports.specs.declared.Home.{Home}
+use Rattle.exports.specs.declared.ResultSheet.{ResultSheet}
 use Rattle.passes.proofs.OneOutcome as passes
 use Rattle.halves.proofs.OneOutcome as halves
 use Rattle.axes.proofs.OneOutcome as axes-outcome
 use Rattle.sheet.proofs.OneOutcome as sheets
+use Rattle.printer.proofs.OneOutcome as prints
 use Rattle.job.proofs.OneOutcome as jobs
 use Rattle.home.proofs.OneOutcome as homes
 use Rattle.cameras.proofs.OneOutcome as cameras
+use Rattle.tiles.proofs.OneOutcome as tiles
 use Rattle.exports.proofs.zib_turn.Kinds as turn-kinds
 use Rattle.exports.proofs.zib_turn.Reads as turn
 use Rattle.exports.proofs.zib_turn_back.Kinds as turn-back-kinds
@@ -47,6 +51,12 @@ use Rattle.exports.proofs.zib_remove_camera.Kinds as remove-kinds
 use Rattle.exports.proofs.zib_remove_camera.Reads as remove
 use Rattle.exports.proofs.zib_add_camera.Kinds as add-kinds
 use Rattle.exports.proofs.zib_add_camera.Reads as add
+use Rattle.exports.proofs.zib_to_tiles.Kinds as to-tiles-kinds
+use Rattle.exports.proofs.zib_to_tiles.Reads as to-tiles
+use Rattle.exports.proofs.zib_from_tiles.Kinds as from-tiles-kinds
+use Rattle.exports.proofs.zib_from_tiles.Reads as from-tiles
+use Rattle.exports.proofs.zib_read_result.Kinds as read-result-kinds
+use Rattle.exports.proofs.zib_read_result.Reads as read-result
 
 -- a record of the interface from that of the call below, field by field
 abbrev as-answer : Below-Answer → Answer
@@ -60,6 +70,9 @@ as-sheet r = record { number = r .number; place = r .place; lens = r .lens; swap
 
 abbrev as-home : Below-Home → Home
 as-home r = record { number = r .number; count = r .count }
+
+abbrev as-result : Below-ResultSheet → ResultSheet
+as-result r = record { number = r .number; place = r .place; lens = r .lens; order = r .order }
 
 abbrev as-wrote : Below-Written → Written
 as-wrote r = record { number = r .number; count = r .count }
@@ -94,7 +107,7 @@ read-sheet-once κs a r r′ s s′ p q = let e = sheets.read-once p q in (ap as
 
 pub write-sheet-once : (κs : Lfts 2) (a : Dens κs write-sheet-kinds.ps) (r r′ : Written) (s s′ : AtExit (endedOf 2 write-sheet-kinds.ps write-sheet-kinds.r) κs)
     → write-sheet.Post κs a r s → write-sheet.Post κs a r′ s′ → (r ≡ r′) × (s .1 .1 .1 .0 .now ≡ s′ .1 .1 .1 .0 .now)
-write-sheet-once κs a r r′ s s′ p q = let e = sheets.write-once p q in (ap as-wrote (e .0), e .1)
+write-sheet-once κs a r r′ s s′ p q = let e = prints.write-once p q in (ap as-wrote (e .0), e .1)
 
 pub job-once : (κs : Lfts 4) (a : Dens κs job-kinds.ps) (r r′ : ℕ) (s s′ : AtExit (endedOf 4 job-kinds.ps job-kinds.r) κs)
     → job.Post κs a r s → job.Post κs a r′ s′ → (r ≡ r′) × (s .1 .0 .now ≡ s′ .1 .0 .now) × (s .1 .1 .0 .now ≡ s′ .1 .1 .0 .now) × (s .1 .1 .1 .0 .now ≡ s′ .1 .1 .1 .0 .now)
@@ -111,3 +124,15 @@ remove-camera-once κs a r r′ s s′ p q = cameras.remove-once (a .1 .0) (a .1
 pub add-camera-once : (κs : Lfts 2) (a : Dens κs add-kinds.ps) (r r′ : ℕ) (s s′ : AtExit (endedOf 2 add-kinds.ps add-kinds.r) κs)
     → add.Post κs a r s → add.Post κs a r′ s′ → (r ≡ r′) × (s .0 .now ≡ s′ .0 .now)
 add-camera-once κs a r r′ s s′ p q = cameras.add-once (a .1 .0) (a .1 .1 .0) (a .1 .1 .1 .0) p q
+
+pub to-tiles-once : (κs : Lfts 2) (a : Dens κs to-tiles-kinds.ps) (r r′ : ℕ) (s s′ : AtExit (endedOf 2 to-tiles-kinds.ps to-tiles-kinds.r) κs)
+    → to-tiles.Post κs a r s → to-tiles.Post κs a r′ s′ → (r ≡ r′) × (s .0 .now ≡ s′ .0 .now) × (s .1 .0 .now ≡ s′ .1 .0 .now)
+to-tiles-once κs a r r′ s s′ p q = tiles.to-tiles-once (a .1 .1 .0) (a .1 .1 .1 .0) (a .1 .1 .1 .1 .0) (a .1 .1 .1 .1 .1 .0) p q
+
+pub from-tiles-once : (κs : Lfts 2) (a : Dens κs from-tiles-kinds.ps) (r r′ : ℕ) (s s′ : AtExit (endedOf 2 from-tiles-kinds.ps from-tiles-kinds.r) κs)
+    → from-tiles.Post κs a r s → from-tiles.Post κs a r′ s′ → (r ≡ r′) × (s .0 .now ≡ s′ .0 .now) × (s .1 .0 .now ≡ s′ .1 .0 .now)
+from-tiles-once κs a r r′ s s′ p q = tiles.from-tiles-once (a .1 .1 .0) (a .1 .1 .1 .0) (a .1 .1 .1 .1 .0) (a .1 .1 .1 .1 .1 .0) p q
+
+pub read-result-once : (κs : Lfts 2) (a : Dens κs read-result-kinds.ps) (r r′ : ResultSheet) (s s′ : AtExit (endedOf 2 read-result-kinds.ps read-result-kinds.r) κs)
+    → read-result.Post κs a r s → read-result.Post κs a r′ s′ → (r ≡ r′) × (s .1 .0 .now ≡ s′ .1 .0 .now)
+read-result-once κs a r r′ s s′ p q = let e = sheets.read-result-once p q in (ap as-result (e .0), e .1)

@@ -9,6 +9,8 @@ pub mod Checks
 pub mod Methods
 -- demand 3 about the contract of the chain as the checker reads it
 pub mod Demand3
+-- result sheets come back: what is written reads back the same, and what is read is what would be written
+pub mod ResultSheets
 -- what a wrong outcome runs into
 pub mod Wrong
 -- the wrong outcomes of each call, refuted
@@ -20,9 +22,16 @@ pub mod RefutedChain
 pub mod RefutedRequest
 pub mod RefutedPlan
 pub mod RefutedRead
+pub mod RefutedResult
 pub mod RefutedWrite
 pub mod RefutedJob
 -- the count of repeats: one outcome, and wrong ones refuted
 pub mod Repeats
 -- removing and adding a camera: one outcome, and wrong ones refuted
 pub mod Cameras
+-- the conversions to tiles and back: one outcome, and wrong ones refuted
+pub mod Tiles
+pub mod RefutedTiles
+-- the join desk: one outcome, and wrong ones refuted
+pub mod Desk
+pub mod RefutedDesk

@@ -12,19 +12,19 @@ use Rattle.refusals.specs.Conditions.{firstPlace}
 use Rattle.text.specs.Print.{digits, decimal, field, fields, line}
 use Rattle.text.specs.Read.{readMore, readNumber, readField, readFields, closed, readLine, tabs}
 use Rattle.text.specs.Sheet.{shapeWord, chainWord, rowWord, rowCount, rowWidth, rowsText, sheetText}
-use Rattle.text.specs.Meaning.{Outcome, longSheet, shapeLine, chainLine, rowLines, ended, meaning}
+use Rattle.text.specs.Meaning.{Outcome, longSheet, shapeLine, chainLine, rowLines, ended, meaning, meaningBy}
 use Rattle.sheet.specs.declared.Sheet.{Sheet}
 use Rattle.sheet.specs.Reader.{answer, kept, ReadAs}
 use Rattle.outcomes.proofs.Wrong.{other-number, other-list}
 
-abbrev buffer : List ℕ
+abbrev pub buffer : List ℕ
 buffer = replicate 7 9
 
 abbrev right : List ℕ
 right = sheetText (1 ∷ 1 ∷ 2 ∷ 3 ∷ []) (2 ∷ []) (1 ∷ 2 ∷ 3 ∷ 4 ∷ 5 ∷ 6 ∷ [])
 
 right-means : meaning buffer right ≡ Outcome.accepted (1 ∷ 1 ∷ 2 ∷ 3 ∷ []) (2 ∷ []) (1 ∷ 2 ∷ 3 ∷ 4 ∷ 5 ∷ 6 ∷ [])
-unfolding sheetText rowsText rowCount rowWidth volume line fields field decimal digits readMore readNumber readField readFields closed readLine tabs shapeLine chainLine rowLines ended meaning
+unfolding sheetText rowsText rowCount rowWidth volume line fields field decimal digits readMore readNumber readField readFields closed readLine tabs shapeLine chainLine rowLines ended meaningBy
 right-means = refl
 
 module _ {buffer bytes buffer′ : List ℕ} {a : Sheet} {o : Outcome} (p : ReadAs buffer bytes a buffer′) (e : meaning buffer bytes ≡ o) where
@@ -53,7 +53,7 @@ stores-where-it-refuses p e n = n (stored p e)
 
 -- one that gives a fixed answer: right for the right sheet, it is wrong for an empty one
 pub fixed-answer : {a : Sheet} {b b′ : List ℕ} → ReadAs buffer right a b → ReadAs buffer [] a b′ → ⊥
-unfolding readLine shapeLine meaning
+unfolding readLine shapeLine meaningBy
 fixed-answer p q = other-number (sym (number p right-means) ∙ number {o = Outcome.refused 10 1} q refl) tt
 
 -- one that stores nothing, and one that changes a word behind the block
@@ -80,13 +80,13 @@ pub record Case : Type 0 where
   pub number : ℕ
   pub place : ℕ
 
-abbrev case : List ℕ → ℕ → ℕ → Case
+abbrev pub case : List ℕ → ℕ → ℕ → Case
 case b k l = record { bytes = b; number = k; place = l }
 
-abbrev shape : List ℕ → List ℕ
+abbrev pub shape : List ℕ → List ℕ
 shape ds = line shapeWord ds
 
-abbrev good : List ℕ
+abbrev pub good : List ℕ
 good = shape (1 ∷ 1 ∷ 1 ∷ 1 ∷ [])
 
 -- a row `007`, a last line that is not closed, an LF too many and its place; then, of each two neighbours of the reading order that can
@@ -106,11 +106,11 @@ cases =
     ∷ []
 
 -- a sheet is refused with this number and this place, as a test
-abbrev refusedAs : ℕ → ℕ → Outcome → Bool
+abbrev pub refusedAs : ℕ → ℕ → Outcome → Bool
 refusedAs number place (Outcome.refused k l) = eqb k number && eqb l place
 refusedAs number place (Outcome.accepted ds chain words) = false
 
-refused-as : (number place : ℕ) (o : Outcome) → T (refusedAs number place o) → o ≡ Outcome.refused number place
+pub refused-as : (number place : ℕ) (o : Outcome) → T (refusedAs number place o) → o ≡ Outcome.refused number place
 refused-as number place (Outcome.refused k l) t =
     ap₂ Outcome.refused (eqb→eq k number (both-left (eqb k number) (eqb l place) t)) (eqb→eq l place (both-right (eqb k number) (eqb l place) t))
 refused-as number place (Outcome.accepted ds chain words) t = absurd t
@@ -119,7 +119,7 @@ abbrev holds : Case → Bool
 holds c = refusedAs (c .number) (c .place) (meaning buffer (c .bytes))
 
 all-hold : T (every holds cases)
-unfolding rowCount rowWidth volume firstPlace line fields field decimal digits readMore readNumber readField readFields closed readLine tabs shapeLine chainLine rowLines ended meaning
+unfolding rowCount rowWidth volume firstPlace line fields field decimal digits readMore readNumber readField readFields closed readLine tabs shapeLine chainLine rowLines ended meaningBy
 all-hold = tt
 
 case-means : (c : Case) → List·Memᴰ c cases → meaning buffer (c .bytes) ≡ Outcome.refused (c .number) (c .place)
@@ -134,5 +134,5 @@ another-place c m p n = n (place p (case-means c m))
 
 -- 9 and 10 at line 1: a sheet that is too long is not read
 pub ten-before-nine : {bytes : List ℕ} {a : Sheet} {b : List ℕ} → ReadAs buffer bytes a b → longSheet bytes ≡ true → a .number ≡ 10 → ⊥
-unfolding shapeLine meaning
+unfolding shapeLine meaningBy
 ten-before-nine p long e = other-number (sym e ∙ number {o = Outcome.refused 9 0} p (rw long)) tt

@@ -8,9 +8,9 @@ use Rattle.layout.specs.Layout.{volume}
 use Rattle.refusals.specs.FirstOf.{firstOf}
 use Rattle.text.specs.Print.{digits, decimal, field, fields, line}
 use Rattle.text.specs.Sheet.{rowCount, rowWidth, rowsText, resultText, refusalText}
-use Rattle.sheet.specs.declared.Written.{Written}
-use Rattle.sheet.specs.Writer.{writerChecks, writerNumber, WrittenAs}
-use Rattle.sheet.specs.RefusalWriter.{refusalNumber, RefusalWrittenAs}
+use Rattle.printer.specs.declared.Written.{Written}
+use Rattle.printer.specs.Writer.{writerChecks, writerNumber, WrittenAs}
+use Rattle.printer.specs.RefusalWriter.{refusalNumber, RefusalWrittenAs}
 use Rattle.outcomes.proofs.Wrong.{other-number, other-list}
 
 abbrev lengths : List ℕ

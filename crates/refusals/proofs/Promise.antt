@@ -1,4 +1,4 @@
--- Any two outcomes that one promise allows coincide: number, buffer and scratch, where two right buffers are equal.
+-- Any two outcomes that one promise allows coincide: number, buffer and scratch, where two right buffers of an accepted call are equal.
 use mathlib.Core.Path.{_≡_, refl, sym, _∙_}
 use mathlib.Core.List.{List}
 use mathlib.Core.Logic.{⊎-elim}
@@ -8,22 +8,29 @@ use Rattle.refusals.specs.FirstOf.{Check, firstOf}
 use Rattle.refusals.specs.Scratch.{cleared}
 use Rattle.refusals.specs.Promise.{Rearranged}
 
-module _ {checks : List Check} {needed : ℕ} {Right : List ℕ → Type 0} {buffer₀ scratch₀ : List ℕ} (one : (ys zs : List ℕ) → Right ys → Right zs → ys ≡ zs)
+module _ {checks : List Check} {needed : ℕ} {Right : List ℕ → Type 0} {buffer₀ scratch₀ : List ℕ}
+    (one : firstOf checks ≡ 0 → (ys zs : List ℕ) → Right ys → Right zs → ys ≡ zs)
     {r r′ : ℕ} {buffer buffer′ scratch scratch′ : List ℕ}
     (p : Rearranged checks needed Right buffer₀ scratch₀ r buffer scratch) (q : Rearranged checks needed Right buffer₀ scratch₀ r′ buffer′ scratch′) where
   one-number : r ≡ r′
   one-number = p .number-is ∙ sym (q .number-is)
 
-  pub one-outcome : (r ≡ r′) × (buffer ≡ buffer′) × (scratch ≡ scratch′)
-  one-outcome =
+  pub one-accepted : (r ≡ r′) × (buffer ≡ buffer′) × (scratch ≡ scratch′)
+  one-accepted =
       ⊎-elim
       (λ (e : r ≡ 0).
       let e′ : r′ ≡ 0 = sym one-number ∙ e in
-      (one-number, one buffer buffer′ (p .words e) (q .words e′), p .zeroed e ∙ sym (q .zeroed e′)))
+      (one-number, one (sym (p .number-is) ∙ e) buffer buffer′ (p .words e) (q .words e′), p .zeroed e ∙ sym (q .zeroed e′)))
       (λ (n : r ≡ 0 → ⊥).
       let n′ : r′ ≡ 0 → ⊥ = λ e. n (one-number ∙ e) in
       (one-number, p .kept n .0 ∙ sym (q .kept n′ .0), p .kept n .1 ∙ sym (q .kept n′ .1)))
       (eq-or-ne r 0)
+
+-- the same where two right buffers are equal, accepted or not
+pub one-outcome : {checks : List Check} {needed : ℕ} {Right : List ℕ → Type 0} {buffer₀ scratch₀ : List ℕ} → ((ys zs : List ℕ) → Right ys → Right zs → ys ≡ zs)
+    → {r r′ : ℕ} {buffer buffer′ scratch scratch′ : List ℕ} → Rearranged checks needed Right buffer₀ scratch₀ r buffer scratch
+    → Rearranged checks needed Right buffer₀ scratch₀ r′ buffer′ scratch′ → (r ≡ r′) × (buffer ≡ buffer′) × (scratch ≡ scratch′)
+one-outcome one p q = one-accepted (λ _. one) p q
 
 -- a refused outcome, and an accepted one
 pub refused : {checks : List Check} {needed : ℕ} {Right : List ℕ → Type 0} {buffer scratch : List ℕ} {r : ℕ}

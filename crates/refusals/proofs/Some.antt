@@ -47,6 +47,11 @@ none-at f [] e k h = absurd (not-suc-le-zero h)
 none-at f (x ∷ l) e zero h = either-false (f x) (some f l) e .0
 none-at f (x ∷ l) e (suc k) h = none-at f l (either-false (f x) (some f l) e .1) k (le-of-suc-le-suc h)
 
+-- and a test that fails at each holds at none; z is what an entry past the end is read as
+pub none-some : {A : Type 0} (z : A) (f : A → Bool) (l : List A) → ((k : ℕ) → k < length l → f (getD l k z) ≡ false) → some f l ≡ false
+none-some z f [] all = refl
+none-some z f (x ∷ l) all = rw (all 0 (omega arith)) (none-some z f l (λ k h. all (suc k) (omega arith)))
+
 -- where the first place is among the entries the test holds at some entry
 pub found-place : (f : ℕ → Bool) (l : List ℕ) → firstPlace f l < length l → some f l ≡ true
 unfolding firstPlace

@@ -8,7 +8,7 @@ use Rattle.layout.specs.Layout.{volume}
 use Rattle.orders.specs.Numbers.{orderCount}
 
 -- the test holds at some entry
-abbrev pub some : (ℕ → Bool) → List ℕ → Bool
+abbrev pub some : {A : Type 0} → (A → Bool) → List A → Bool
 some f [] = false
 some f (x ∷ xs) = f x || some f xs
 

@@ -2,10 +2,10 @@
 use mathlib.Core.Path.{_≡_, refl, sym, ap, _∙_}
 use mathlib.Core.Bool.{Bool, true, false, not}
 use mathlib.Core.List.{List, [], _∷_, _++_}
-use Prim.Native.Nat.{ℕ, _+_, _-_, _<_, _≤_}
+use Prim.Native.Nat.{ℕ, zero, suc, _+_, _-_, _<_, _≤_}
 use native.Mathlib.Omega.{arith}
 use lib.Dec.{ltb}
-use lib.ListN.{length, take, drop, replicate}
+use lib.ListN.{length, take, drop, getD, replicate}
 use lib.Seq.{take-at}
 use borrow.Author.Tests.{not-true, not-false, lt-ltb, le-ltb}
 use Rattle.refusals.specs.FirstOf.{check, firstOf}
@@ -13,13 +13,12 @@ use Rattle.refusals.specs.Conditions.{badLength, shortBuffer, noSwap, badSwap, 
 use Rattle.refusals.proofs.Some.{found-place, no-place}
 use Rattle.text.specs.Print.{lineFeed}
 use Rattle.text.specs.Read.{Reading, readFields, readLine, tabs}
-use Rattle.text.specs.Sheet.{shapeWord, chainWord}
-use Rattle.text.specs.Meaning.{Verdict, bigSheet, refuseIf, shapeLine, chainLine}
+use Rattle.text.specs.Sheet.{shapeWord, chainWord, orderWord}
+use Rattle.text.specs.Meaning.{Verdict, bigSheet, refuseIf, shapeLine, chainLine, orderLine}
 use Rattle.text.proofs.Lines.{line-text}
-use Rattle.sheet.specs.Place.{At, There, RefusedWith, VerdictAt, ChainAt, numbersOf, wordsOf}
-use Rattle.sheet.specs.Swaps.{padded}
-use Rattle.sheet.specs.Writer.{sheetChecks}
-use Rattle.sheet.proofs.Block.{firstFour, first-four}
+use Rattle.sheet.specs.Place.{At, There, RefusedWith, VerdictAt, SecondAt, numbersOf, wordsOf, secondLine}
+use Rattle.blocks.specs.Checks.{sheetChecks}
+use Rattle.blocks.proofs.Block.{firstFour, first-four}
 use Rattle.sheet.proofs.LinesAt.{line-fields}
 
 -- a step that refused, answered by a struct with that number and place
@@ -100,73 +99,138 @@ module _ (buffer : List ℕ) {bytes : List ℕ} where
             step-go (formed ∙ three-go (badLength (firstFour vs)) (bigSheet (firstFour vs)) (shortBuffer (firstFour vs) buffer) _ (sym is ∙ z))
             (l .inside)
 
--- line 2, which begins at a place and has so many tabs
+-- line 2: a refusal, or its numbers
+second-no : {bytes numbers : List ℕ} {what : Verdict} {number place n next k p : ℕ} → RefusedWith k p number place next → (k ≡ 0 → ⊥)
+    → what ≡ Verdict.refuse k p → SecondAt bytes what number place numbers n next
+second-no r nonzero e =
+    record {
+      step = step-no r nonzero e;
+      padded = λ z. absurd (nonzero (sym (r .numbered) ∙ z));
+      counted = λ z. absurd (nonzero (sym (r .numbered) ∙ z));
+    }
+
+second-go : {bytes numbers vs : List ℕ} {what : Verdict} {n next : ℕ} → what ≡ Verdict.go vs (drop next bytes) → next ≤ length bytes
+    → numbers ≡ vs ++ replicate (32 - n) 0 → length vs ≡ n → SecondAt bytes what 0 0 numbers n next
+second-go {vs = vs} {what = what} e h is long =
+    let w : wordsOf what ≡ vs = rw e in
+    record {
+      step = step-go (rw e) h;
+      padded = λ z. rw w (is ∙ ap (λ (n : ℕ). vs ++ replicate (32 - n) 0) (sym long));
+      counted = λ z. rw w (sym long);
+    }
+
+-- line 2 of a form: a word and so many numbers, from a place on
+module _ {bytes : List ℕ} (at : ℕ) (word : List ℕ) (count : ℕ) {ok : Bool} {end : ℕ}
+    (l : At bytes (readLine word count (drop at bytes)) ok (numbersOf (readLine word count (drop at bytes))) end) (o : not ok ≡ false) where
+  second-formed : readLine word count (drop at bytes) ≡ Reading.found (numbersOf (readLine word count (drop at bytes))) (drop end bytes)
+  second-formed = l .right (not-false ok o)
+
+  long : length (numbersOf (readLine word count (drop at bytes))) ≡ count
+  long = line-text word count (drop at bytes) second-formed .long
+
+  module _ (inside : at ≤ length bytes) where
+    pub second-inside : at + length word ≤ length bytes
+    second-inside = line-fields bytes at word count inside second-formed .0
+
+    fields₂ : readFields count (drop (at + length word) bytes)
+        ≡ Reading.found (numbersOf (readLine word count (drop at bytes))) (lineFeed ∷ drop end bytes)
+    fields₂ = line-fields bytes at word count inside second-formed .1
+
+    pub second-there : There (readFields count (drop (at + length word) bytes))
+    second-there = record { found = rw fields₂ }
+
+    fetched : {numbers : List ℕ} → numbers ≡ numbersOf (readFields count (drop (at + length word) bytes)) ++ replicate (32 - count) 0
+        → numbers ≡ numbersOf (readLine word count (drop at bytes)) ++ replicate (32 - count) 0
+    fetched e = e ∙ ap (λ (x : Reading (List ℕ)). numbersOf x ++ replicate (32 - count) 0) fields₂
+
+-- a chain, which has so many tabs
 module _ {bytes : List ℕ} (at : ℕ) {count : ℕ} (t : count ≡ tabs (drop at bytes)) {ok : Bool} {end : ℕ}
     (l : At bytes (readLine chainWord count (drop at bytes)) ok (numbersOf (readLine chainWord count (drop at bytes))) end) where
-  chain-no : {swaps : List ℕ} {number place n next k p : ℕ} → RefusedWith k p number place next → (k ≡ 0 → ⊥)
-      → chainLine (drop at bytes) ≡ Verdict.refuse k p → ChainAt bytes (chainLine (drop at bytes)) number place swaps n next
-  chain-no r nonzero e =
-      record {
-        step = step-no r nonzero e;
-        padded = λ z. absurd (nonzero (sym (r .numbered) ∙ z));
-        counted = λ z. absurd (nonzero (sym (r .numbered) ∙ z));
-      }
-
-  pub chain-form : {swaps : List ℕ} {number place n next : ℕ} → not ok ≡ true → RefusedWith 10 2 number place next
-      → ChainAt bytes (chainLine (drop at bytes)) number place swaps n next
+  pub chain-form : {numbers : List ℕ} {number place n next : ℕ} → not ok ≡ true → RefusedWith 10 2 number place next
+      → SecondAt bytes (chainLine (drop at bytes)) number place numbers n next
   unfolding chainLine
-  chain-form o r = chain-no r (λ z. omega arith) (rw (← t, l .wrong (not-true ok o)))
+  chain-form o r = second-no r (λ z. omega arith) (rw (← t, l .wrong (not-true ok o)))
 
   module _ (o : not ok ≡ false) where
     abbrev chain : List ℕ
     chain = numbersOf (readLine chainWord count (drop at bytes))
 
-    long : length chain ≡ count
-    long = line-text chainWord count (drop at bytes) (l .right (not-false ok o)) .long
-
-    -- the step once its form is right
     chain-formed : chainLine (drop at bytes)
         ≡ refuseIf (ltb 32 (length chain)) 5 0 (refuseIf (badSwap 4 chain) 6 (firstPlace (noSwap 4) chain) (Verdict.go chain (drop end bytes)))
     unfolding chainLine
     chain-formed = rw (← t, l .right (not-false ok o))
 
-    pub chain-long : {swaps : List ℕ} {number place n next : ℕ} → 32 < count → RefusedWith 5 0 number place next
-        → ChainAt bytes (chainLine (drop at bytes)) number place swaps n next
-    chain-long h r = chain-no r (λ z. omega arith) (chain-formed ∙ rw (lt-ltb 32 (length chain) (omega (arith, long))))
+    count-of : length chain ≡ count
+    count-of = long at chainWord count l o
 
-    module _ (inside : at ≤ length bytes) where
-      chain-fields : (at + 5 ≤ length bytes) × (readFields count (drop (at + 5) bytes) ≡ Reading.found chain (lineFeed ∷ drop end bytes))
-      chain-fields = line-fields bytes at chainWord count inside (l .right (not-false ok o))
+    pub chain-long : {numbers : List ℕ} {number place n next : ℕ} → 32 < count → RefusedWith 5 0 number place next
+        → SecondAt bytes (chainLine (drop at bytes)) number place numbers n next
+    chain-long h r = second-no r (λ z. omega arith) (chain-formed ∙ rw (lt-ltb 32 (length chain) (omega (arith, count-of))))
 
-      pub chain-inside : at + 5 ≤ length bytes
-      chain-inside = chain-fields .0
+    module _ (inside : at ≤ length bytes) (few : count ≤ 32) {swaps : List ℕ}
+        (e : swaps ≡ numbersOf (readFields count (drop (at + 5) bytes)) ++ replicate (32 - count) 0)
+        {bad : ℕ} (b : bad ≡ firstPlace (ltb 2) (take count swaps)) where
+      swaps-are : swaps ≡ chain ++ replicate (32 - count) 0
+      swaps-are = fetched at chainWord count l o inside e
 
-      pub chain-there : There (readFields count (drop (at + 5) bytes))
-      chain-there = record { found = rw (chain-fields .1) }
+      first : bad ≡ firstPlace (noSwap 4) chain
+      first = b ∙ rw swaps-are (ap (firstPlace (noSwap 4)) (take-at chain (replicate (32 - count) 0) count count-of))
 
-      module _ (few : count ≤ 32) {swaps : List ℕ} (e : swaps ≡ numbersOf (readFields count (drop (at + 5) bytes)) ++ replicate (32 - count) 0)
-          {bad : ℕ} (b : bad ≡ firstPlace (ltb 2) (take count swaps)) where
-        fetched : swaps ≡ chain ++ replicate (32 - count) 0
-        fetched = e ∙ ap (λ (x : Reading (List ℕ)). numbersOf x ++ replicate (32 - count) 0) (chain-fields .1)
+      pub chain-bad : {values : List ℕ} {number place n next : ℕ} → bad < count → RefusedWith 6 bad number place next
+          → SecondAt bytes (chainLine (drop at bytes)) number place values n next
+      chain-bad h r =
+          let some-bad = found-place (noSwap 4) chain (omega (arith, first, count-of)) in
+          second-no r (λ z. omega arith)
+          (chain-formed ∙ rw (le-ltb 32 (length chain) (omega (arith, count-of)), some-bad) (ap (Verdict.refuse 6) (sym first)))
 
-        first : bad ≡ firstPlace (noSwap 4) chain
-        first = b ∙ rw fetched (ap (firstPlace (noSwap 4)) (take-at chain (replicate (32 - count) 0) count long))
+      pub chain-go : count ≤ bad → SecondAt bytes (chainLine (drop at bytes)) 0 0 swaps count end
+      chain-go h =
+          let none = no-place (noSwap 4) chain (omega (arith, first, count-of)) in
+          second-go {vs = chain} (chain-formed ∙ rw (le-ltb 32 (length chain) (omega (arith, count-of)), none)) (l .inside) swaps-are count-of
 
-        pub chain-bad : {values : List ℕ} {number place n next : ℕ} → bad < count → RefusedWith 6 bad number place next
-            → ChainAt bytes (chainLine (drop at bytes)) number place values n next
-        chain-bad h r =
-            let some-bad = found-place (noSwap 4) chain (omega (arith, first, long)) in
-            chain-no r (λ z. omega arith)
-            (chain-formed ∙ rw (le-ltb 32 (length chain) (omega (arith, long)), some-bad) (ap (Verdict.refuse 6) (sym first)))
+-- the first of numbers that are followed by zeros
+pub first-padded : (vs : List ℕ) (k : ℕ) → getD (vs ++ replicate k 0) 0 0 ≡ getD vs 0 0
+first-padded [] zero = refl
+first-padded [] (suc k) = refl
+first-padded (v ∷ vs) k = refl
 
-        pub chain-go : count ≤ bad → ChainAt bytes (chainLine (drop at bytes)) 0 0 swaps count end
-        chain-go h =
-            let none = no-place (noSwap 4) chain (omega (arith, first, long)) in
-            let e : chainLine (drop at bytes) ≡ Verdict.go chain (drop end bytes) =
-            chain-formed ∙ rw (le-ltb 32 (length chain) (omega (arith, long)), none) in
-            let w : wordsOf (chainLine (drop at bytes)) ≡ chain = rw e in
-            record {
-              step = step-go (rw e) (l .inside);
-              padded = λ z. rw w (fetched ∙ ap (λ (n : ℕ). chain ++ replicate (32 - n) 0) (sym long));
-              counted = λ z. rw w (sym long);
-            }
+-- an order number
+module _ {bytes : List ℕ} (at : ℕ) {ok : Bool} {end : ℕ}
+    (l : At bytes (readLine orderWord 1 (drop at bytes)) ok (numbersOf (readLine orderWord 1 (drop at bytes))) end) where
+  pub order-form : {numbers : List ℕ} {number place n next : ℕ} → not ok ≡ true → RefusedWith 10 2 number place next
+      → SecondAt bytes (orderLine (drop at bytes)) number place numbers n next
+  unfolding orderLine
+  order-form o r = second-no r (λ z. omega arith) (rw (l .wrong (not-true ok o)))
+
+  module _ (o : not ok ≡ false) (inside : at ≤ length bytes) {numbers : List ℕ}
+      (e : numbers ≡ numbersOf (readFields 1 (drop (at + 5) bytes)) ++ replicate 31 0) where
+    abbrev order : List ℕ
+    order = numbersOf (readLine orderWord 1 (drop at bytes))
+
+    numbers-are : numbers ≡ order ++ replicate 31 0
+    numbers-are = fetched at orderWord 1 l o inside e
+
+    said : getD numbers 0 0 ≡ getD order 0 0
+    said = ap (λ (vs : List ℕ). getD vs 0 0) numbers-are ∙ first-padded order 31
+
+    order-formed : orderLine (drop at bytes) ≡ refuseIf (ltb 23 (getD order 0 0)) 7 0 (Verdict.go order (drop end bytes))
+    unfolding orderLine
+    order-formed = rw (l .right (not-false ok o))
+
+    pub order-no : {values : List ℕ} {number place n next : ℕ} → 23 < getD numbers 0 0 → RefusedWith 7 0 number place next
+        → SecondAt bytes (orderLine (drop at bytes)) number place values n next
+    order-no h r = second-no r (λ z. omega arith) (order-formed ∙ rw (lt-ltb 23 (getD order 0 0) (omega (arith, said))))
+
+    pub order-go : getD numbers 0 0 ≤ 23 → SecondAt bytes (orderLine (drop at bytes)) 0 0 numbers 1 end
+    order-go h =
+        second-go {vs = order} (order-formed ∙ rw (le-ltb 23 (getD order 0 0) (omega (arith, said)))) (l .inside) numbers-are (long at orderWord 1 l o)
+
+-- line 2 by its reader
+module _ {bytes : List ℕ} (at : ℕ) (result : Bool) {numbers : List ℕ} {number place n next : ℕ} where
+  pub by-order : SecondAt bytes (orderLine (drop at bytes)) number place numbers n next → result ≡ true
+      → SecondAt bytes (secondLine result (drop at bytes)) number place numbers n next
+  by-order h e = rw e h
+
+  pub by-chain : SecondAt bytes (chainLine (drop at bytes)) number place numbers n next → result ≡ false
+      → SecondAt bytes (secondLine result (drop at bytes)) number place numbers n next
+  by-chain h e = rw e h

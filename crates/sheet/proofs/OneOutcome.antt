@@ -1,21 +1,15 @@
--- Any two outcomes that one promise allows coincide: of the reader, of the writer and of the writer of a refusal. From the equations that
--- the promises are.
+-- Any two outcomes that one promise of a reader allows coincide. From the equations that the promises are.
 use mathlib.Core.Path.{_≡_, sym, _∙_}
 use mathlib.Core.List.{List}
 use Prim.Native.Nat.{ℕ}
 use Rattle.sheet.specs.declared.Sheet.{Sheet}
-use Rattle.sheet.specs.declared.Written.{Written}
+use Rattle.sheet.specs.declared.ResultSheet.{ResultSheet}
 use Rattle.sheet.specs.Reader.{ReadAs}
-use Rattle.sheet.specs.Writer.{WrittenAs}
-use Rattle.sheet.specs.RefusalWriter.{RefusalWrittenAs}
+use Rattle.sheet.specs.ResultReader.{ResultReadAs}
 
 pub read-once : {buffer bytes : List ℕ} {r r′ : Sheet} {w w′ : List ℕ} → ReadAs buffer bytes r w → ReadAs buffer bytes r′ w′ → (r ≡ r′) × (w ≡ w′)
 read-once p q = (p .answers ∙ sym (q .answers), p .words ∙ sym (q .words))
 
-pub write-once : {ds : List ℕ} {order : ℕ} {words out : List ℕ} {r r′ : Written} {o o′ : List ℕ}
-    → WrittenAs ds order words out r o → WrittenAs ds order words out r′ o′ → (r ≡ r′) × (o ≡ o′)
-write-once p q = (p .answers ∙ sym (q .answers), p .bytes ∙ sym (q .bytes))
-
-pub write-refusal-once : {number place : ℕ} {out : List ℕ} {r r′ : Written} {o o′ : List ℕ} → RefusalWrittenAs number place out r o
-    → RefusalWrittenAs number place out r′ o′ → (r ≡ r′) × (o ≡ o′)
-write-refusal-once p q = (p .answers ∙ sym (q .answers), p .bytes ∙ sym (q .bytes))
+pub read-result-once : {buffer bytes : List ℕ} {r r′ : ResultSheet} {w w′ : List ℕ} → ResultReadAs buffer bytes r w → ResultReadAs buffer bytes r′ w′
+    → (r ≡ r′) × (w ≡ w′)
+read-result-once p q = (p .answers ∙ sym (q .answers), p .words ∙ sym (q .words))

@@ -5,7 +5,7 @@ use Prim.Native.Nat.{ℕ}
 use native.Mathlib.Omega.{arith}
 use lib.ListN.{length, drop}
 use Rattle.text.specs.Meaning.{Outcome, meaning}
-use Rattle.text.proofs.Accepted.{Right, accepted-right, right-accepted}
+use Rattle.text.proofs.SecondLines.{Right, accepted-exactly}
 use Rattle.text.proofs.Bounds.{Within, meaning-within}
 use Rattle.sheet.specs.declared.Sheet.{Sheet}
 use Rattle.sheet.specs.Swaps.{padded}
@@ -34,7 +34,7 @@ accepted-answer {buffer} p m =
 -- a sheet that is right is accepted, and answered with what it is the text of
 pub right-is-read : {buffer bytes : List ℕ} {r : Sheet} {w ds chain words : List ℕ} → ReadAs buffer bytes r w → Right buffer bytes ds chain words
     → (r .number ≡ 0) × Answers buffer r w ds chain words
-right-is-read p h = accepted-answer p (right-accepted h)
+right-is-read p h = accepted-answer p (accepted-exactly _ _ _ _ _ .1 h)
 
 -- a sheet that is accepted is right
 pub read-is-right : {buffer bytes : List ℕ} {r : Sheet} {w : List ℕ} {C : Type 0} → ReadAs buffer bytes r w → r .number ≡ 0
@@ -46,4 +46,4 @@ read-is-right {buffer} {bytes} {r} {w} {C} p z k = by (meaning buffer bytes) ref
         let e : r .number ≡ number = ap (λ (s : Sheet). s .number) (p .answers ∙ ap answer m) in
         absurd (omega (arith, h .given))
     by (Outcome.accepted ds chain words) m Within.accepted =
-        k ds chain words (accepted-right buffer bytes ds chain words m) (accepted-answer p m .1)
+        k ds chain words (accepted-exactly buffer bytes ds chain words .0 m) (accepted-answer p m .1)

@@ -3,7 +3,7 @@
 use mathlib.Core.Path.{_≡_, refl, sym, ap, _∙_}
 use mathlib.Core.Bool.{Bool, true, false, not}
 use mathlib.Core.List.{List, [], _∷_, _++_, append-assoc}
-use Prim.Native.Nat.{ℕ, suc, _+_, _-_, _*_, _<_, _≤_}
+use Prim.Native.Nat.{ℕ, suc, _+_, _-_, _<_, _≤_}
 use native.Mathlib.Omega.{arith}
 use lib.ListN.{length, drop, getD, drop-of-length-le}
 use lib.Seq.{sets}
@@ -134,10 +134,6 @@ row-at bytes count n i p h inside t =
           let b = past-byte bytes r (sym d) in
           rw (b .1, found) (b .0, e₂, e₃);
     })
-
--- the room that the rows left need: one row less
-pub room-left : (count n i : ℕ) → i < count → (count - i) * n ≡ n + (count - (i + 1)) * n
-room-left count n i h = let a : count - i ≡ suc (count - (i + 1)) = omega arith in rw a (omega arith)
 
 ended-words : (k : ℕ) (bs : List ℕ) → wordsOf (ended k bs) ≡ []
 unfolding ended

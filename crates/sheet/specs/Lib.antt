@@ -2,13 +2,7 @@
 pub mod Swaps
 -- the promise of the reader
 pub mod Reader
--- the promise of the writer
-pub mod Writer
--- the promise of the writer of a refusal
-pub mod RefusalWriter
+-- the promise of the reader of result sheets
+pub mod ResultReader
 -- for private functions only: what is read at a place
 pub mod Place
--- for private functions only: bytes put into a buffer
-pub mod Put
--- for private functions only: the thin writer
-pub mod Thin

@@ -4,13 +4,13 @@ use mathlib.Core.Path.{_≡_}
 use mathlib.Core.Bool.{Bool, true, false}
 use mathlib.Core.List.{List, []}
 use Prim.Native.Nat.{ℕ, _≤_}
-use lib.ListN.{length, drop}
+use lib.ListN.{length, drop, replicate}
 use lib.Seq.{sets}
-use Rattle.layout.specs.Layout.{volume}
-use Rattle.refusals.specs.Conditions.{badLength}
 use Rattle.text.specs.Read.{Reading}
-use Rattle.text.specs.Meaning.{Verdict}
+use Rattle.text.specs.Meaning.{Verdict, Outcome, chainLine, orderLine, meaningBy}
 use Rattle.sheet.specs.Swaps.{padded}
+use Rattle.sheet.specs.Reader.{kept}
+use Rattle.sheet.specs.declared.whole.Page.{Page}
 
 -- where it is ok, what was found is the value, with the bytes from `next` on after it; else nothing was found
 pub record At {A : Type 0} (bytes : List ℕ) (what : Reading A) (ok : Bool) (value : A) (next : ℕ) : Type 0 where
@@ -58,12 +58,6 @@ pub record RowsTaken (what : Verdict) (line : ℕ) (words words′ : List ℕ) :
   pub stored : line ≡ 0 → words′ ≡ sets words 0 (wordsOf what)
   pub kept : (line ≡ 0 → ⊥) → words′ ≡ words
 
--- a block that a sheet may have, for which the word buffer has room
-pub record OnSheet (ds words : List ℕ) : Type 0 where
-  pub lengths : badLength ds ≡ false
-  pub few : volume ds ≤ 1024
-  pub enough : volume ds ≤ length words
-
 -- a refusal with the number k and the place p; no bytes follow it
 pub record RefusedWith (k p number place next : ℕ) : Type 0 where
   pub numbered : number ≡ k
@@ -76,8 +70,27 @@ pub record VerdictAt (bytes : List ℕ) (what : Verdict) (number place : ℕ) (v
   pub wrong : (number ≡ 0 → ⊥) → what ≡ Verdict.refuse number place
   pub inside : next ≤ length bytes
 
--- the chain that was read stands before the zeros of the swaps, which it counts
-pub record ChainAt (bytes : List ℕ) (what : Verdict) (number place : ℕ) (swaps : List ℕ) (count next : ℕ) : Type 0 where
+-- the numbers that line 2 was read as stand before zeros, and are counted
+pub record SecondAt (bytes : List ℕ) (what : Verdict) (number place : ℕ) (numbers : List ℕ) (count next : ℕ) : Type 0 where
   pub step : VerdictAt bytes what number place (wordsOf what) next
-  pub padded : number ≡ 0 → swaps ≡ padded (wordsOf what)
+  pub padded : number ≡ 0 → numbers ≡ padded (wordsOf what)
   pub counted : number ≡ 0 → count ≡ length (wordsOf what)
+
+-- line 2 of a result sheet, or of a sheet
+abbrev pub secondLine : Bool → List ℕ → Verdict
+secondLine true = orderLine
+secondLine false = chainLine
+
+-- a page that is refused: its other fields are 0
+abbrev pub noPage : ℕ → ℕ → Page
+noPage number place = record { number = number; place = place; lens = replicate 4 0; numbers = replicate 32 0; count = 0 }
+
+-- what both readers read: the lengths, the numbers of line 2 before zeros, and their count
+abbrev pub pageOf : Outcome → Page
+pageOf (Outcome.refused number place) = noPage number place
+pageOf (Outcome.accepted ds numbers words) = record { number = 0; place = 0; lens = ds; numbers = padded numbers; count = length numbers }
+
+-- the page is that of the meaning, and the words of a right one are stored
+pub record PageAs (second : List ℕ → Verdict) (buffer bytes : List ℕ) (page : Page) (buffer′ : List ℕ) : Type 0 where
+  pub answers : page ≡ pageOf (meaningBy second buffer bytes)
+  pub words : buffer′ ≡ kept (meaningBy second buffer bytes) buffer

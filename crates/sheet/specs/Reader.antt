@@ -7,13 +7,9 @@ use Rattle.text.specs.Meaning.{Outcome, meaning}
 use Rattle.sheet.specs.Swaps.{padded}
 use Rattle.sheet.specs.declared.Sheet.{Sheet}
 
--- a refusal's other fields are 0
-abbrev pub refusal : ℕ → ℕ → Sheet
-refusal number place = record { number = number; place = place; lens = replicate 4 0; swaps = replicate 32 0; count = 0 }
-
--- the answer holds lengths, 32 swap places and the chain's length
+-- the answer holds lengths, 32 swap places and the chain's length; a refusal's other fields are 0
 abbrev pub answer : Outcome → Sheet
-answer (Outcome.refused number place) = refusal number place
+answer (Outcome.refused number place) = record { number = number; place = place; lens = replicate 4 0; swaps = replicate 32 0; count = 0 }
 answer (Outcome.accepted ds chain words) = record { number = 0; place = 0; lens = ds; swaps = padded chain; count = length chain }
 
 -- the words are stored from the buffer's start only when the whole sheet is right; later words stay

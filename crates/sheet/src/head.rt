@@ -1,11 +1,10 @@
-// Lines 1 and 2 of a sheet with their checks: private to the library.
-use crate::check;
+// Lines 1 and 2 of a sheet and of a result sheet with their checks: private to the library.
 use crate::line;
 use crate::values;
 ghost use Prim.Native.Nat.{_≤_};
 ghost use lib.ListN.{length, drop};
-ghost use Rattle.text.specs.Meaning.{shapeLine, chainLine};
-ghost use Rattle.sheet.specs.Place.{RefusedWith, VerdictAt, ChainAt};
+ghost use Rattle.text.specs.Meaning.{shapeLine, chainLine, orderLine};
+ghost use Rattle.sheet.specs.Place.{RefusedWith, VerdictAt, SecondAt, secondLine};
 
 // Line 1 as it was read: a number and a place, or the lengths and the place after the line.
 pub struct Shape {
@@ -15,11 +14,11 @@ pub struct Shape {
     pub next: usize,
 }
 
-// Line 2 as it was read: a number and a place, or the swaps, their count and the place after the line.
-pub struct Chain {
+// Line 2 as it was read: a number and a place, or its numbers (unused places 0), their count and the place after the line.
+pub struct Second {
     pub number: u32,
     pub place: usize,
-    pub swaps: [usize; 32],
+    pub numbers: [usize; 32],
     pub count: usize,
     pub next: usize,
 }
@@ -35,13 +34,13 @@ fn no_shape(number: u32, place: usize) -> Shape
     }
 }
 
-fn no_chain(number: u32, place: usize) -> Chain
+fn no_second(number: u32, place: usize) -> Second
     ensures { λ r. ⌜ RefusedWith number place (r .number) (r .place) (r .next) ⌝ }
 {
-    Chain {
+    Second {
         number,
         place,
-        swaps: [0; 32],
+        numbers: [0; 32],
         count: 0,
         next: 0,
     }
@@ -60,7 +59,7 @@ pub(crate) fn shape_at(bytes: &[u8], words: &[u32]) -> Shape
     }
     let v = values::values_at(bytes, 5, 4);
     let lens = [v[0], v[1], v[2], v[3]];
-    let number = check::sheet_number(&lens, words);
+    let number = blocks::sheet_number(&lens, words);
     if number != 0 {
         return no_shape(number, 0);
     }
@@ -72,29 +71,62 @@ pub(crate) fn shape_at(bytes: &[u8], words: &[u32]) -> Shape
     }
 }
 
-// Line 2, at `at`.
-pub(crate) fn chain_at(bytes: &[u8], at: usize) -> Chain
+// Line 2 of a sheet, at `at`: a chain.
+pub(crate) fn chain_at(bytes: &[u8], at: usize) -> Second
     requires { ⌜ at ≤ length (now bytes) ⌝ }
-    ensures { λ r. ⌜ ChainAt (now (bytes .entry)) (chainLine (drop at (now (bytes .entry)))) (r .number) (r .place) (r .swaps) (r .count) (r .next) ⌝ }
+    ensures { λ r. ⌜ SecondAt (now (bytes .entry)) (chainLine (drop at (now (bytes .entry)))) (r .number) (r .place) (r .numbers) (r .count) (r .next) ⌝ }
 {
     let count = line::tabs_at(bytes, at);
     let second = line::line_at(bytes, at, b"chain", count);
     if !second.ok {
-        return no_chain(10, 2);
+        return no_second(10, 2);
     }
     if 32 < count {
-        return no_chain(5, 0);
+        return no_second(5, 0);
     }
     let swaps = values::values_at(bytes, at + 5, count);
     let bad = checks::first_above(&swaps[..count], 2);
     if bad < count {
-        return no_chain(6, bad);
+        return no_second(6, bad);
     }
-    Chain {
+    Second {
         number: 0,
         place: 0,
-        swaps,
+        numbers: swaps,
         count,
         next: second.next,
     }
+}
+
+// Line 2 of a result sheet, at `at`: an order number.
+pub(crate) fn order_at(bytes: &[u8], at: usize) -> Second
+    requires { ⌜ at ≤ length (now bytes) ⌝ }
+    ensures { λ r. ⌜ SecondAt (now (bytes .entry)) (orderLine (drop at (now (bytes .entry)))) (r .number) (r .place) (r .numbers) (r .count) (r .next) ⌝ }
+{
+    let second = line::line_at(bytes, at, b"order", 1);
+    if !second.ok {
+        return no_second(10, 2);
+    }
+    let numbers = values::values_at(bytes, at + 5, 1);
+    if 23 < numbers[0] {
+        return no_second(7, 0);
+    }
+    Second {
+        number: 0,
+        place: 0,
+        numbers,
+        count: 1,
+        next: second.next,
+    }
+}
+
+// Line 2 of a sheet or of a result sheet, at `at`: all that the two readers differ in.
+pub(crate) fn second_at(bytes: &[u8], at: usize, result: bool) -> Second
+    requires { ⌜ at ≤ length (now bytes) ⌝ }
+    ensures { λ r. ⌜ SecondAt (now (bytes .entry)) (secondLine result (drop at (now (bytes .entry)))) (r .number) (r .place) (r .numbers) (r .count) (r .next) ⌝ }
+{
+    if result {
+        return order_at(bytes, at);
+    }
+    chain_at(bytes, at)
 }

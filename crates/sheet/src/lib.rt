@@ -1,21 +1,12 @@
-mod check;
 mod field;
 mod head;
 mod line;
-mod page;
-mod put;
 mod rows;
 mod values;
-mod writer;
+mod whole;
 
-ghost use mathlib.Core.Path.{_≡_};
-ghost use Prim.Native.Nat.{_≤_};
-ghost use lib.ListN.{length};
-ghost use Rattle.text.specs.Sheet.{resultText};
-ghost use Rattle.sheet.specs.Place.{OnSheet};
-ghost use Rattle.sheet.specs.Reader.{ReadAs, refusal};
-ghost use Rattle.sheet.specs.Writer.{nothingWritten, WrittenAs};
-ghost use Rattle.sheet.specs.RefusalWriter.{RefusalWrittenAs};
+ghost use Rattle.sheet.specs.Reader.{ReadAs};
+ghost use Rattle.sheet.specs.ResultReader.{ResultReadAs};
 
 // What a sheet says: its number and place, its lengths, its swaps (unused ones 0) and how many they are.
 pub struct Sheet {
@@ -26,115 +17,41 @@ pub struct Sheet {
     pub count: usize,
 }
 
-// The answer to a sheet that is refused.
-fn refused(number: u32, place: usize) -> Sheet
-    ensures { λ r. ⌜ r ≡ refusal number place ⌝ }
-{
-    Sheet {
-        number,
-        place,
-        lens: [0; 4],
-        swaps: [0; 32],
-        count: 0,
-    }
+// What a result sheet says: its number and place, its lengths and its order number.
+pub struct ResultSheet {
+    pub number: u32,
+    pub place: usize,
+    pub lens: [usize; 4],
+    pub order: usize,
 }
 
 // Reads a sheet: judges all of it, then stores its words from the start of `words`.
 pub fn read(bytes: &[u8], words: &mut [u32]) -> Sheet
     ensures { λ r. ⌜ ReadAs (now (words .entry)) (now (bytes .entry)) r (now (words .exit)) ⌝ }
 {
-    let first = head::shape_at(bytes, words);
-    if first.number != 0 {
-        return refused(first.number, first.place);
-    }
-    let second = head::chain_at(bytes, first.next);
-    if second.number != 0 {
-        return refused(second.number, second.place);
-    }
-    let lens = first.lens;
-    let wrong = rows::rows_into(bytes, second.next, lens, words);
-    if wrong != 0 {
-        return refused(10, wrong);
-    }
-    let swaps = second.swaps;
+    let page = whole::read_page(bytes, words, false);
+    let lens = page.lens;
+    let swaps = page.numbers;
     Sheet {
-        number: 0,
-        place: 0,
+        number: page.number,
+        place: page.place,
         lens,
         swaps,
-        count: second.count,
+        count: page.count,
     }
 }
 
-// What the writer did: its number, and the count of bytes written.
-pub struct Written {
-    pub number: u32,
-    pub count: usize,
-}
-
-// The answer where the writer refuses.
-fn nothing_written(number: u32) -> Written
-    ensures { λ r. ⌜ r ≡ nothingWritten number ⌝ }
+// Reads a result sheet: judges all of it, then stores its words from the start of `words`.
+pub fn read_result(bytes: &[u8], words: &mut [u32]) -> ResultSheet
+    ensures { λ r. ⌜ ResultReadAs (now (words .entry)) (now (bytes .entry)) r (now (words .exit)) ⌝ }
 {
-    Written { number, count: 0 }
-}
-
-// How many bytes the result sheet has.
-fn result_len(lens: [usize; 4], order: usize, words: &[u32]) -> usize
-    requires { ⌜ OnSheet lens (now words) × (order ≤ 23) ⌝ }
-    ensures { λ r. ⌜ r ≡ length (resultText lens order (now (words .entry))) ⌝ }
-{
-    let size = checks::words_of(&lens);
-    let rows = checks::words_of(&lens[..3]);
-    let head = page::head_len(page::shape_line(lens)) + page::head_len(page::order_line(order));
-    head + 4 * rows + page::words_len(&words[..size])
-}
-
-// The result sheet of a block that was checked: measured, then put at the start of `out`.
-fn put_result(lens: [usize; 4], order: usize, words: &[u32], out: &mut [u8]) -> Written
-    requires { ⌜ OnSheet lens (now words) × (order ≤ 23) ⌝ }
-    ensures { λ r. ⌜ WrittenAs lens order (now (words .entry)) (now (out .entry)) r (now (out .exit)) ⌝ }
-{
-    let need = result_len(lens, order, words);
-    if out.len() < need {
-        return nothing_written(24);
-    }
-    let shape = page::shape_line(lens);
-    let line = page::order_line(order);
-    let rows = checks::words_of(&lens[..3]);
-    let end = writer::result(out, shape, line, words, rows, lens[3]);
-    Written {
-        number: 0,
-        count: end,
-    }
-}
-
-// Writes the result sheet at the start of `out`.
-pub fn write(lens: [usize; 4], order: usize, words: &[u32], out: &mut [u8]) -> Written
-    ensures { λ r. ⌜ WrittenAs lens order (now (words .entry)) (now (out .entry)) r (now (out .exit)) ⌝ }
-{
-    let number = check::sheet_number(&lens, words);
-    if number != 0 {
-        return nothing_written(number);
-    }
-    if 23 < order {
-        return nothing_written(7);
-    }
-    put_result(lens, order, words, out)
-}
-
-// Writes the line of a refusal: measures it, then puts it at the start of `out`.
-pub fn write_refusal(number: u32, place: u32, out: &mut [u8]) -> Written
-    ensures { λ r. ⌜ RefusalWrittenAs number place (now (out .entry)) r (now (out .exit)) ⌝ }
-{
-    let numbers = [number, place];
-    let need = 8 + page::words_len(&numbers);
-    if out.len() < need {
-        return nothing_written(24);
-    }
-    let end = page::put_line(out, 0, b"refused", &numbers);
-    Written {
-        number: 0,
-        count: end,
+    let page = whole::read_page(bytes, words, true);
+    let lens = page.lens;
+    let numbers = page.numbers;
+    ResultSheet {
+        number: page.number,
+        place: page.place,
+        lens,
+        order: numbers[0],
     }
 }

@@ -1,6 +1,7 @@
--- A sheet is accepted exactly when its bytes are the text of lengths, chain and words that pass the checks, and those are the
--- ones answered. Each step of the meaning is taken apart by the laws of steps, each line by the law of lines.
-use mathlib.Core.Path.{_≡_, refl, sym, ap, _∙_}
+-- A sheet is accepted exactly when its bytes are the text of lengths, numbers of a second line and words that pass the checks, and
+-- those are the ones answered; whatever the second line is, if it is read exactly where its text stands. Each step of the meaning is
+-- taken apart by the laws of steps, each line by the law of lines.
+use mathlib.Core.Path.{_≡_, sym, ap, _∙_}
 use mathlib.Core.Bool.{Bool, false}
 use mathlib.Core.List.{List, [], _∷_, _++_}
 use mathlib.Core.Logic.{_↔_}
@@ -9,32 +10,19 @@ use native.Mathlib.Omega.{arith}
 use lib.ListN.{length}
 use borrow.Author.Tests.{ltb-false, le-ltb}
 use Rattle.layout.specs.Layout.{volume}
-use Rattle.refusals.specs.Conditions.{some, outOfRange, badLength, shortBuffer, longChain, noSwap, badSwap, firstPlace}
+use Rattle.refusals.specs.Conditions.{some, outOfRange, badLength, shortBuffer}
 use Rattle.text.specs.Print.{limit, line}
-use Rattle.text.specs.Read.{readLine, tabs}
-use Rattle.text.specs.Sheet.{shapeWord, chainWord, rowCount, rowWidth, rowsText, sheetText}
-use Rattle.text.specs.Meaning.{Verdict, Outcome, longSheet, bigSheet, refuseIf, onLine, onward, conclude, shapeLine, chainLine, rowLines, meaning}
+use Rattle.text.specs.Read.{readLine}
+use Rattle.text.specs.Sheet.{shapeWord, rowCount, rowWidth, rowsText, pageText}
+use Rattle.text.specs.Meaning.{Verdict, Outcome, longSheet, bigSheet, refuseIf, onLine, onward, conclude, shapeLine, rowLines, meaningBy}
 use Rattle.refusals.proofs.Some.{either-false}
 use Rattle.refusals.proofs.Conditions.{ranged}
-use Rattle.text.proofs.Lines.{Small, Stands, line-then, line-text, text-line, tabs-fields}
+use Rattle.text.proofs.Lines.{Small, Stands, line-text, text-line}
 use Rattle.text.proofs.Steps.{refuse-go, on-line-go, onward-go, conclude-accepted}
 use Rattle.text.proofs.Rows.{rows-text, text-rows, rows-volume}
 
--- the bytes are the text of four lengths, a chain and words that pass every check of the reader
-pub record Right (buffer bytes ds chain words : List ℕ) : Type 0 where
-  pub text : bytes ≡ sheetText ds chain words
-  pub few-bytes : length bytes ≤ 16384
-  pub axes : length ds ≡ 4
-  pub lengths : badLength ds ≡ false
-  pub few-words : volume ds ≤ 1024
-  pub room : volume ds ≤ length buffer
-  pub few-swaps : length chain ≤ 32
-  pub swaps : badSwap 4 chain ≡ false
-  pub block : length words ≡ volume ds
-  pub small : Small words
-
 -- numbers among which the test finds none are small, where the test finds every number that is not
-none-small : (f : ℕ → Bool) → ((v : ℕ) → f v ≡ false → v ≤ limit) → (vs : List ℕ) → some f vs ≡ false → Small vs
+pub none-small : (f : ℕ → Bool) → ((v : ℕ) → f v ≡ false → v ≤ limit) → (vs : List ℕ) → some f vs ≡ false → Small vs
 none-small f under [] e = Small.none
 none-small f under (v ∷ vs) e =
     let h = either-false (f v) (some f vs) e in
@@ -42,9 +30,6 @@ none-small f under (v ∷ vs) e =
 
 a-length : (d : ℕ) → outOfRange d ≡ false → d ≤ limit
 a-length d e = omega (arith, ranged d e)
-
-a-swap : (k : ℕ) → (noSwap 4) k ≡ false → k ≤ limit
-a-swap k e = omega (arith, ltb-false 2 k e)
 
 -- what line 1 and its checks let through
 pub record ShapeRead (buffer bytes ds rest : List ℕ) : Type 0 where
@@ -88,101 +73,77 @@ read-shape {buffer} {bytes} {ds} {rest} h =
       le-ltb (length buffer) (volume ds) (h .room),
     )
 
--- what line 2 and its checks let through
-pub record ChainRead (bytes chain rest : List ℕ) : Type 0 where
-  pub held : Stands (line chainWord) (tabs bytes) bytes chain rest
-  pub few-swaps : length chain ≤ 32
-  pub swaps : badSwap 4 chain ≡ false
+-- a second line that is read exactly where the text of numbers stands that its checks let through
+pub record Second (second : List ℕ → Verdict) (print : List ℕ → List ℕ) (Good : List ℕ → Type 0) : Type 0 where
+  pub stands : (bytes : List ℕ) {ns rest : List ℕ} → second bytes ≡ Verdict.go ns rest → (bytes ≡ print ns ++ rest) × Good ns
+  pub reads : (ns rest : List ℕ) → Good ns → second (print ns ++ rest) ≡ Verdict.go ns rest
 
-pub chain-read : (bytes : List ℕ) {chain rest : List ℕ} → chainLine bytes ≡ Verdict.go chain rest → ChainRead bytes chain rest
-unfolding chainLine
-chain-read bytes {chain} {rest} e =
-    let checked : List ℕ → List ℕ → Verdict = λ c mid.
-    refuseIf (longChain c) 5 0 (refuseIf (badSwap 4 c) 6 (firstPlace (noSwap 4) c) (Verdict.go c mid)) in
-    onward-go (onLine 2 (readLine chainWord (tabs bytes) bytes)) checked e
-    (λ c mid e₁ e₂.
-    let f₁ = refuse-go (longChain c) 5 0 (refuseIf (badSwap 4 c) 6 (firstPlace (noSwap 4) c) (Verdict.go c mid)) e₂ in
-    let f₂ = refuse-go (badSwap 4 c) 6 (firstPlace (noSwap 4) c) (Verdict.go c mid) (f₁ .1) in
-    let f₃ : Verdict.go c mid ≡ Verdict.go chain rest = f₂ .1 in
-    let a : c ≡ chain = cc in
-    let b : mid ≡ rest = cc in
-    rw (← a, ← b)
-    (record {
-      held = line-text chainWord (tabs bytes) bytes (on-line-go 2 (readLine chainWord (tabs bytes) bytes) e₁);
-      few-swaps = ltb-false 32 (length c) (f₁ .0);
-      swaps = f₂ .0;
-    }))
+-- the bytes are the text of four lengths, of numbers of the second line and of words that pass every check of the reader
+pub record RightBy (print : List ℕ → List ℕ) (Good : List ℕ → Type 0) (buffer bytes ds ns words : List ℕ) : Type 0 where
+  pub text : bytes ≡ pageText ds (print ns) words
+  pub few-bytes : length bytes ≤ 16384
+  pub axes : length ds ≡ 4
+  pub lengths : badLength ds ≡ false
+  pub few-words : volume ds ≤ 1024
+  pub room : volume ds ≤ length buffer
+  pub second : Good ns
+  pub block : length words ≡ volume ds
+  pub small : Small words
 
-read-chain : {bytes chain rest : List ℕ} → ChainRead bytes chain rest → chainLine bytes ≡ Verdict.go chain rest
-unfolding chainLine
-read-chain {bytes} {chain} {rest} h =
-    rw (text-line chainWord (h .held), le-ltb 32 (length chain) (h .few-swaps), h .swaps)
+module _ {second : List ℕ → Verdict} {print : List ℕ → List ℕ} {Good : List ℕ → Type 0} (law : Second second print Good) where
+  pub accepted-right-by : (buffer bytes ds ns words : List ℕ) → meaningBy second buffer bytes ≡ Outcome.accepted ds ns words
+      → RightBy print Good buffer bytes ds ns words
+  unfolding meaningBy
+  accepted-right-by buffer bytes ds ns words e =
+      let last : List ℕ → List ℕ → List ℕ → List ℕ → Outcome = λ es c ws end. Outcome.accepted es c ws in
+      let rows : List ℕ → List ℕ → List ℕ → Outcome = λ es c mid. conclude (rowLines 3 (rowCount es) (rowWidth es) mid) (last es c) in
+      let line2 : List ℕ → List ℕ → Outcome = λ es rest. conclude (second rest) (rows es) in
+      conclude-accepted (shapeLine buffer bytes) line2 e
+      (λ es rest e₁ e₂. conclude-accepted (second rest) (rows es) e₂
+      (λ c mid e₃ e₄. conclude-accepted (rowLines 3 (rowCount es) (rowWidth es) mid) (last es c) e₄
+      (λ ws end e₅ e₆.
+      let e₇ : Outcome.accepted es c ws ≡ Outcome.accepted ds ns words = e₆ in
+      let a₁ : es ≡ ds = cc in
+      let a₂ : c ≡ ns = cc in
+      let a₃ : ws ≡ words = cc in
+      let h = shape-read buffer bytes e₁ in
+      let k = law .stands rest e₃ in
+      let r = rows-text 3 (rowCount es) (rowWidth es) mid e₅ in
+      rw (← a₁, ← a₂, ← a₃)
+      (record {
+        text =
+            h .held .bytes
+            ∙ ap (λ (l : List ℕ). line shapeWord es ++ l) (k .0 ∙ ap (λ (l : List ℕ). print c ++ l) (r .bytes));
+        few-bytes = h .few-bytes;
+        axes = h .held .long;
+        lengths = h .lengths;
+        few-words = h .few-words;
+        room = h .room;
+        second = k .1;
+        block = r .long ∙ rows-volume es (omega (arith, h .held .long));
+        small = r .small;
+      }))))
 
--- the tabs before the LF of line 2 are its numbers
-chain-tabs : (chain rest : List ℕ) → length chain ≡ tabs (line chainWord chain ++ rest)
-unfolding tabs
-chain-tabs chain rest = rw (line-then chainWord chain rest) (sym (tabs-fields chain rest))
+  pub right-accepted-by : {buffer bytes ds ns words : List ℕ} → RightBy print Good buffer bytes ds ns words
+      → meaningBy second buffer bytes ≡ Outcome.accepted ds ns words
+  unfolding meaningBy
+  right-accepted-by {buffer} {bytes} {ds} {ns} {words} h =
+      let rows : List ℕ = rowsText (rowCount ds) (rowWidth ds) words in
+      let first : ShapeRead buffer bytes ds (print ns ++ rows) =
+      record {
+        few-bytes = h .few-bytes;
+        held = record { bytes = h .text; long = h .axes; small = none-small outOfRange a-length ds (h .lengths) };
+        lengths = h .lengths;
+        few-words = h .few-words;
+        room = h .room;
+      } in
+      rw (
+        read-shape first,
+        law .reads ns rows (h .second),
+        text-rows 3 (rowCount ds) (rowWidth ds) words (h .block ∙ sym (rows-volume ds (omega (arith, h .axes)))) (h .small),
+      )
 
-pub accepted-right : (buffer bytes ds chain words : List ℕ) → meaning buffer bytes ≡ Outcome.accepted ds chain words
-    → Right buffer bytes ds chain words
-unfolding meaning sheetText
-accepted-right buffer bytes ds chain words e =
-    let last : List ℕ → List ℕ → List ℕ → List ℕ → Outcome = λ es c ws end. Outcome.accepted es c ws in
-    let rows : List ℕ → List ℕ → List ℕ → Outcome = λ es c mid. conclude (rowLines 3 (rowCount es) (rowWidth es) mid) (last es c) in
-    let second : List ℕ → List ℕ → Outcome = λ es rest. conclude (chainLine rest) (rows es) in
-    conclude-accepted (shapeLine buffer bytes) second e
-    (λ es rest e₁ e₂. conclude-accepted (chainLine rest) (rows es) e₂
-    (λ c mid e₃ e₄. conclude-accepted (rowLines 3 (rowCount es) (rowWidth es) mid) (last es c) e₄
-    (λ ws end e₅ e₆.
-    let e₇ : Outcome.accepted es c ws ≡ Outcome.accepted ds chain words = e₆ in
-    let a₁ : es ≡ ds = cc in
-    let a₂ : c ≡ chain = cc in
-    let a₃ : ws ≡ words = cc in
-    let h = shape-read buffer bytes e₁ in
-    let k = chain-read rest e₃ in
-    let r = rows-text 3 (rowCount es) (rowWidth es) mid e₅ in
-    rw (← a₁, ← a₂, ← a₃)
-    (record {
-      text =
-          h .held .bytes
-          ∙ ap (λ (l : List ℕ). line shapeWord es ++ l) (k .held .bytes ∙ ap (λ (l : List ℕ). line chainWord c ++ l) (r .bytes));
-      few-bytes = h .few-bytes;
-      axes = h .held .long;
-      lengths = h .lengths;
-      few-words = h .few-words;
-      room = h .room;
-      few-swaps = k .few-swaps;
-      swaps = k .swaps;
-      block = r .long ∙ rows-volume es (omega (arith, h .held .long));
-      small = r .small;
-    }))))
-
-pub right-accepted : {buffer bytes ds chain words : List ℕ} → Right buffer bytes ds chain words
-    → meaning buffer bytes ≡ Outcome.accepted ds chain words
-unfolding meaning sheetText
-right-accepted {buffer} {bytes} {ds} {chain} {words} h =
-    let rows : List ℕ = rowsText (rowCount ds) (rowWidth ds) words in
-    let first : ShapeRead buffer bytes ds (line chainWord chain ++ rows) =
-    record {
-      few-bytes = h .few-bytes;
-      held = record { bytes = h .text; long = h .axes; small = none-small outOfRange a-length ds (h .lengths) };
-      lengths = h .lengths;
-      few-words = h .few-words;
-      room = h .room;
-    } in
-    let second : ChainRead (line chainWord chain ++ rows) chain rows =
-    record {
-      held = record { bytes = refl; long = chain-tabs chain rows; small = none-small (noSwap 4) a-swap chain (h .swaps) };
-      few-swaps = h .few-swaps;
-      swaps = h .swaps;
-    } in
-    rw (
-      read-shape first,
-      read-chain second,
-      text-rows 3 (rowCount ds) (rowWidth ds) words (h .block ∙ sym (rows-volume ds (omega (arith, h .axes)))) (h .small),
-    )
-
--- nothing else is accepted, and nothing right is refused
-pub accepted-exactly : (buffer bytes ds chain words : List ℕ)
-    → (meaning buffer bytes ≡ Outcome.accepted ds chain words) ↔ Right buffer bytes ds chain words
-accepted-exactly buffer bytes ds chain words = (accepted-right buffer bytes ds chain words, right-accepted)
+  -- nothing else is accepted, and nothing right is refused
+  pub accepted-exactly-by : (buffer bytes ds ns words : List ℕ)
+      → (meaningBy second buffer bytes ≡ Outcome.accepted ds ns words) ↔ RightBy print Good buffer bytes ds ns words
+  accepted-exactly-by buffer bytes ds ns words = (accepted-right-by buffer bytes ds ns words, right-accepted-by)

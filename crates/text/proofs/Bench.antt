@@ -1,4 +1,5 @@
--- The definitions computed at small cases: a number printed and read, leading zeros, the limit, a line and its tabs. By computation.
+-- The definitions computed at small cases: a number printed and read, leading zeros, the limit, a line and its tabs, sheets and result
+-- sheets. By computation.
 use mathlib.Core.Path.{_≡_, refl}
 use mathlib.Core.List.{List, [], _∷_, _++_}
 use Prim.Native.Nat.{ℕ}
@@ -7,8 +8,8 @@ use Rattle.text.specs.Print.{digits, decimal, field, fields, line}
 use Rattle.text.specs.Read.{Reading, readMore, readNumber, readField, readFields, closed, readLine, tabs}
 use Rattle.layout.specs.Layout.{volume}
 use Rattle.refusals.specs.Conditions.{firstPlace}
-use Rattle.text.specs.Sheet.{shapeWord, chainWord, rowWord, rowCount, rowWidth, rowsText, sheetText}
-use Rattle.text.specs.Meaning.{Outcome, shapeLine, chainLine, rowLines, ended, meaning}
+use Rattle.text.specs.Sheet.{shapeWord, chainWord, orderWord, rowWord, rowCount, rowWidth, rowsText, sheetText, resultText}
+use Rattle.text.specs.Meaning.{Outcome, shapeLine, chainLine, orderLine, rowLines, ended, meaning, resultMeaning, meaningBy}
 
 printed : decimal 4294967295 ≡ 52 ∷ 50 ∷ 57 ∷ 52 ∷ 57 ∷ 54 ∷ 55 ∷ 50 ∷ 57 ∷ 53 ∷ []
 unfolding decimal digits
@@ -48,17 +49,13 @@ as-printed : example
 unfolding example sheetText rowsText rowCount rowWidth volume line fields field decimal digits
 as-printed = refl
 
--- what the bytes mean for a buffer of six words
-abbrev said : List ℕ → Outcome
-said bytes = meaning (0 ∷ 0 ∷ 0 ∷ 0 ∷ 0 ∷ 0 ∷ []) bytes
-
--- a case: the bytes, and what they mean
-abbrev cases : List (List ℕ) → List Outcome
-cases [] = []
-cases (b ∷ bs) = said b ∷ cases bs
+-- what each of the texts means for a buffer of six words
+abbrev cases : (List ℕ → List ℕ → Outcome) → List (List ℕ) → List Outcome
+cases means [] = []
+cases means (b ∷ bs) = means (0 ∷ 0 ∷ 0 ∷ 0 ∷ 0 ∷ 0 ∷ []) b ∷ cases means bs
 
 -- the example; an empty sheet; an LF more; no chain; swap 3; 33 swaps with a 3 among them; a row too short; a buffer too short; too many words; a length 0; an empty field
-as-read : cases
+as-read : cases meaning
     (example
     ∷ []
     ∷ (example ++ (10 ∷ []))
@@ -84,5 +81,46 @@ as-read : cases
     ∷ Outcome.refused 10 2
     ∷ []
 unfolding example sheetText rowsText rowCount rowWidth volume line fields field decimal digits
-    meaning shapeLine chainLine rowLines ended readLine readFields readField readNumber readMore closed tabs firstPlace
+    meaningBy shapeLine chainLine rowLines ended readLine readFields readField readNumber readMore closed tabs firstPlace
 as-read = refl
+
+-- its result sheet: three rows of two words, order 1
+turned : List ℕ
+turned = resultText (1 ∷ 1 ∷ 3 ∷ 2 ∷ []) 1 (1 ∷ 4 ∷ 2 ∷ 5 ∷ 3 ∷ 6 ∷ [])
+
+-- two lines of these lengths and these numbers, and what follows them
+abbrev titled : List ℕ → List ℕ → List ℕ → List ℕ
+titled ds ns rest = line shapeWord ds ++ (line orderWord ns ++ rest)
+
+-- the result sheet; a byte more; an LF more; the sheet it came from; order 24; two numbers, one of them above 23; no number; an empty sheet;
+-- a row too short; no row; a buffer too short, and order 24; line 2 malformed, and a row too short
+results : cases resultMeaning
+    (turned
+    ∷ (turned ++ (48 ∷ []))
+    ∷ (turned ++ (10 ∷ []))
+    ∷ example
+    ∷ titled (1 ∷ 1 ∷ 1 ∷ 1 ∷ []) (24 ∷ []) []
+    ∷ titled (1 ∷ 1 ∷ 1 ∷ 1 ∷ []) (24 ∷ 1 ∷ []) []
+    ∷ titled (1 ∷ 1 ∷ 1 ∷ 1 ∷ []) [] []
+    ∷ []
+    ∷ titled (1 ∷ 1 ∷ 2 ∷ 1 ∷ []) (23 ∷ []) (line rowWord (7 ∷ []) ++ line rowWord [])
+    ∷ titled (1 ∷ 1 ∷ 2 ∷ 1 ∷ []) (23 ∷ []) []
+    ∷ titled (1 ∷ 1 ∷ 7 ∷ 1 ∷ []) (24 ∷ []) []
+    ∷ titled (1 ∷ 1 ∷ 1 ∷ 1 ∷ []) [] (line rowWord [])
+    ∷ [])
+    ≡ Outcome.accepted (1 ∷ 1 ∷ 3 ∷ 2 ∷ []) (1 ∷ []) (1 ∷ 4 ∷ 2 ∷ 5 ∷ 3 ∷ 6 ∷ [])
+    ∷ Outcome.refused 10 6
+    ∷ Outcome.refused 10 6
+    ∷ Outcome.refused 10 2
+    ∷ Outcome.refused 7 0
+    ∷ Outcome.refused 10 2
+    ∷ Outcome.refused 10 2
+    ∷ Outcome.refused 10 1
+    ∷ Outcome.refused 10 4
+    ∷ Outcome.refused 10 3
+    ∷ Outcome.refused 3 0
+    ∷ Outcome.refused 10 2
+    ∷ []
+unfolding turned example sheetText resultText rowsText rowCount rowWidth volume line fields field decimal digits
+    meaningBy shapeLine orderLine rowLines ended readLine readFields readField readNumber readMore closed
+results = refl

@@ -5,13 +5,13 @@ use mathlib.Core.Bool.{Bool, true, false, cond}
 use mathlib.Core.List.{List, [], _∷_}
 use Prim.Native.Nat.{ℕ, zero, suc, _+_, _<_, _≤_}
 use native.Mathlib.Omega.{arith}
-use lib.ListN.{length}
+use lib.ListN.{length, getD}
 use borrow.Author.Tests.{ltb-false}
-use Rattle.refusals.specs.Conditions.{badLength, shortBuffer, longChain, badSwap, noSwap, firstPlace}
+use Rattle.refusals.specs.Conditions.{badLength, shortBuffer, longChain, badSwap, noSwap, noOrder, firstPlace}
 use Rattle.text.specs.Print.{limit}
 use Rattle.text.specs.Read.{Reading, readLine, tabs}
-use Rattle.text.specs.Sheet.{shapeWord, chainWord, rowWord, rowCount, rowWidth}
-use Rattle.text.specs.Meaning.{Verdict, Outcome, longSheet, bigSheet, refuseIf, onLine, onward, behind, conclude, ended, shapeLine, chainLine, rowLines, meaning}
+use Rattle.text.specs.Sheet.{shapeWord, chainWord, orderWord, rowWord, rowCount, rowWidth}
+use Rattle.text.specs.Meaning.{Verdict, Outcome, longSheet, bigSheet, refuseIf, onLine, onward, behind, conclude, ended, shapeLine, chainLine, orderLine, rowLines, meaningBy, meaning, resultMeaning}
 use Rattle.text.proofs.Accepted.{shape-read}
 use Rattle.text.proofs.Length.{rows-le-words}
 
@@ -79,6 +79,13 @@ chain-kept bytes =
     (λ _. bounds 6 (firstPlace (noSwap 4) chain) (omega arith) (omega arith) (omega (arith, ltb-false 32 (length chain) short, first-inside (noSwap 4) chain)))
     (λ _. goes)))
 
+order-kept : (bytes : List ℕ) → Kept (orderLine bytes)
+unfolding orderLine
+order-kept bytes =
+    onwards (λ (ns : List ℕ) (rest : List ℕ). refuseIf (noOrder 4 (getD ns 0 0)) 7 0 (Verdict.go ns rest))
+    (form 2 (readLine orderWord 1 bytes) (omega arith))
+    (λ ns rest. condition (noOrder 4 (getD ns 0 0)) 7 0 (λ _. bounds 7 0 (omega arith) (omega arith) (omega arith)) (λ _. goes))
+
 rows-kept : (k count n : ℕ) (bytes : List ℕ) → k + count ≤ limit → Kept (rowLines k count n bytes)
 unfolding rowLines
 rows-kept k zero n bytes h = at-end k bytes (omega arith)
@@ -95,15 +102,21 @@ concludes : (s : Verdict) (f : List ℕ → List ℕ → Outcome) → Kept s →
 concludes (Verdict.refuse number place) f (refuses h) k = refused h
 concludes (Verdict.go vs rest) f goes k = k vs rest refl
 
-pub meaning-within : (buffer bytes : List ℕ) → Within (meaning buffer bytes)
-unfolding meaning
-meaning-within buffer bytes =
-    let last : List ℕ → List ℕ → List ℕ → List ℕ → Outcome = λ ds chain words end. Outcome.accepted ds chain words in
-    let rows : List ℕ → List ℕ → List ℕ → Outcome = λ ds chain mid. conclude (rowLines 3 (rowCount ds) (rowWidth ds) mid) (last ds chain) in
-    concludes (shapeLine buffer bytes) (λ (ds : List ℕ) (rest : List ℕ). conclude (chainLine rest) (rows ds)) (shape-kept buffer bytes)
+within-by : (second : List ℕ → Verdict) → ((bytes : List ℕ) → Kept (second bytes)) → (buffer bytes : List ℕ) → Within (meaningBy second buffer bytes)
+unfolding meaningBy
+within-by second bounded buffer bytes =
+    let last : List ℕ → List ℕ → List ℕ → List ℕ → Outcome = λ ds ns words end. Outcome.accepted ds ns words in
+    let rows : List ℕ → List ℕ → List ℕ → Outcome = λ ds ns mid. conclude (rowLines 3 (rowCount ds) (rowWidth ds) mid) (last ds ns) in
+    concludes (shapeLine buffer bytes) (λ (ds : List ℕ) (rest : List ℕ). conclude (second rest) (rows ds)) (shape-kept buffer bytes)
     (λ ds rest e.
     let h = shape-read buffer bytes e in
     let few : 3 + rowCount ds ≤ limit = omega (arith, h .few-words, rows-le-words ds (omega (arith, h .held .long)) (h .lengths)) in
-    concludes (chainLine rest) (rows ds) (chain-kept rest)
-    (λ chain mid _. concludes (rowLines 3 (rowCount ds) (rowWidth ds) mid) (last ds chain) (rows-kept 3 (rowCount ds) (rowWidth ds) mid few)
+    concludes (second rest) (rows ds) (bounded rest)
+    (λ ns mid _. concludes (rowLines 3 (rowCount ds) (rowWidth ds) mid) (last ds ns) (rows-kept 3 (rowCount ds) (rowWidth ds) mid few)
     (λ words end _. accepted)))
+
+pub meaning-within : (buffer bytes : List ℕ) → Within (meaning buffer bytes)
+meaning-within = within-by chainLine chain-kept
+
+pub result-within : (buffer bytes : List ℕ) → Within (resultMeaning buffer bytes)
+result-within = within-by orderLine order-kept

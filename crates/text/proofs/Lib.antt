@@ -6,10 +6,16 @@ pub mod Numbers
 pub mod Lines
 -- what a verdict that went on says of those it was made of
 pub mod Steps
+-- a run of stores, and one store more
+pub mod Stores
 -- rows are read exactly where their text stands
 pub mod Rows
--- a sheet is accepted exactly when it is the text of what it is answered with
+-- a sheet is accepted exactly when it is the text of what it is answered with, whatever its second line is
 pub mod Accepted
+-- the second lines of a sheet and of a result sheet, and which of the two are accepted
+pub mod SecondLines
+-- the place of a refusal of a result sheet is the first line at fault
+pub mod Faults
 -- the result sheet of 1,024 words has at most 16,384 bytes
 pub mod Length
 -- a refusal's number and place fit a line of a sheet

@@ -1,15 +1,15 @@
 -- Rows are read exactly where their text stands, with nothing after them. By induction on the count of rows, each by the law of lines.
-use mathlib.Core.Path.{_≡_, refl, ap, _∙_}
+use mathlib.Core.Path.{_≡_, refl, sym, ap, _∙_}
 use mathlib.Core.List.{List, [], _∷_, _++_}
 use Prim.Native.Nat.{ℕ, zero, suc, _+_, _-_, _*_, _<_, _≤_}
 use native.Mathlib.Omega.{arith}
 use native.Mathlib.Nat.{mul-assoc}
 use lib.ListN.{length, take, drop, getD, length-append, length-drop, take-append-drop}
-use lib.Seq.{take-at, drop-at, length-take-le}
+use lib.Seq.{take-add, take-at, drop-at, length-take-le}
 use Rattle.layout.specs.Layout.{volume}
 use Rattle.text.specs.Print.{line}
 use Rattle.text.specs.Read.{readLine}
-use Rattle.text.specs.Sheet.{rowWord, rowCount, rowWidth, rowsText}
+use Rattle.text.specs.Sheet.{shapeWord, orderWord, rowWord, rowCount, rowWidth, rowsText, resultText}
 use Rattle.text.specs.Meaning.{Verdict, onLine, behind, ended, rowLines}
 use Rattle.text.proofs.Lines.{Small, Stands, line-text, text-line}
 use Rattle.text.proofs.Steps.{on-line-go, onward-go, behind-go, ended-go}
@@ -67,6 +67,21 @@ text-rows k (suc count) n ws l s =
     rw (text-line rowWord held, text-rows (suc k) count n (drop n ws) (omega (arith, length-drop n ws)) (small-drop n s))
     (ap (λ (l : List ℕ). Verdict.go l []) (take-append-drop n ws))
 
+-- rows are the text of as many first words as they hold
+pub rows-first : (count n : ℕ) (ws : List ℕ) → count * n ≤ length ws → rowsText count n (take (count * n) ws) ≡ rowsText count n ws
+unfolding rowsText
+rows-first zero n ws h = refl
+rows-first (suc count) n ws h =
+    let e : suc count * n ≡ n + count * n = omega arith in
+    let long = length-take-le n ws (omega arith) in
+    rw (
+      e,
+      take-add n (count * n) ws,
+      take-at (take n ws) (take (count * n) (drop n ws)) n long,
+      drop-at (take n ws) (take (count * n) (drop n ws)) n long,
+      rows-first count n (drop n ws) (omega (arith, length-drop n ws)),
+    )
+
 -- the rows hold the words of the block
 rows-of : (d : ℕ) (ds : List ℕ) → volume (take (length ds) (d ∷ ds)) * getD (d ∷ ds) (length ds) 0 ≡ volume (d ∷ ds)
 unfolding volume
@@ -79,3 +94,12 @@ pub rows-volume : (ds : List ℕ) → 0 < length ds → rowCount ds * rowWidth d
 unfolding rowCount rowWidth
 rows-volume [] h = absurd (omega arith)
 rows-volume (d ∷ ds) h = let e : suc (length ds) - 1 ≡ length ds = omega arith in rw e (rows-of d ds)
+
+-- so a result sheet is the text of the block's words, whatever follows them
+pub result-first : (ds : List ℕ) (order : ℕ) (words : List ℕ) → length ds ≡ 4 → volume ds ≤ length words
+    → resultText ds order (take (volume ds) words) ≡ resultText ds order words
+unfolding resultText
+result-first ds order words axes h =
+    let v = rows-volume ds (omega arith) in
+    ap (λ (l : List ℕ). line shapeWord ds ++ (line orderWord (order ∷ []) ++ l))
+    (ap (λ (k : ℕ). rowsText (rowCount ds) (rowWidth ds) (take k words)) (sym v) ∙ rows-first (rowCount ds) (rowWidth ds) words (omega (arith, v)))

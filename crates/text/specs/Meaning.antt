@@ -3,11 +3,11 @@ use mathlib.Core.Bool.{Bool, cond}
 use mathlib.Core.List.{List, [], _∷_, _++_}
 use Prim.Native.Nat.{ℕ, zero, suc}
 use lib.Dec.{ltb}
-use lib.ListN.{length}
+use lib.ListN.{length, getD}
 use Rattle.layout.specs.Layout.{volume}
-use Rattle.refusals.specs.Conditions.{badLength, shortBuffer, longChain, badSwap, noSwap, firstPlace}
+use Rattle.refusals.specs.Conditions.{badLength, shortBuffer, longChain, badSwap, noSwap, noOrder, firstPlace}
 use Rattle.text.specs.Read.{Reading, readLine, tabs}
-use Rattle.text.specs.Sheet.{shapeWord, chainWord, rowWord, rowCount, rowWidth}
+use Rattle.text.specs.Sheet.{shapeWord, chainWord, orderWord, rowWord, rowCount, rowWidth}
 
 -- 9: a sheet has more than 16,384 bytes
 abbrev pub longSheet : List ℕ → Bool
@@ -22,7 +22,7 @@ pub data Verdict : Type 0 where
   refuse : ℕ → ℕ → Verdict
   go : List ℕ → List ℕ → Verdict
 
--- a sheet is refused with a number and a place, or accepted with its lengths, its chain and its words
+-- a sheet is refused with a number and a place, or accepted with its lengths, the numbers of its second line and its words
 pub data Outcome : Type 0 where
   refused : ℕ → ℕ → Outcome
   accepted : List ℕ → List ℕ → List ℕ → Outcome
@@ -59,12 +59,18 @@ shapeLine buffer bytes =
     (λ (ds : List ℕ) (rest : List ℕ).
     refuseIf (badLength ds) 1 0 (refuseIf (bigSheet ds) 11 0 (refuseIf (shortBuffer ds buffer) 3 0 (Verdict.go ds rest)))))
 
--- form of line 2 (10); 5; 6, whose place is that of the first swap above 2
+-- line 2 of a sheet: its form (10); 5; 6, whose place is that of the first swap above 2
 unfoldable pub chainLine : List ℕ → Verdict
 chainLine bytes =
     onward (onLine 2 (readLine chainWord (tabs bytes) bytes))
     (λ (chain : List ℕ) (rest : List ℕ).
     refuseIf (longChain chain) 5 0 (refuseIf (badSwap 4 chain) 6 (firstPlace (noSwap 4) chain) (Verdict.go chain rest)))
+
+-- line 2 of a result sheet: its form (10), `order` and one number; 7
+unfoldable pub orderLine : List ℕ → Verdict
+orderLine bytes =
+    onward (onLine 2 (readLine orderWord 1 bytes))
+    (λ (numbers : List ℕ) (rest : List ℕ). refuseIf (noOrder 4 (getD numbers 0 0)) 7 0 (Verdict.go numbers rest))
 
 -- nothing follows the last row: line k is left over where something does
 unfoldable pub ended : ℕ → List ℕ → Verdict
@@ -77,10 +83,18 @@ rowLines k zero n bytes = ended k bytes
 rowLines k (suc count) n bytes =
     onward (onLine k (readLine rowWord n bytes)) (λ (ws : List ℕ) (rest : List ℕ). behind ws (rowLines (suc k) count n rest))
 
--- what a sheet means for a reader that was lent this word buffer
-unfoldable pub meaning : List ℕ → List ℕ → Outcome
-meaning buffer bytes =
+-- what a sheet whose second line is judged in this way means for a reader that was lent this word buffer
+unfoldable pub meaningBy : (List ℕ → Verdict) → List ℕ → List ℕ → Outcome
+meaningBy second buffer bytes =
     conclude (shapeLine buffer bytes)
-    (λ (ds : List ℕ) (rest : List ℕ). conclude (chainLine rest)
-    (λ (chain : List ℕ) (rest′ : List ℕ). conclude (rowLines 3 (rowCount ds) (rowWidth ds) rest′)
-    (λ (words : List ℕ) (rest″ : List ℕ). Outcome.accepted ds chain words)))
+    (λ (ds : List ℕ) (rest : List ℕ). conclude (second rest)
+    (λ (numbers : List ℕ) (rest′ : List ℕ). conclude (rowLines 3 (rowCount ds) (rowWidth ds) rest′)
+    (λ (words : List ℕ) (rest″ : List ℕ). Outcome.accepted ds numbers words)))
+
+-- what a sheet means
+abbrev pub meaning : List ℕ → List ℕ → Outcome
+meaning = meaningBy chainLine
+
+-- what a result sheet means
+abbrev pub resultMeaning : List ℕ → List ℕ → Outcome
+resultMeaning = meaningBy orderLine

@@ -38,13 +38,17 @@ unfoldable pub rowsText : ℕ → ℕ → List ℕ → List ℕ
 rowsText zero n words = []
 rowsText (suc count) n words = line rowWord (take n words) ++ rowsText count n (drop n words)
 
+-- two lines, the first `shape` and the lengths, then the rows of that shape
+abbrev pub pageText : List ℕ → List ℕ → List ℕ → List ℕ
+pageText ds second words = line shapeWord ds ++ (second ++ rowsText (rowCount ds) (rowWidth ds) words)
+
 -- a sheet: line 1 `shape` and the lengths, line 2 `chain` and the swaps, then the rows
 unfoldable pub sheetText : List ℕ → List ℕ → List ℕ → List ℕ
-sheetText ds chain words = line shapeWord ds ++ (line chainWord chain ++ rowsText (rowCount ds) (rowWidth ds) words)
+sheetText ds chain words = pageText ds (line chainWord chain) words
 
 -- a result sheet: line 1 `shape` with the new lengths, line 2 `order` with the order number, then the rows of the new shape
 unfoldable pub resultText : List ℕ → ℕ → List ℕ → List ℕ
-resultText ds order words = line shapeWord ds ++ (line orderWord (order ∷ []) ++ rowsText (rowCount ds) (rowWidth ds) words)
+resultText ds order words = pageText ds (line orderWord (order ∷ [])) words
 
 -- one line: `refused`, number, place
 unfoldable pub refusalText : ℕ → ℕ → List ℕ

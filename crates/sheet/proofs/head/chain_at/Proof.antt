@@ -4,7 +4,8 @@ use native.Mathlib.Omega.{arith}
 use lib.ListN.{length}
 use lib.Seq.{length-take-le}
 use borrow.Author.Needs.{needs}
-use Rattle.sheet.proofs.HeadLines.{chain-form, chain-long, chain-inside, chain-there, chain-bad, chain-go}
+use Rattle.text.specs.Sheet.{chainWord}
+use Rattle.sheet.proofs.HeadLines.{second-inside, second-there, chain-form, chain-long, chain-bad, chain-go}
 use Rattle.sheet.proofs.head.chain_at.Statement.{statement}
 use Rattle.sheet.proofs.head.chain_at.Tie as tie
 
@@ -27,14 +28,14 @@ add-values-at c =
     let l : tie.After-line-at = search in
     let t : tie.After-tabs-at = search in
     let x : tie.Start = search in
-    omega (arith, chain-inside (x .args .at) (t .tabs-at .ensures) (l .line-at .ensures) (search) (x .pre))
+    omega (arith, second-inside (x .args .at) chainWord (t .tabs-at .result) (l .line-at .ensures) (search) (x .pre))
 
 values-at-requires : tie.Need-values-at-requires
 values-at-requires c κs =
     let l : tie.After-line-at = search in
     let t : tie.After-tabs-at = search in
     let x : tie.Start = search in
-    (search, chain-there (x .args .at) (t .tabs-at .ensures) (l .line-at .ensures) (search) (x .pre))
+    (search, second-there (x .args .at) chainWord (t .tabs-at .result) (l .line-at .ensures) (search) (x .pre))
 
 swaps-there : tie.Need-array-share-prefix-swaps
 swaps-there c =

@@ -4,7 +4,7 @@ use native.Mathlib.Omega.{arith}
 use lib.ListN.{length, drop}
 use lib.Seq.{length-sets}
 use borrow.Author.Needs.{needs}
-use Rattle.sheet.proofs.Block.{Counts, counts, first-three, rows-fit}
+use Rattle.blocks.proofs.Block.{Counts, counts, first-three, rows-fit}
 use Rattle.sheet.proofs.RowsFrom.{rows-kept, rows-stored}
 use Rattle.sheet.proofs.rows.rows_into.Statement.{statement}
 use Rattle.sheet.proofs.rows.rows_into.Tie as tie

@@ -1,4 +1,5 @@
 -- `store_rows` meets its contract. The loop's invariant: storing the words of the rows left behind those stored is storing all words.
+use Rattle.blocks.proofs.Block.{room-left}
 use Rattle.sheet.proofs.RowsFrom.{no-words}
 use native.Mathlib.Omega.{arith}
 use mathlib.Core.Path.{_≡_, refl, sym, ap, _∙_}
@@ -8,8 +9,8 @@ use lib.ListN.{length, drop}
 use lib.Seq.{sets, length-sets}
 use Rattle.text.specs.Meaning.{rowLines}
 use Rattle.sheet.specs.Place.{RowsThere, wordsOf, numbersOf}
-use Rattle.sheet.proofs.Stores.{sets-append}
-use Rattle.sheet.proofs.RowsFrom.{rowsLeft, rowFields, RowAt, row-at, room-left}
+use Rattle.text.proofs.Stores.{sets-append}
+use Rattle.sheet.proofs.RowsFrom.{rowsLeft, rowFields, RowAt, row-at}
 use borrow.Author.Needs.{needs}
 use Rattle.sheet.proofs.rows.store_rows.Statement.{statement}
 use Rattle.sheet.proofs.rows.store_rows.Tie as tie

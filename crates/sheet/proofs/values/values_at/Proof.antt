@@ -9,7 +9,7 @@ use lib.ListN.{drop, replicate}
 use Rattle.text.specs.Read.{Reading, readFields}
 use Rattle.sheet.specs.Place.{numbersOf}
 use Rattle.sheet.proofs.Runs.{got, no-field, fields-more, taken-field}
-use Rattle.sheet.proofs.Stores.{zeros-more}
+use Rattle.text.proofs.Stores.{zeros-more}
 use borrow.Author.Needs.{needs}
 use Rattle.sheet.proofs.values.values_at.Statement.{statement}
 use Rattle.sheet.proofs.values.values_at.Tie as tie

@@ -10,7 +10,7 @@ use Rattle.text.specs.Read.{Reading, readField, readFields}
 use Rattle.sheet.specs.Place.{numbersOf}
 use Rattle.sheet.proofs.Runs.{got, no-field, fields-more, taken-field}
 use lib.Seq.{sets}
-use Rattle.sheet.proofs.Stores.{sets-more}
+use Rattle.text.proofs.Stores.{sets-more}
 use borrow.Author.Needs.{needs}
 use Rattle.sheet.proofs.values.words_into.Statement.{statement}
 use Rattle.sheet.proofs.values.words_into.Tie as tie

@@ -1,0 +1,5 @@
+pub mod Choice
+pub mod Conditions
+pub mod Parts
+pub mod Promises
+pub mod Search

@@ -1,0 +1,26 @@
+-- A refused answer, an accepted one, and that any two that one promise allows coincide.
+use mathlib.Core.Path.{_≡_, refl, sym, _∙_}
+use mathlib.Core.List.{List}
+use mathlib.Core.Logic.{⊎-elim}
+use Prim.Native.Nat.{ℕ}
+use Rattle.lists.proofs.Decide.{eq-or-ne}
+use Rattle.refusals.specs.FirstOf.{Check, firstOf}
+use Rattle.desk.specs.Promises.{Answers}
+
+module _ {A : Type 0} {checks : List Check} {right nothing : A} where
+  pub refused : {k : ℕ} → k ≡ firstOf checks → (k ≡ 0 → ⊥) → Answers checks right nothing k nothing
+  refused e n = record { number-is = e; given = λ z. absurd (n z); refused = λ _. refl }
+
+  pub accepted : {a : A} → firstOf checks ≡ 0 → a ≡ right → Answers checks right nothing 0 a
+  accepted e f = record { number-is = sym e; given = λ _. f; refused = λ n. absurd (n refl) }
+
+  pub one-number : {k k′ : ℕ} {a a′ : A} → Answers checks right nothing k a → Answers checks right nothing k′ a′ → k ≡ k′
+  one-number p q = p .number-is ∙ sym (q .number-is)
+
+  pub one-answer : {k k′ : ℕ} {a a′ : A} → Answers checks right nothing k a → Answers checks right nothing k′ a′ → a ≡ a′
+  one-answer {k} p q =
+      let e = one-number p q in
+      ⊎-elim
+      (λ (z : k ≡ 0). p .given z ∙ sym (q .given (sym e ∙ z)))
+      (λ (n : k ≡ 0 → ⊥). p .refused n ∙ sym (q .refused (λ z. n (e ∙ z))))
+      (eq-or-ne k 0)

@@ -1,0 +1,142 @@
+-- The lines of a result sheet one behind the other, and their lengths added. By induction on the rows and on the numbers.
+use mathlib.Core.Path.{_≡_, refl, sym, ap, _∙_}
+use mathlib.Core.List.{List, [], _∷_, _++_, append-assoc}
+use Prim.Native.Nat.{ℕ, zero, suc, _+_, _-_, _*_, _<_, _≤_}
+use native.Mathlib.Omega.{arith}
+use lib.ListN.{length, take, drop, getD, length-append}
+use lib.Seq.{drop-drop, take-add, take-all}
+use Rattle.layout.specs.Layout.{volume}
+use Rattle.text.specs.Print.{lineFeed, decimal, field, fields, line}
+use Rattle.text.specs.Sheet.{shapeWord, orderWord, rowWord, rowCount, rowWidth, rowsText, resultText}
+use Rattle.text.proofs.Rows.{rows-volume}
+use Rattle.text.proofs.Length.{length-line}
+use Rattle.printer.specs.Put.{Room, Put}
+use Rattle.printer.specs.Thin.{lineOf, shapeLineOf, orderLineOf, pageOf, Ready}
+use Rattle.printer.specs.declared.page.Line.{Line}
+use Rattle.printer.proofs.Puts.{Leads, leads-room, leads-step, leads-end, leads-same, first-room, second-room, third-room, three-put, fields-next, no-fields}
+
+-- a line is its word, its fields and its LF
+line-parts : (word vs : List ℕ) → line word vs ≡ word ++ (fields vs ++ (lineFeed ∷ []))
+unfolding line
+line-parts word vs = refl
+
+-- a line is put by putting its word, its fields and its LF
+module _ {out : List ℕ} {at : ℕ} (word vs : List ℕ) (r : Room out at (line word vs)) where
+  pub word-room : Room out at word
+  word-room = first-room word (fields vs) (lineFeed ∷ []) (line-parts word vs) r
+
+  pub fields-room : {a : ℕ} {out₁ : List ℕ} → Put out at word a out₁ → Room out₁ a (fields vs)
+  fields-room p = second-room word (fields vs) (lineFeed ∷ []) (line-parts word vs) r p
+
+  pub end-room : {a b : ℕ} {out₁ out₂ : List ℕ} → Put out at word a out₁ → Put out₁ a (fields vs) b out₂ → Room out₂ b (lineFeed ∷ [])
+  end-room p q = third-room word (fields vs) (lineFeed ∷ []) (line-parts word vs) r p q
+
+  pub line-put : {a b next : ℕ} {out₁ out₂ out₃ : List ℕ} → Put out at word a out₁ → Put out₁ a (fields vs) b out₂
+      → Put out₂ b (lineFeed ∷ []) next out₃ → Put out at (line word vs) next out₃
+  line-put p q e = three-put word (fields vs) (lineFeed ∷ []) (line-parts word vs) r p q e
+
+-- one row, then the others
+rows-next : (count n i from : ℕ) (words : List ℕ) → i < count
+    → rowsText (count - i) n (drop from words) ≡ line rowWord (take n (drop from words)) ++ rowsText (count - (i + 1)) n (drop (from + n) words)
+unfolding rowsText
+rows-next count n i from words h =
+    let a : count - i ≡ suc (count - (i + 1)) = omega arith in
+    rw a (ap (λ (l : List ℕ). line rowWord (take n (drop from words)) ++ rowsText (count - (i + 1)) n l) (drop-drop n from words))
+
+no-rows : (count n i : ℕ) (words : List ℕ) → count ≤ i → rowsText (count - i) n words ≡ []
+unfolding rowsText
+no-rows count n i words h = let a : count - i ≡ 0 = omega arith in rw a
+
+-- rows put one by one: those from row i on, whose words begin at `from`, lead to the whole text
+module _ (count n i from : ℕ) (words : List ℕ) {out₀ : List ℕ} {at : ℕ} {text out : List ℕ} {p : ℕ}
+    (h : Leads out₀ at text out p (rowsText (count - i) n (drop from words))) where
+  abbrev row : List ℕ
+  row = line rowWord (take n (drop from words))
+
+  abbrev rest : List ℕ
+  rest = rowsText (count - (i + 1)) n (drop (from + n) words)
+
+  pub next-row-room : i < count → Room out p (line rowWord (take n (drop from words)))
+  next-row-room k = leads-room row rest (leads-same (rows-next count n i from words k) h)
+
+  pub next-row-put : i < count → {next : ℕ} {out′ : List ℕ} → Put out p (line rowWord (take n (drop from words))) next out′
+      → Leads out₀ at text out′ next (rowsText (count - (i + 1)) n (drop (from + n) words))
+  next-row-put k = leads-step row rest (leads-same (rows-next count n i from words k) h)
+
+  pub all-rows-put : count ≤ i → Put out₀ at text p out
+  all-rows-put k = leads-end (leads-same (no-rows count n i (drop from words) k) h)
+
+fields-append : (us vs : List ℕ) → fields (us ++ vs) ≡ fields us ++ fields vs
+unfolding fields
+fields-append [] vs = refl
+fields-append (u ∷ us) vs = rw (fields-append us vs) (sym (append-assoc (field u) (fields us) (fields vs)))
+
+rows-none : (n : ℕ) (words : List ℕ) → 0 ≡ 4 * 0 + length (fields (take (0 * n) words))
+unfolding fields
+rows-none n words = let z : 0 * n ≡ 0 = omega arith in rw z
+
+-- the rows have four bytes each beside their fields
+pub length-rows : (count n : ℕ) (words : List ℕ) → length (rowsText count n words) ≡ 4 * count + length (fields (take (count * n) words))
+unfolding rowsText
+length-rows zero n words = rows-none n words
+length-rows (suc count) n words =
+    let e : suc count * n ≡ n + count * n = omega arith in
+    rw (
+      length-append (line rowWord (take n words)) (rowsText count n (drop n words)),
+      length-line rowWord (take n words),
+      length-rows count n (drop n words),
+      e,
+      take-add n (count * n) words,
+      fields-append (take n words) (take (count * n) (drop n words)),
+      length-append (fields (take n words)) (fields (take (count * n) (drop n words))),
+    )
+    (omega arith)
+
+-- a result sheet is its two lines, by value, and the rows: what the thin writer needs for it, and what it puts
+module _ (ds : List ℕ) (order : ℕ) (words : List ℕ) {shape line : Line} {rows : ℕ} (four : length ds ≡ 4) (s : shape ≡ shapeLineOf ds)
+    (l : line ≡ orderLineOf order) (r : rows ≡ rowCount ds) where
+  page : pageOf shape line words rows (getD ds 3 0) ≡ resultText ds order words
+  unfolding resultText rowWidth
+  page = rw (s, l, take-all 4 ds (omega arith), r, four)
+
+  pub page-ready : {out : List ℕ} → rows * getD ds 3 0 ≤ length words → length (resultText ds order words) ≤ length out
+      → Ready out shape line words rows (getD ds 3 0)
+  page-ready h k = record { first = rw s (omega arith); second = rw l (omega arith); enough = h; room = record { fits = rw page (omega arith) } }
+
+  pub page-put : {out : List ℕ} {next : ℕ} {out′ : List ℕ} → Put out 0 (pageOf shape line words rows (getD ds 3 0)) next out′
+      → Put out 0 (resultText ds order words) next out′
+  page-put q = rw page at q
+
+-- the length of a result sheet from its parts
+pub length-result : (ds : List ℕ) (order : ℕ) (words : List ℕ)
+    → length (resultText ds order words)
+    ≡ length (line shapeWord ds ++ line orderWord (order ∷ [])) + length (rowsText (rowCount ds) (rowWidth ds) words)
+unfolding resultText
+length-result ds order words =
+    ap length (sym (append-assoc (line shapeWord ds) (line orderWord (order ∷ [])) (rowsText (rowCount ds) (rowWidth ds) words)))
+    ∙ length-append (line shapeWord ds ++ line orderWord (order ∷ [])) (rowsText (rowCount ds) (rowWidth ds) words)
+
+-- the field of the next number measured, then the others
+pub measure-next : (vs : List ℕ) (i : ℕ) → i < length vs
+    → length (fields (drop i vs)) ≡ 1 + length (decimal (getD vs i 0)) + length (fields (drop (i + 1) vs))
+unfolding field
+measure-next vs i h =
+    ap length (fields-next vs i h) ∙ length-append (field (getD vs i 0)) (fields (drop (i + 1) vs)) ∙ omega arith
+
+-- and none is left past the last
+pub measure-all : (vs : List ℕ) (i : ℕ) → length vs ≤ i → length (fields (drop i vs)) ≡ 0
+measure-all vs i h = ap length (no-fields vs i h)
+
+-- the length of a result sheet, measured: its two lines, and four bytes a row beside the fields
+pub length-measured : (ds : List ℕ) (order : ℕ) (words : List ℕ) → length ds ≡ 4
+    → length (resultText ds order words)
+    ≡ length (lineOf (shapeLineOf ds)) + length (lineOf (orderLineOf order)) + 4 * rowCount ds + length (fields (take (volume ds) words))
+length-measured ds order words four =
+    length-result ds order words
+    ∙ rw (
+      length-append (line shapeWord ds) (line orderWord (order ∷ [])),
+      length-rows (rowCount ds) (rowWidth ds) words,
+      rows-volume ds (omega arith),
+      take-all 4 ds (omega arith),
+    )
+    (omega arith)

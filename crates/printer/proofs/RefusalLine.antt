@@ -1,0 +1,39 @@
+-- The line of a refusal: its length, its form, and what its writer promises. From the laws of lines.
+use mathlib.Core.Path.{_≡_, refl, ap, _∙_}
+use mathlib.Core.List.{List, [], _∷_}
+use Prim.Native.Nat.{ℕ, _+_, _<_, _≤_}
+use native.Mathlib.Omega.{arith}
+use lib.ListN.{length}
+use borrow.Author.Tests.{lt-ltb, le-ltb}
+use Rattle.text.specs.Print.{fields, line}
+use Rattle.text.specs.Sheet.{refusedWord, refusalText}
+use Rattle.text.proofs.Length.{length-line}
+use Rattle.printer.specs.declared.Written.{Written}
+use Rattle.printer.specs.Put.{Put}
+use Rattle.printer.specs.Writer.{nothingWritten}
+use Rattle.printer.specs.RefusalWriter.{refusalNumber, RefusalWrittenAs}
+use Rattle.printer.proofs.InFull.{none-written, all-written}
+
+-- it is a line of two numbers
+pub refusal-line : (number place : ℕ) → refusalText number place ≡ line refusedWord (number ∷ place ∷ [])
+unfolding refusalText
+refusal-line number place = refl
+
+pub length-refusal : (number place : ℕ) → length (refusalText number place) ≡ 8 + length (fields (number ∷ place ∷ []))
+length-refusal number place = ap length (refusal-line number place) ∙ length-line refusedWord (number ∷ place ∷ []) ∙ omega arith
+
+-- what the writer of a refusal promises, once it has measured the line
+module _ (number place : ℕ) (out : List ℕ) where
+  pub refusal-short : {answered : Written} → length out < length (refusalText number place) → answered ≡ nothingWritten 24
+      → RefusalWrittenAs number place out answered out
+  refusal-short h a =
+      let e : refusalNumber number place out ≡ 24 = rw (lt-ltb (length out) (length (refusalText number place)) h) in
+      let p = none-written (refusalText number place) out (λ z. omega arith) a in
+      record { answers = rw e (p .0); bytes = rw e (p .1) }
+
+  pub line-fits : length (refusalText number place) ≤ length out → refusalNumber number place out ≡ 0
+  line-fits h = rw (le-ltb (length out) (length (refusalText number place)) h)
+
+  pub refusal-fits : {next : ℕ} {out′ : List ℕ} → length (refusalText number place) ≤ length out → Put out 0 (refusalText number place) next out′
+      → RefusalWrittenAs number place out (record { number = 0; count = next }) out′
+  refusal-fits h q = let p = all-written (line-fits h) h q in record { answers = p .0; bytes = p .1 }

@@ -1,0 +1,8 @@
+-- the promise of the writer
+pub mod Writer
+-- the promise of the writer of a refusal
+pub mod RefusalWriter
+-- for private functions only: bytes put into a buffer
+pub mod Put
+-- for private functions only: the thin writer
+pub mod Thin

@@ -1,0 +1,84 @@
+mod page;
+mod put;
+mod writer;
+
+ghost use mathlib.Core.Path.{_≡_};
+ghost use Prim.Native.Nat.{_≤_};
+ghost use lib.ListN.{length};
+ghost use Rattle.text.specs.Sheet.{resultText};
+ghost use Rattle.blocks.specs.OnSheet.{OnSheet};
+ghost use Rattle.printer.specs.Writer.{nothingWritten, WrittenAs};
+ghost use Rattle.printer.specs.RefusalWriter.{RefusalWrittenAs};
+
+// What the writer did: its number, and the count of bytes written.
+pub struct Written {
+    pub number: u32,
+    pub count: usize,
+}
+
+// The answer where the writer refuses.
+fn nothing_written(number: u32) -> Written
+    ensures { λ r. ⌜ r ≡ nothingWritten number ⌝ }
+{
+    Written { number, count: 0 }
+}
+
+// How many bytes the result sheet has.
+fn result_len(lens: [usize; 4], order: usize, words: &[u32]) -> usize
+    requires { ⌜ OnSheet lens (now words) × (order ≤ 23) ⌝ }
+    ensures { λ r. ⌜ r ≡ length (resultText lens order (now (words .entry))) ⌝ }
+{
+    let size = checks::words_of(&lens);
+    let rows = checks::words_of(&lens[..3]);
+    let head = page::head_len(page::shape_line(lens)) + page::head_len(page::order_line(order));
+    head + 4 * rows + page::words_len(&words[..size])
+}
+
+// The result sheet of a block that was checked: measured, then put at the start of `out`.
+fn put_result(lens: [usize; 4], order: usize, words: &[u32], out: &mut [u8]) -> Written
+    requires { ⌜ OnSheet lens (now words) × (order ≤ 23) ⌝ }
+    ensures { λ r. ⌜ WrittenAs lens order (now (words .entry)) (now (out .entry)) r (now (out .exit)) ⌝ }
+{
+    let need = result_len(lens, order, words);
+    if out.len() < need {
+        return nothing_written(24);
+    }
+    let shape = page::shape_line(lens);
+    let line = page::order_line(order);
+    let rows = checks::words_of(&lens[..3]);
+    let end = writer::result(out, shape, line, words, rows, lens[3]);
+    Written {
+        number: 0,
+        count: end,
+    }
+}
+
+// Writes the result sheet at the start of `out`.
+pub fn write(lens: [usize; 4], order: usize, words: &[u32], out: &mut [u8]) -> Written
+    ensures { λ r. ⌜ WrittenAs lens order (now (words .entry)) (now (out .entry)) r (now (out .exit)) ⌝ }
+{
+    let number = blocks::sheet_number(&lens, words);
+    if number != 0 {
+        return nothing_written(number);
+    }
+    if 23 < order {
+        return nothing_written(7);
+    }
+    put_result(lens, order, words, out)
+}
+
+// Writes the line of a refusal: measures it, then puts it at the start of `out`.
+pub fn write_refusal(number: u32, place: u32, out: &mut [u8]) -> Written
+    ensures { λ r. ⌜ RefusalWrittenAs number place (now (out .entry)) r (now (out .exit)) ⌝ }
+{
+    let numbers = [number, place];
+    let need = 8 + page::words_len(&numbers);
+    if out.len() < need {
+        return nothing_written(24);
+    }
+    let end = page::put_line(out, 0, b"refused", &numbers);
+    Written {
+        number: 0,
+        count: end,
+    }
+}

@@ -1,0 +1,67 @@
+-- The number of the reader of result sheets is 0 exactly when the bytes are the text of what it answers and stores; where it is not, the
+-- place is the first line at fault. From the laws of accepted and of refused result sheets.
+use mathlib.Core.Path.{_≡_, refl, ap, _∙_}
+use mathlib.Core.List.{List, [], _∷_, _++_}
+use Prim.Native.Nat.{ℕ}
+use native.Mathlib.Omega.{arith}
+use lib.ListN.{length, take, drop, getD}
+use lib.Seq.{take-at}
+use Rattle.layout.specs.Layout.{volume}
+use Rattle.text.specs.Meaning.{Outcome, resultMeaning}
+use Rattle.text.proofs.SecondLines.{RightResult, result-exactly}
+use Rattle.text.proofs.Bounds.{Within, result-within}
+use Rattle.text.proofs.Faults.{ResultFault, result-fault}
+use Rattle.sheet.specs.declared.ResultSheet.{ResultSheet}
+use Rattle.sheet.specs.Reader.{kept}
+use Rattle.sheet.specs.ResultReader.{resultAnswer, ResultReadAs}
+
+-- the answer to a result sheet that is right
+abbrev pub found : List ℕ → ℕ → ResultSheet
+found ds order = record { number = 0; place = 0; lens = ds; order = order }
+
+-- what is answered and stored once the meaning is known
+module _ {buffer bytes : List ℕ} {r : ResultSheet} {w : List ℕ} {o : Outcome} (p : ResultReadAs buffer bytes r w) (m : resultMeaning buffer bytes ≡ o) where
+  pub answered : r ≡ resultAnswer o
+  answered = p .answers ∙ ap resultAnswer m
+
+  pub stored : w ≡ kept o buffer
+  stored = p .words ∙ ap (λ (o : Outcome). kept o buffer) m
+
+-- a result sheet that is right is accepted, and answered with what it is the text of
+pub right-is-read : {buffer bytes : List ℕ} {r : ResultSheet} {w ds : List ℕ} {order : ℕ} {words : List ℕ} → ResultReadAs buffer bytes r w
+    → RightResult buffer bytes ds (order ∷ []) words → (r ≡ found ds order) × (w ≡ words ++ drop (length words) buffer)
+right-is-read {buffer} {bytes} {ds = ds} {order = order} {words = words} p h =
+    let m = result-exactly buffer bytes ds (order ∷ []) words .1 h in
+    (answered p m, stored p m)
+
+-- one that is accepted is right
+pub record ReadRight (buffer bytes : List ℕ) (r : ResultSheet) (w : List ℕ) : Type 0 where
+  pub right : RightResult buffer bytes (r .lens) (r .order ∷ []) (take (volume (r .lens)) w)
+  pub words : w ≡ take (volume (r .lens)) w ++ drop (volume (r .lens)) buffer
+
+-- with the answer that it is given
+accepted-right : {buffer bytes : List ℕ} {r : ResultSheet} {w ds ns words : List ℕ} → RightResult buffer bytes ds ns words
+    → r ≡ found ds (getD ns 0 0) → w ≡ words ++ drop (length words) buffer → ReadRight buffer bytes r w
+accepted-right {buffer} {bytes} {ds = ds} {ns = ns} {words = words} h a e =
+    let front : take (volume ds) (words ++ drop (length words) buffer) ≡ words = take-at words (drop (length words) buffer) (volume ds) (h .block) in
+    let right : RightResult buffer bytes ds (getD ns 0 0 ∷ []) words = rw (h .second .one) at h in
+    rw (a, e) (record { right = rw front right; words = rw (front, h .block) })
+
+pub read-is-right : {buffer bytes : List ℕ} {r : ResultSheet} {w : List ℕ} → ResultReadAs buffer bytes r w → r .number ≡ 0 → ReadRight buffer bytes r w
+read-is-right {buffer} {bytes} {r} {w} p z = by (resultMeaning buffer bytes) refl (result-within buffer bytes)
+  where
+    by : (o : Outcome) → resultMeaning buffer bytes ≡ o → Within o → ReadRight buffer bytes r w
+    by (Outcome.refused number place) m (Within.refused h) =
+        let e : r .number ≡ number = ap (λ (s : ResultSheet). s .number) (answered p m) in
+        absurd (omega (arith, h .given))
+    by (Outcome.accepted ds ns words) m Within.accepted =
+        accepted-right (result-exactly buffer bytes ds ns words .0 m) (answered p m) (stored p m)
+
+-- one that is refused: its place is the first line at fault in the reading order, and no word is stored
+pub refused-at : {buffer bytes : List ℕ} {r : ResultSheet} {w : List ℕ} → ResultReadAs buffer bytes r w → (r .number ≡ 0 → ⊥)
+    → ResultFault buffer bytes (r .number) (r .place) × (w ≡ buffer)
+refused-at {buffer} {bytes} {r} {w} p n = by (resultMeaning buffer bytes) refl
+  where
+    by : (o : Outcome) → resultMeaning buffer bytes ≡ o → ResultFault buffer bytes (r .number) (r .place) × (w ≡ buffer)
+    by (Outcome.refused number place) m = rw (answered p m) (result-fault buffer bytes m, stored p m)
+    by (Outcome.accepted ds ns words) m = absurd (n (ap (λ (s : ResultSheet). s .number) (answered p m)))

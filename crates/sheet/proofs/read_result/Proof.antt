@@ -1,0 +1,11 @@
+-- `read_result` meets its contract: it answers the page that was read, its first number being the order number.
+use borrow.Author.Needs.{needs}
+use Rattle.sheet.proofs.FromSteps.{as-result}
+use Rattle.sheet.proofs.read_result.Statement.{statement}
+use Rattle.sheet.proofs.read_result.Tie as tie
+
+returns : tie.Need-returns
+returns c = let p : tie.After-read-page = search in as-result (p .read-page .ensures)
+
+pub read-result-spec : {M : Type 1} → statement M
+read-result-spec = tie.close (tie.spec (search needs) (search needs) (search needs) returns)

@@ -1,0 +1,23 @@
+-- `move_band` meets its contract: the band is lifted into scratch and laid back.
+use borrow.Author.Needs.{needs}
+use Rattle.tiles.proofs.BandByBand.{band-moved}
+use Rattle.tiles.proofs.bands.move_band.Statement.{statement}
+use Rattle.tiles.proofs.bands.move_band.Tie as tie
+
+returns : tie.Need-returns
+returns c =
+    let l : tie.After-lay = search in
+    let p : tie.After-copy = search in
+    let s : tie.Start = search in
+    band-moved (s .pre .small .step) (p .copy .ensures) (l .lay .ensures)
+
+pub move-band-spec : {M : Type 1} → statement M
+move-band-spec =
+    tie.close
+    (tie.spec
+    (search needs)
+    (search needs)
+    (search needs)
+    (search needs)
+    (search needs)
+    returns)

@@ -1,0 +1,12 @@
+-- a side cut into parts
+pub mod Parts
+-- a band as tiles: its places, read forwards and backwards
+pub mod Bands
+-- the places of a block as tiles are one to one
+pub mod Places
+-- two blocks as tiles of one block are equal, and what tiles as wide or as tall as the block do
+pub mod Tiled
+-- the benches hold
+pub mod Benches
+-- word follows word, row follows row, tile follows tile, band follows band
+pub mod Follows

@@ -1,0 +1,81 @@
+-- A block as tiles: what the one relation `Tiled`, read forwards and backwards, fixes. Two blocks as tiles of one block are equal, two blocks of
+-- which one block is the tiles are equal, so the conversions undo each other; a tile as wide as the block moves nothing; a tile taller than the
+-- block is one as tall. From the places, which are one to one.
+use mathlib.Core.Path.{_≡_, refl, sym, ap, _∙_}
+use mathlib.Core.List.{List}
+use Prim.Native.Nat.{ℕ, _+_, _*_, _-_, _/_, _%_, _<_, _≤_, min}
+use native.Mathlib.Nat.{mod-lt, div-add-mod', div-lt-iff-lt-mul, div-eq-of-lt, mod-eq-of-lt, mul-comm, mul-zero, zero-mul, zero-add, add-mul}
+use native.Mathlib.Omega.{arith}
+use lib.ListN.{length, getD}
+use lib.Seq.{ext-getD}
+use Rattle.lists.proofs.Tab.{length-tab, getD-tab}
+use Rattle.wall.specs.Tiles.{part, bandPlace, tilePlace, Tiled}
+use Rattle.wall.specs.Homes.{tileHome, tiled}
+use Rattle.wall.proofs.Bands.{factor-pos}
+use Rattle.wall.proofs.Places.{cell, tile-place-lt, home-of-tile}
+
+at : (l : List ℕ) {p q : ℕ} → p ≡ q → getD l p 0 ≡ getD l q 0
+at l e = ap (λ (z : ℕ). getD l z 0) e
+
+-- what holds at every row and column holds at every offset of the block
+by-rows : (m n : ℕ) (xs ys : List ℕ) → ((i j : ℕ) → i < m → j < n → getD xs (i * n + j) 0 ≡ getD ys (i * n + j) 0)
+    → (p : ℕ) → p < m * n → getD xs p 0 ≡ getD ys p 0
+by-rows m n xs ys f p low =
+    let wide : 0 < n = factor-pos n m p (omega (arith, mul-comm m n)) in
+    let cell : p ≡ p / n * n + p % n = sym (div-add-mod' p n) in
+    at xs cell ∙ f (p / n) (p % n) (div-lt-iff-lt-mul wide .1 low) (mod-lt p wide) ∙ at ys (sym cell)
+
+module _ {m n r s : ℕ} {xs : List ℕ} (whole : length xs ≡ m * n) where
+  -- the tiles of one block are one list
+  pub one-tiled : 0 < r → 0 < s → {ys zs : List ℕ} → Tiled m n r s xs ys → Tiled m n r s xs zs → ys ≡ zs
+  one-tiled high step {ys} {zs} t u =
+      ext-getD 0 ys zs (t .same ∙ sym (u .same))
+      (λ p low.
+      let c = cell m n r s high step p (omega (arith, t .same)) in
+      at ys (sym (c .place)) ∙ t .placed (c .i) (c .j) (c .row) (c .column) ∙ sym (u .placed (c .i) (c .j) (c .row) (c .column)) ∙ at zs (c .place))
+
+  -- the block of one list of tiles is one block
+  pub one-untiled : {ys zs : List ℕ} → Tiled m n r s ys xs → Tiled m n r s zs xs → ys ≡ zs
+  one-untiled {ys} {zs} t u =
+      ext-getD 0 ys zs (sym (t .same) ∙ u .same)
+      (λ p low. by-rows m n ys zs (λ i j h g. sym (t .placed i j h g) ∙ u .placed i j h g) p (omega (arith, t .same)))
+
+-- a word's place where its tile is as wide as the block: where it stood
+wide-place : (m n r s i j : ℕ) → n ≤ s → j < n → tilePlace m n r s i j ≡ i * n + j
+unfolding tilePlace bandPlace part
+wide-place m n r s i j wide low =
+    let narrow : j < s = omega arith in
+    let rows : i / r * r * n + i % r * n ≡ i * n = sym (add-mul (i / r * r) (i % r) n) ∙ ap (λ (z : ℕ). z * n) (div-add-mod' i r) in
+    let whole : min s (n - 0 * s) ≡ n = omega arith in
+    rw (div-eq-of-lt narrow, mod-eq-of-lt narrow, whole, zero-mul s, mul-zero (part m r (i / r))) (omega arith)
+
+-- a tile at least as wide as the block leaves every word in place
+pub wide-stays : {m n r s : ℕ} {xs ys : List ℕ} → length xs ≡ m * n → 0 < r → 0 < s → n ≤ s → Tiled m n r s xs ys → ys ≡ xs
+wide-stays {m} {n} {r} {s} {xs} whole high step wide t =
+    one-tiled whole high step t (record { same = refl; placed = λ i j h g. at xs (wide-place m n r s i j wide g) })
+
+-- a word's place where its tile is at least as tall as the block
+tall-place : (m n r s i j : ℕ) → m ≤ r → i < m → tilePlace m n r s i j ≡ bandPlace m n s i j
+unfolding tilePlace bandPlace part
+tall-place m n r s i j tall row =
+    let low : i < r = omega arith in
+    let whole : min r (m - 0 * r) ≡ m = omega arith in
+    rw (div-eq-of-lt low, mod-eq-of-lt low, whole, zero-mul r, zero-mul n, zero-add (bandPlace m n s i j))
+
+-- a tile taller than the block leaves the words that one as tall leaves
+pub tall-same : {m n r s : ℕ} {xs ys : List ℕ} → m ≤ r → Tiled m n r s xs ys → Tiled m n m s xs ys
+tall-same {m} {n} {r} {s} {ys = ys} tall t = record {
+  same = t .same;
+  placed = λ i j h g.
+      at ys (tall-place m n m s i j (omega arith) h ∙ sym (tall-place m n r s i j tall h)) ∙ t .placed i j h g;
+}
+
+-- the computed tiles are the tiles
+pub tiled-is : (m n r s : ℕ) (xs : List ℕ) → length xs ≡ m * n → 0 < r → 0 < s → Tiled m n r s xs (tiled m n r s xs)
+unfolding tiled
+tiled-is m n r s xs whole high step = record {
+  same = length-tab (m * n) (λ p. getD xs (tileHome m n r s p) 0) ∙ sym whole;
+  placed = λ i j h g.
+      getD-tab (m * n) (λ p. getD xs (tileHome m n r s p) 0) (tilePlace m n r s i j) 0 (tile-place-lt m n r s high step i j h g)
+      ∙ at xs (home-of-tile m n r s high step i j h g);
+}

@@ -1,0 +1,3 @@
+pub mod Tiles
+pub mod Homes
+pub mod Benches

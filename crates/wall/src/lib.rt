@@ -1,0 +1,1 @@
+// A block as tiles: definitions and laws, no function.
