@@ -4,11 +4,13 @@ use Rattle.axes.specs.declared.Planned.{Planned as Below-Planned}
 use Rattle.sheet.specs.declared.Sheet.{Sheet as Below-Sheet}
 use Rattle.sheet.specs.declared.Written.{Written as Below-Written}
 use Rattle.home.specs.declared.Home.{Home as Below-Home}
+use Rattle.passes.specs.declared.LineCount.{LineCount as Below-Lines}
 use Rattle.exports.specs.declared.Answer.{Answer}
 use Rattle.exports.specs.declared.Planned.{Planned}
 use Rattle.exports.specs.declared.Sheet.{Sheet}
 use Rattle.exports.specs.declared.Written.{Written}
 use Rattle.exports.specs.declared.Home.{Home}
+use Rattle.exports.specs.declared.Lines.{Lines}
 
 -- what a chain or a direct request answers
 abbrev pub answered : Answer → Below-Answer
@@ -29,3 +31,7 @@ sheetWritten r = record { number = r .number; count = r .count }
 -- what the count of repeats answers
 abbrev pub homeAfter : Home → Below-Home
 homeAfter r = record { number = r .number; count = r .count }
+
+-- what the count of a turn's lines answers
+abbrev pub linesCounted : Lines → Below-Lines
+linesCounted r = record { number = r .number; count = r .count }

@@ -7,7 +7,9 @@ ghost use Rattle.sheet.specs.Writer.{WrittenAs};
 ghost use Rattle.job.specs.Job.{Done};
 ghost use Rattle.home.specs.Promise.{RepeatsPromise};
 ghost use Rattle.cameras.specs.Promises.{RemovePromise, AddPromise};
-ghost use Rattle.exports.specs.Records.{answered, planned, sheetRead, sheetWritten, homeAfter};
+ghost use Rattle.passes.specs.Ticks.{LinesPromise};
+ghost use Rattle.ticks.specs.Steps.{StepPromise};
+ghost use Rattle.exports.specs.Records.{answered, planned, sheetRead, sheetWritten, homeAfter, linesCounted};
 
 // The lengths of four axes, last axis fastest.
 #[repr(C)]
@@ -53,6 +55,13 @@ pub struct Written {
 // What the count of repeats answers.
 #[repr(C)]
 pub struct Home {
+    pub number: u32,
+    pub count: usize,
+}
+
+// What the count of a turn's lines answers.
+#[repr(C)]
+pub struct Lines {
     pub number: u32,
     pub count: usize,
 }
@@ -224,4 +233,30 @@ pub extern "C" fn zib_add_camera(
     ensures { λ r. ⌜ AddPromise frames cameras column (now (words .entry)) (now (buf .entry)) r (now (buf .exit)) ⌝ }
 {
     cameras::add(buf, frames, cameras, column, words)
+}
+
+// How many lines the turn of m by n by passes has.
+#[no_mangle]
+pub extern "C" fn zib_lines(m: usize, n: usize) -> Lines
+    ensures { λ r. ⌜ LinesPromise m n (linesCounted r) ⌝ }
+{
+    let l = passes::lines(m, n);
+    Lines {
+        number: l.number,
+        count: l.count,
+    }
+}
+
+// One line of the turn of m by n; the record of the lines done is lent, and advanced where it stands.
+#[no_mangle]
+pub extern "C" fn zib_tick(
+    buf: &mut [u32],
+    scratch: &mut [u32],
+    lines: &mut ticks::LineRecord,
+    m: usize,
+    n: usize,
+) -> u32
+    ensures { λ r. ⌜ StepPromise m n (now (lines .entry)) (now (buf .entry)) (now (scratch .entry)) r (now (lines .exit)) (now (buf .exit)) (now (scratch .exit)) ⌝ }
+{
+    ticks::step(buf, scratch, lines, m, n)
 }

@@ -1,7 +1,8 @@
 // One line a tick, with the lines done in a record that the player lends.
 ghost use Rattle.ticks.specs.Steps.{StepPromise};
 
-// The lines done.
+// The lines done, as a player keeps them: C lends the same record.
+#[repr(C)]
 pub struct LineRecord {
     pub done: usize,
 }
