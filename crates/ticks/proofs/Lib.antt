@@ -1,1 +1,2 @@
--- The step's promise is `passes`' promise of a tick, so what is proved here is the walk of the step's code: `step/Proof.antt`.
+-- any two outcomes that the promise of a step allows coincide
+pub mod OneOutcome
