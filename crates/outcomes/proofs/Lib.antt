@@ -29,6 +29,7 @@ pub mod RefutedJob
 pub mod Repeats
 -- one line a tick and the count of lines: one outcome, and wrong ones refuted
 pub mod Ticks
+pub mod Steps
 pub mod RefutedTicks
 -- removing and adding a camera: one outcome, and wrong ones refuted
 pub mod Cameras
