@@ -36,6 +36,7 @@ enum {
     ZIB_LONG_SHEET = 9,     /* a sheet has more than 16,384 bytes */
     ZIB_BAD_LINE = 10,      /* a sheet line is malformed, missing or left over; place is its line number, from 1 */
     ZIB_LARGE_SHEET = 11,   /* a sheet's lengths multiply to more than 1,024 */
+    ZIB_PAST_LINES = 12,    /* the lines done are more than the turn has */
     ZIB_LONG_BUFFER = 13,   /* the buffer has more words than the block */
     ZIB_BAD_TILE = 15,      /* a tile side is 0 or above 64 */
     ZIB_BAD_COLUMN = 16,    /* a column number is above the last camera (removing) or above the camera count (adding) */
@@ -67,6 +68,32 @@ uint32_t zib_turn_back(uint32_t *buffer, size_t buffer_words, uint32_t *scratch,
  * Answers 0, or the first of 1, 2, 3, 13 that holds.
  */
 uint32_t zib_turn_halves(uint32_t *buffer, size_t buffer_words, size_t m, size_t n);
+
+/* How many lines a turn has; 0 in a refusal. */
+struct zib_lines {
+    uint32_t number;
+    size_t count;
+};
+
+/*
+ * The lines of the turn of m by n: n + m + n where the sides share a factor, m + n otherwise.
+ * Answers 0, or the first of 1, 2 that holds.
+ */
+struct zib_lines zib_lines(size_t m, size_t n);
+
+/* How far a turn by lines has come. The player sets it to 0 and lends it to each call, which advances it where it stands. */
+struct zib_line_record {
+    size_t done;
+};
+
+/*
+ * One line of zib_turn: the line that the record names moves, and the record counts it. From a record at 0, with the same m and n and
+ * nobody else writing to buffer or record, the buffer holds the turn when the record reaches the count of zib_lines; until then it
+ * holds neither. A call after that changes nothing and answers 0. Scratch is as for zib_turn, and may be another one at each call.
+ * A refusal leaves the record too. Answers 0, or the first of 1, 2, 3, 13, 4, 12 that holds.
+ */
+uint32_t zib_tick(uint32_t *buffer, size_t buffer_words, uint32_t *scratch, size_t scratch_words, struct zib_line_record *lines,
+                  size_t m, size_t n);
 
 /* What zib_repeats answers: a count, 0 in a refusal. */
 struct zib_home {

@@ -46,6 +46,8 @@ enum {
     TO_TILES = 13,
     FROM_TILES = 14,
     READ_RESULT = 15,
+    TICK = 16,
+    LINES = 17,
     OFFSET_DELAY = 20,
     TO_FRAMES = 21,
     JOIN = 22,
@@ -125,6 +127,16 @@ static void give_sheet(struct zib_sheet s) {
 static void give_written(struct zib_written w) {
     give(w.number);
     give(w.bytes);
+}
+
+static void give_lines(struct zib_lines l) {
+    give(l.number);
+    give(l.count);
+}
+
+static void give_tick(struct zib_line_record lines) {
+    give(zib_tick(words(0), word_count(0), words(1), word_count(1), &lines, numbers[0], numbers[1]));
+    give(lines.done);
 }
 
 static void give_home(struct zib_home h) {
@@ -254,6 +266,12 @@ static void run(uint64_t call) {
         break;
     case READ_RESULT:
         give_result(zib_read_result(buffers[0].at, buffers[0].bytes, words(1), word_count(1)));
+        break;
+    case TICK:
+        give_tick((struct zib_line_record){numbers[2]});
+        break;
+    case LINES:
+        give_lines(zib_lines(numbers[0], numbers[1]));
         break;
     case OFFSET_DELAY:
         give_measured(zib_offset_delay(readings(0), reading_count(0)));

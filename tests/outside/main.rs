@@ -13,6 +13,7 @@ mod repeats;
 mod results;
 mod sheets;
 mod text;
+mod ticks;
 mod tiles;
 
 const SEED: u64 = 20_240_601;
@@ -23,7 +24,7 @@ fn main() {
     if short {
         command.remove(0);
     }
-    println!("seeds {} to {}{}", SEED, SEED + 7, if short { ", short form" } else { "" });
+    println!("seeds {} to {}{}", SEED, SEED + 8, if short { ", short form" } else { "" });
     let mut t = bench::Bench::new(driver::Driver::new(&command), short);
     guards::all(&mut t);
     flat::all(&mut t, SEED);
@@ -34,6 +35,7 @@ fn main() {
     tiles::all(&mut t, SEED + 5);
     results::all(&mut t, SEED + 6);
     desk::all(&mut t, SEED + 7);
+    ticks::all(&mut t, SEED + 8);
     let well = t.driver.end();
     t.verdict(well, || "the driver did not end well".to_string());
     println!("{} passed, {} failed", t.passed, t.failed);

@@ -5,12 +5,14 @@ use Rattle.sheet.specs.declared.Sheet.{Sheet as Below-Sheet}
 use Rattle.printer.specs.declared.Written.{Written as Below-Written}
 use Rattle.home.specs.declared.Home.{Home as Below-Home}
 use Rattle.sheet.specs.declared.ResultSheet.{ResultSheet as Below-ResultSheet}
+use Rattle.passes.specs.declared.LineCount.{LineCount as Below-Lines}
 use Rattle.exports.specs.declared.Answer.{Answer}
 use Rattle.exports.specs.declared.Planned.{Planned}
 use Rattle.exports.specs.declared.Sheet.{Sheet}
 use Rattle.exports.specs.declared.Written.{Written}
 use Rattle.exports.specs.declared.Home.{Home}
 use Rattle.exports.specs.declared.ResultSheet.{ResultSheet}
+use Rattle.exports.specs.declared.Lines.{Lines}
 
 -- what a chain or a direct request answers
 abbrev pub answered : Answer → Below-Answer
@@ -35,3 +37,7 @@ homeAfter r = record { number = r .number; count = r .count }
 -- what the reader of result sheets answers
 abbrev pub resultRead : ResultSheet → Below-ResultSheet
 resultRead r = record { number = r .number; place = r .place; lens = r .lens; order = r .order }
+
+-- what the count of a turn's lines answers
+abbrev pub linesCounted : Lines → Below-Lines
+linesCounted r = record { number = r .number; count = r .count }

@@ -11,7 +11,9 @@ ghost use Rattle.cameras.specs.Promises.{RemovePromise, AddPromise};
 ghost use Rattle.tiles.specs.Promises.{ToTilesPromise, FromTilesPromise};
 ghost use Rattle.desk.specs.Promises.{MeasuredAs, FramesAs, JoinedAs};
 ghost use Rattle.choice.specs.Promises.{ChosenAs, NumberAs};
-ghost use Rattle.exports.specs.Records.{answered, planned, sheetRead, sheetWritten, homeAfter, resultRead};
+ghost use Rattle.passes.specs.Ticks.{LinesPromise};
+ghost use Rattle.ticks.specs.Steps.{StepPromise};
+ghost use Rattle.exports.specs.Records.{answered, planned, sheetRead, sheetWritten, homeAfter, resultRead, linesCounted};
 
 // The lengths of four axes, last axis fastest.
 #[repr(C)]
@@ -68,6 +70,13 @@ pub struct ResultSheet {
     pub place: usize,
     pub lens: [usize; 4],
     pub order: usize,
+}
+
+// What the count of a turn's lines answers.
+#[repr(C)]
+pub struct Lines {
+    pub number: u32,
+    pub count: usize,
 }
 
 // The flat turn of m by n by passes.
@@ -324,4 +333,30 @@ pub extern "C" fn zib_choose_number(first: &[i64], second: &[i64]) -> u32
     ensures { λ r. ⌜ NumberAs (now (first .entry)) (now (second .entry)) r ⌝ }
 {
     choice::choose_number(first, second)
+}
+
+// How many lines the turn of m by n by passes has.
+#[no_mangle]
+pub extern "C" fn zib_lines(m: usize, n: usize) -> Lines
+    ensures { λ r. ⌜ LinesPromise m n (linesCounted r) ⌝ }
+{
+    let l = passes::lines(m, n);
+    Lines {
+        number: l.number,
+        count: l.count,
+    }
+}
+
+// One line of the turn of m by n; the record of the lines done is lent, and advanced where it stands.
+#[no_mangle]
+pub extern "C" fn zib_tick(
+    buf: &mut [u32],
+    scratch: &mut [u32],
+    lines: &mut ticks::LineRecord,
+    m: usize,
+    n: usize,
+) -> u32
+    ensures { λ r. ⌜ StepPromise m n (now (lines .entry)) (now (buf .entry)) (now (scratch .entry)) r (now (lines .exit)) (now (buf .exit)) (now (scratch .exit)) ⌝ }
+{
+    ticks::step(buf, scratch, lines, m, n)
 }

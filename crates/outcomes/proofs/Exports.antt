@@ -11,12 +11,14 @@ use Rattle.axes.specs.declared.Planned.{Planned as Below-Planned}
 use Rattle.sheet.specs.declared.Sheet.{Sheet as Below-Sheet}
 use Rattle.printer.specs.declared.Written.{Written as Below-Written}
 use Rattle.home.specs.declared.Home.{Home as Below-Home}
+use Rattle.passes.specs.declared.LineCount.{LineCount as Below-Lines}
 use Rattle.sheet.specs.declared.ResultSheet.{ResultSheet as Below-ResultSheet}
 use Rattle.exports.specs.declared.Answer.{Answer}
 use Rattle.exports.specs.declared.Planned.{Planned}
 use Rattle.exports.specs.declared.Sheet.{Sheet}
 use Rattle.exports.specs.declared.Written.{Written}
 use Rattle.exports.specs.declared.Home.{Home}
+use Rattle.exports.specs.declared.Lines.{Lines}
 use Rattle.exports.specs.declared.ResultSheet.{ResultSheet}
 use Rattle.passes.proofs.OneOutcome as passes
 use Rattle.halves.proofs.OneOutcome as halves
@@ -25,6 +27,7 @@ use Rattle.sheet.proofs.OneOutcome as sheets
 use Rattle.printer.proofs.OneOutcome as prints
 use Rattle.job.proofs.OneOutcome as jobs
 use Rattle.home.proofs.OneOutcome as homes
+use Rattle.passes.proofs.OneTick as ticks
 use Rattle.cameras.proofs.OneOutcome as cameras
 use Rattle.tiles.proofs.OneOutcome as tiles
 use Rattle.exports.proofs.zib_turn.Kinds as turn-kinds
@@ -55,6 +58,8 @@ use Rattle.exports.proofs.zib_to_tiles.Kinds as to-tiles-kinds
 use Rattle.exports.proofs.zib_to_tiles.Reads as to-tiles
 use Rattle.exports.proofs.zib_from_tiles.Kinds as from-tiles-kinds
 use Rattle.exports.proofs.zib_from_tiles.Reads as from-tiles
+use Rattle.exports.proofs.zib_lines.Kinds as lines-kinds
+use Rattle.exports.proofs.zib_lines.Reads as lines
 use Rattle.exports.proofs.zib_read_result.Kinds as read-result-kinds
 use Rattle.exports.proofs.zib_read_result.Reads as read-result
 
@@ -70,6 +75,9 @@ as-sheet r = record { number = r .number; place = r .place; lens = r .lens; swap
 
 abbrev as-home : Below-Home → Home
 as-home r = record { number = r .number; count = r .count }
+
+abbrev as-lines : Below-Lines → Lines
+as-lines r = record { number = r .number; count = r .count }
 
 abbrev as-result : Below-ResultSheet → ResultSheet
 as-result r = record { number = r .number; place = r .place; lens = r .lens; order = r .order }
@@ -116,6 +124,10 @@ job-once κs a r r′ s s′ p q = jobs.job-once p q
 pub repeats-once : (κs : Lfts 0) (a : Dens κs repeats-kinds.ps) (r r′ : Home) (s s′ : AtExit (endedOf 0 repeats-kinds.ps repeats-kinds.r) κs)
     → repeats.Post κs a r s → repeats.Post κs a r′ s′ → r ≡ r′
 repeats-once κs a r r′ s s′ p q = ap as-home (homes.repeats-once p q)
+
+pub lines-once : (κs : Lfts 0) (a : Dens κs lines-kinds.ps) (r r′ : Lines) (s s′ : AtExit (endedOf 0 lines-kinds.ps lines-kinds.r) κs)
+    → lines.Post κs a r s → lines.Post κs a r′ s′ → r ≡ r′
+lines-once κs a r r′ s s′ p q = ap as-lines (ticks.lines-once p q)
 
 pub remove-camera-once : (κs : Lfts 1) (a : Dens κs remove-kinds.ps) (r r′ : ℕ) (s s′ : AtExit (endedOf 1 remove-kinds.ps remove-kinds.r) κs)
     → remove.Post κs a r s → remove.Post κs a r′ s′ → (r ≡ r′) × (s .0 .now ≡ s′ .0 .now)

@@ -27,6 +27,10 @@ pub mod RefutedWrite
 pub mod RefutedJob
 -- the count of repeats: one outcome, and wrong ones refuted
 pub mod Repeats
+-- one line a tick and the count of lines: one outcome, and wrong ones refuted
+pub mod Ticks
+pub mod Steps
+pub mod RefutedTicks
 -- removing and adding a camera: one outcome, and wrong ones refuted
 pub mod Cameras
 -- the conversions to tiles and back: one outcome, and wrong ones refuted

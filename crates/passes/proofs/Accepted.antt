@@ -47,7 +47,7 @@ flat-accepted m n buffer scratch e = go (v .0 .lengths)
     }
 
 -- the block of a flat call is the buffer
-flat-lies : {m n : ℕ} {buffer scratch : List ℕ} → Accepted m n buffer scratch → Lies m n 0 1 buffer scratch
+pub flat-lies : {m n : ℕ} {buffer scratch : List ℕ} → Accepted m n buffer scratch → Lies m n 0 1 buffer scratch
 flat-lies {m} {n} a = record {
   apart = omega arith;
   inside = λ p h. omega (arith, a .exact);
@@ -58,7 +58,7 @@ flat-lies {m} {n} a = record {
 }
 
 -- turned there, it is turned
-flat-turned : (m n : ℕ) (xs ys : List ℕ) → TurnedAt m n 0 1 xs ys → Turn m n xs ys
+pub flat-turned : (m n : ℕ) (xs ys : List ℕ) → TurnedAt m n 0 1 xs ys → Turn m n xs ys
 flat-turned m n xs ys t =
     from-literal m n xs ys (t .same)
     (λ i j hi hj.

@@ -43,7 +43,7 @@ module _ {s : GroupedSides} {base chunk : ℕ} {b₀ sc₀ : List ℕ} (sound : 
       line-fits (sound .m-pos) (sound .n-pos) (lies-in b₀ sc₀ b sc e (p .same) lies)
       (skipped (s .m) (s .n) + l) (omega (arith, left-out))
 
-  going-short : (l : ℕ) → l < lineCount (s .m) (s .n) → lineOf (s .m) (s .n) base chunk l .count ≤ need (sides (s .m) (s .n))
+  pub going-short : (l : ℕ) → l < lineCount (s .m) (s .n) → lineOf (s .m) (s .n) base chunk l .count ≤ need (sides (s .m) (s .n))
   going-short l h = line-short (s .m) (s .n) base chunk (skipped (s .m) (s .n) + l) (omega (arith, left-out))
 
   pub forth-none : {l : ℕ} → skipped (s .m) (s .n) + l ≡ columnGroup (s .m) (s .n) → Forth s base chunk b₀ sc₀ l b₀ sc₀

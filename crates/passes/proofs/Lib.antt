@@ -16,9 +16,13 @@ pub mod Fits
 pub mod Going
 -- what the checks of the flat calls tell, and what the turn and the cleared scratch are then
 pub mod Accepted
+-- one line a tick: refused, a line moved, none left
+pub mod Ticks
 -- the blocks of an adjacent swap, turned one after the other, are the swap
 pub mod Swaps
 -- any two outcomes that the promise of a call allows coincide
 pub mod OneOutcome
+-- any two outcomes of a tick coincide
+pub mod OneTick
 -- a turn and its reverse, either one first, restore every word
 pub mod ThereAndBack

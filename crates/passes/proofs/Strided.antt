@@ -76,6 +76,10 @@ skipped-le m n hm hn = go (ltb 1 (gcdOf m n)) refl
 pub groups-le : (m n : ℕ) → 0 < m → 0 < n → columnGroup m n ≤ n
 groups-le m n hm hn = let s = sides-are m n hm hn in omega (arith, le-mul-of-pos-right {m = gcdOf m n} (columnGroup m n) (s .c-pos), s .columns)
 
+-- no more columns are left out than there are
+pub skipped-few : (m n : ℕ) → 0 < m → 0 < n → skipped m n ≤ n
+skipped-few m n hm hn = omega (arith, skipped-le m n hm hn, groups-le m n hm hn)
+
 module _ (m n base chunk : ℕ) (hm : 0 < m) (hn : 0 < n) (hc : 0 < chunk) where
   s : Sides m n
   s = sides-are m n hm hn

@@ -1,3 +1,4 @@
 pub mod Lines
 pub mod ThroughScratch
 pub mod Promises
+pub mod Ticks

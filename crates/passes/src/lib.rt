@@ -1,4 +1,4 @@
-// The flat turn by passes, its reverse, and the adjacent swap of four axes.
+// The flat turn by passes, in one call or one line a call, its reverse, and the adjacent swap of four axes.
 mod gcd;
 mod line;
 mod refusal;
@@ -7,6 +7,7 @@ mod turning;
 mod walk;
 
 ghost use Rattle.passes.specs.Promises.{TurnPromise, TurnBackPromise, SwapPromise, ClearPromise};
+ghost use Rattle.passes.specs.Ticks.{LinesPromise, TickPromise};
 
 // Turns the m by n block that fills a buffer, through scratch of max(m, n) words: 0, or 1, 2, 3, 13, 4.
 pub fn turn(buf: &mut [u32], scratch: &mut [u32], m: usize, n: usize) -> u32
@@ -36,6 +37,61 @@ pub fn turn_back(buf: &mut [u32], scratch: &mut [u32], m: usize, n: usize) -> u3
     turning::turn_home_at(buf, scratch, s, 0, 1);
     scratch::clear_longest(scratch, m, n);
     0
+}
+
+// How many lines a turn has: the number, and the count, 0 in a refusal.
+pub struct LineCount {
+    pub number: u32,
+    pub count: usize,
+}
+
+// The lines of the turn of an m by n block: n + m + n where the sides share a factor, m + n otherwise: 0, or 1, 2.
+pub fn lines(m: usize, n: usize) -> LineCount
+    ensures { λ r. ⌜ LinesPromise m n r ⌝ }
+{
+    let lens = [m, n];
+    let number = checks::size_number(&lens);
+    if number != 0 {
+        return LineCount { number, count: 0 };
+    }
+    let s = turning::group_sides(m, n);
+    LineCount {
+        number: 0,
+        count: turning::line_count(s),
+    }
+}
+
+// What a tick answers: its number, and the lines done after it.
+pub struct Ticked {
+    pub number: u32,
+    pub done: usize,
+}
+
+// One line of the turn of an m by n block: the line after those that are done moves, if one is left: 0, or 1, 2, 3, 13, 4, 12.
+pub fn tick(buf: &mut [u32], scratch: &mut [u32], m: usize, n: usize, done: usize) -> Ticked
+    ensures { λ r. ⌜ TickPromise m n done (now (buf .entry)) (now (scratch .entry)) r (now (buf .exit)) (now (scratch .exit)) ⌝ }
+{
+    let lens = [m, n];
+    let number = checks::passes_number(&lens, buf, scratch);
+    if number != 0 {
+        return Ticked { number, done };
+    }
+    let s = turning::group_sides(m, n);
+    let count = turning::line_count(s);
+    if count < done {
+        return Ticked { number: 12, done };
+    }
+    if count == done {
+        scratch::clear_longest(scratch, m, n);
+        return Ticked { number: 0, done };
+    }
+    let line = turning::line_of(s, 0, 1, done);
+    line::forth(buf, scratch, s, line);
+    scratch::clear_longest(scratch, m, n);
+    Ticked {
+        number: 0,
+        done: done + 1,
+    }
 }
 
 // Exchanges the two axes in the middle of outer × m × n × chunk words, through scratch of max(m, n) words: 0, or 1, 2, 3, 13, 4.

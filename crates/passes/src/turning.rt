@@ -44,7 +44,7 @@ pub(crate) fn group_sides(m: usize, n: usize) -> GroupedSides
 }
 
 // How many lines the passes have.
-fn line_count(s: GroupedSides) -> usize
+pub(crate) fn line_count(s: GroupedSides) -> usize
     requires { ⌜ Grouped s ⌝ }
     ensures { λ r. ⌜ r ≡ lineCount (s .m) (s .n) ⌝ }
 {
@@ -60,7 +60,7 @@ fn first_moved(s: GroupedSides) -> usize
 }
 
 // Line l of a block, counted from 0 across the passes.
-fn line_of(s: GroupedSides, base: usize, chunk: usize, l: usize) -> Line
+pub(crate) fn line_of(s: GroupedSides, base: usize, chunk: usize, l: usize) -> Line
     requires { ⌜ Grouped s × (base ≤ 1048576) × (chunk ≤ 1048576) × (l < lineCount (s .m) (s .n)) ⌝ }
     ensures { λ r. ⌜ r ≡ lineOf (s .m) (s .n) base chunk l ⌝ }
 {

@@ -1,4 +1,4 @@
--- `turn` meets its contract: refused by the checks, or the block at the buffer's start is turned and scratch cleared.
+-- `turn` meets its contract: refused by the checks, or the block is turned and scratch cleared.
 use mathlib.Core.Path.{_≡_}
 use native.Mathlib.Omega.{arith}
 use borrow.Author.Needs.{needs}

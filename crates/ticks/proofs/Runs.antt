@@ -1,0 +1,108 @@
+-- Any run of calls from a record at 0, by one induction over the calls: the lines named so far have moved, one after the other, so that after k
+-- accepted calls the record is the smaller of k and the line count, and at the line count the buffer holds the flat turn; a call after
+-- that changes neither. A player may stop and go on whenever it likes.
+use mathlib.Core.Path.{_≡_, refl, sym, ap, _∙_, subst}
+use mathlib.Core.List.{List}
+use mathlib.Core.Logic.{_↔_, ⊎-elim}
+use Prim.Native.Nat.{ℕ, suc, _+_, _-_, _<_, _≤_, min}
+use native.Mathlib.Nat.{not-suc-le-zero}
+use native.Mathlib.Omega.{arith}
+use lib.ListN.{length}
+use borrow.Author.Tests.{lt-ltb, le-ltb}
+use Rattle.lists.proofs.Decide.{lt-or-ge, eq-or-ne}
+use Rattle.refusals.specs.FirstOf.{firstOf}
+use Rattle.refusals.specs.Calls.{passesChecks}
+use Rattle.flat.specs.Turn.{sides, Turn}
+use Rattle.flat.specs.Passes.{columnGroup}
+use Rattle.passes.specs.Lines.{skipped, lineCount}
+use Rattle.passes.specs.Ticks.{tickChecks, doneAfter}
+use Rattle.passes.proofs.Ran.{Ran, ran-more}
+use Rattle.passes.proofs.Ran.Ran.{done}
+use Rattle.passes.proofs.Strided.{LineStep, skipped-le, skipped-few, lines-turn}
+use Rattle.passes.proofs.Accepted.{Accepted, flat-accepted, flat-turned}
+use Rattle.passes.proofs.Ticks.{flat-passed, in-time}
+use Rattle.ticks.specs.Steps.{StepPromise}
+use Rattle.ticks.specs.Runs.{Run, fresh}
+use Rattle.ticks.specs.Runs.Run.{begun, accepted, refused}
+use Rattle.ticks.specs.declared.LineRecord.{LineRecord}
+
+-- the lines that are done have moved, one after the other
+abbrev Through : ℕ → ℕ → List ℕ → ℕ → List ℕ → Type 0
+Through m n xs d ys = Ran (LineStep m n 0 1) (skipped m n + d) (skipped m n) xs ys
+
+module _ {m n : ℕ} where
+  -- what an accepted call found
+  sound : {before after : LineRecord} {ys ss zs ts : List ℕ} → StepPromise m n before ys ss 0 after zs ts → Accepted m n ys ss
+  sound {before} {ys = ys} {ss} p = flat-accepted m n ys ss (flat-passed m n (before .done) ys ss (sym (p .block .number-is)))
+
+  -- after one more accepted call one more line is done, if one was left
+  counted : {before after : LineRecord} {ys ss zs ts : List ℕ} (k : ℕ) → StepPromise m n before ys ss 0 after zs ts → before .done ≡ min k (lineCount m n)
+      → after .done ≡ min (k + 1) (lineCount m n)
+  counted {before} k p e =
+      ⊎-elim
+      (λ (h : before .done < lineCount m n). p .given refl ∙ rw (lt-ltb (before .done) (lineCount m n) h) (omega arith))
+      (λ (h : lineCount m n ≤ before .done). p .given refl ∙ rw (le-ltb (before .done) (lineCount m n) h) (omega arith))
+      (lt-or-ge (before .done) (lineCount m n))
+
+  -- the record is the smaller of the accepted calls and the line count
+  pub run-record : {xs : List ℕ} {k : ℕ} {r : LineRecord} {ys : List ℕ} → Run m n xs k r ys → r .done ≡ min k (lineCount m n)
+  run-record begun = omega arith
+  run-record (accepted {k = k} run p) = counted k p (run-record run)
+  run-record (refused run z p) = p .refusal z ∙ run-record run
+
+  -- so it reaches the line count at exactly the accepted call of that number
+  pub reaches : {xs : List ℕ} {k : ℕ} {r : LineRecord} {ys : List ℕ} → Run m n xs k r ys → (r .done ≡ lineCount m n) ↔ (lineCount m n ≤ k)
+  reaches run = (λ e. omega (arith, run-record run), λ h. omega (arith, run-record run))
+
+  -- sides with which a call was accepted
+  sides-sound : {xs : List ℕ} {k : ℕ} {r : LineRecord} {ys : List ℕ} → Run m n xs k r ys → 0 < k → (0 < m) × (0 < n)
+  sides-sound begun h = absurd (not-suc-le-zero h)
+  sides-sound (accepted run p) h = let a = sound p in (a .m-pos, a .n-pos)
+  sides-sound (refused run z p) h = sides-sound run h
+
+  one-more : {before after : LineRecord} {xs ys ss zs ts : List ℕ} → StepPromise m n before ys ss 0 after zs ts → Through m n xs (before .done) ys
+      → Through m n xs (after .done) zs
+  one-more {before} {after} {xs} {ys} {zs = zs} p r =
+      ⊎-elim
+      (λ (h : before .done < lineCount m n).
+      let next : after .done ≡ before .done + 1 = p .given refl ∙ rw (lt-ltb (before .done) (lineCount m n) h) in
+      let e : suc (skipped m n + before .done) ≡ skipped m n + after .done = omega arith in
+      subst (λ (d : ℕ). Ran (LineStep m n 0 1) d (skipped m n) xs zs) e (ran-more r (p .block .words refl .moved h)))
+      (λ (h : lineCount m n ≤ before .done).
+      let e : before .done ≡ after .done = sym (p .given refl ∙ rw (le-ltb (before .done) (lineCount m n) h)) in
+      rw (← e, p .block .words refl .still h) r)
+      (lt-or-ge (before .done) (lineCount m n))
+
+  run-through : {xs : List ℕ} {k : ℕ} {r : LineRecord} {ys : List ℕ} → Run m n xs k r ys → Through m n xs (r .done) ys
+  run-through {xs} begun = subst (λ (d : ℕ). Ran (LineStep m n 0 1) d (skipped m n) xs xs) (omega arith) done
+  run-through (accepted run p) = one-more p (run-through run)
+  run-through {xs} (refused run z p) =
+      let r = run-through run in
+      rw (p .refusal z, p .block .kept z .0) r
+
+  -- from the accepted call of that number on the buffer holds the flat turn
+  pub run-turned : {xs : List ℕ} {k : ℕ} {r : LineRecord} {ys : List ℕ} → Run m n xs k r ys → 0 < k → lineCount m n ≤ k → Turn m n xs ys
+  run-turned {xs} {k} {r} {ys} run some h =
+      let s = sides-sound run some in
+      let all : skipped m n + r .done ≡ n + m + n = omega (arith, run-record run, skipped-few m n (s .0) (s .1)) in
+      flat-turned m n xs ys
+      (lines-turn m n 0 1 (s .0) (s .1) (omega arith) (skipped m n) (skipped-le m n (s .0) (s .1))
+      (subst (λ (d : ℕ). Ran (LineStep m n 0 1) d (skipped m n) xs ys) all (run-through run)))
+
+  -- and a call after that changes neither buffer nor record, whether it is refused or not
+  pub run-over : {xs : List ℕ} {k : ℕ} {r : LineRecord} {ys : List ℕ} → Run m n xs k r ys → lineCount m n ≤ k
+      → {number : ℕ} {after : LineRecord} {ss zs ts : List ℕ} → StepPromise m n r ys ss number after zs ts → (zs ≡ ys) × (after .done ≡ r .done)
+  run-over {r = r} run h {number} p =
+      let full : lineCount m n ≤ r .done = omega (arith, run-record run) in
+      ⊎-elim
+      (λ (z : number ≡ 0). (p .block .words z .still full, p .given z ∙ rw (le-ltb (r .done) (lineCount m n) full)))
+      (λ (z : number ≡ 0 → ⊥). (p .block .kept z .0, p .refusal z))
+      (eq-or-ne number 0)
+
+  -- it answers 0 where none of the flat turn's conditions holds, and so does every call of a run
+  pub run-answers : {xs : List ℕ} {k : ℕ} {r : LineRecord} {ys : List ℕ} → Run m n xs k r ys
+      → {number : ℕ} {after : LineRecord} {ss zs ts : List ℕ} → StepPromise m n r ys ss number after zs ts
+      → firstOf (passesChecks (sides m n) ys ss) ≡ 0 → number ≡ 0
+  run-answers {r = r} {ys} run {ss = ss} p good =
+      let few : r .done ≤ lineCount m n = omega (arith, run-record run) in
+      p .block .number-is ∙ in-time m n (r .done) ys ss good few
