@@ -1,7 +1,7 @@
 -- `add_number` meets its contract: each test is that of a check, in its order; the words before and after are products.
 use mathlib.Core.Path.{_≡_, refl, sym, ap, _∙_}
 use mathlib.Core.Bool.{Bool, true, false, cond, _||_}
-use mathlib.Core.List.{[], _∷_}
+use mathlib.Core.List.{List, [], _∷_}
 use Prim.Native.Nat.{ℕ, _+_, _*_, _<_, _≤_}
 use native.Mathlib.Nat.{mul-le-mul}
 use native.Mathlib.Omega.{arith}
@@ -11,12 +11,13 @@ use borrow.Author.Needs.{needs}
 use borrow.Author.Tests.{lt-ltb, le-ltb, eq-eqb, ne-eqb}
 use Rattle.lists.proofs.Via.{via}
 use Rattle.layout.specs.Layout.{volume}
-use Rattle.refusals.specs.Conditions.{outOfRange}
+use Rattle.refusals.specs.FirstOf.{Check, check, firstOf}
+use Rattle.refusals.specs.Conditions.{outOfRange, shortBuffer}
 use Rattle.refusals.proofs.Conditions.{InRange, in-range, range-above}
 use Rattle.refusals.proofs.Conditions.InRange.{none, more}
 use Rattle.flat.specs.Turn.{sides}
 use Rattle.flat.proofs.Turn.{volume-two}
-use Rattle.cameras.specs.Promises.{badCameras}
+use Rattle.cameras.specs.Promises.{badCameras, noColumn, otherLength, addChecks}
 use Rattle.cameras.proofs.add_number.Statement.{statement}
 use Rattle.cameras.proofs.add_number.Tie as tie
 
@@ -70,89 +71,62 @@ returns-3 c =
     let after = volume-two f (n + 1) in
     rw (good, lt-ltb 1048576 (volume (sides f (n + 1))) (omega arith)) (sym (either-way (ltb 1048576 (volume (sides f n)))))
 
-returns-4 : tie.Need-returns-4
-returns-4 c =
-    let s : tie.Start = search in
-    let f = s .args .frames in
-    let n = s .args .cameras in
-    let good : badCameras f n (n + 1) ≡ false = search via in
-    let before = volume-two f n in
-    let after = volume-two f (n + 1) in
-    rw (
-      good,
-      le-ltb 1048576 (volume (sides f n)) (omega arith),
-      le-ltb 1048576 (volume (sides f (n + 1))) (omega arith),
-      lt-ltb (length (s .args .buf .now)) (volume (sides f n)) (omega arith),
-    )
+-- each check that is passed leaves the rest to decide
+module _ (s : tie.Start) (good : badCameras (s .args .frames) (s .args .cameras) (s .args .cameras + 1) ≡ false)
+    (room : s .args .frames * (s .args .cameras + 1) ≤ 1048576) where
+  abbrev f : ℕ
+  f = s .args .frames
 
-returns-5 : tie.Need-returns-5
-returns-5 c =
-    let s : tie.Start = search in
-    let f = s .args .frames in
-    let n = s .args .cameras in
-    let good : badCameras f n (n + 1) ≡ false = search via in
-    let before = volume-two f n in
-    let after = volume-two f (n + 1) in
-    rw (
-      good,
-      le-ltb 1048576 (volume (sides f n)) (omega arith),
-      le-ltb 1048576 (volume (sides f (n + 1))) (omega arith),
-      le-ltb (length (s .args .buf .now)) (volume (sides f n)) (omega arith),
-      lt-ltb n (s .args .column) (omega arith),
-    )
+  abbrev n : ℕ
+  n = s .args .cameras
 
-returns-6 : tie.Need-returns-6
-returns-6 c =
-    let s : tie.Start = search in
-    let f = s .args .frames in
-    let n = s .args .cameras in
-    let good : badCameras f n (n + 1) ≡ false = search via in
-    let before = volume-two f n in
-    let after = volume-two f (n + 1) in
-    rw (
-      good,
-      le-ltb 1048576 (volume (sides f n)) (omega arith),
-      le-ltb 1048576 (volume (sides f (n + 1))) (omega arith),
-      le-ltb (length (s .args .buf .now)) (volume (sides f n)) (omega arith),
-      le-ltb n (s .args .column) (omega arith),
-      lt-ltb (length (s .args .buf .now)) (volume (sides f (n + 1))) (omega arith),
-    )
+  abbrev lent : ℕ
+  lent = length (s .args .buf .now)
 
-returns-7 : tie.Need-returns-7
-returns-7 c =
-    let s : tie.Start = search in
-    let f = s .args .frames in
-    let n = s .args .cameras in
-    let good : badCameras f n (n + 1) ≡ false = search via in
-    let before = volume-two f n in
-    let after = volume-two f (n + 1) in
-    rw (
-      good,
-      le-ltb 1048576 (volume (sides f n)) (omega arith),
-      le-ltb 1048576 (volume (sides f (n + 1))) (omega arith),
-      le-ltb (length (s .args .buf .now)) (volume (sides f n)) (omega arith),
-      le-ltb n (s .args .column) (omega arith),
-      le-ltb (length (s .args .buf .now)) (volume (sides f (n + 1))) (omega arith),
-      ne-eqb (length (s .args .words .now)) f (search),
-    )
+  abbrev number : ℕ
+  number = firstOf (addChecks f n (s .args .column) (s .args .words .now) (s .args .buf .now))
 
-returns-8 : tie.Need-returns-8
-returns-8 c =
-    let s : tie.Start = search in
-    let f = s .args .frames in
-    let n = s .args .cameras in
-    let good : badCameras f n (n + 1) ≡ false = search via in
-    let before = volume-two f n in
-    let after = volume-two f (n + 1) in
-    rw (
-      good,
-      le-ltb 1048576 (volume (sides f n)) (omega arith),
-      le-ltb 1048576 (volume (sides f (n + 1))) (omega arith),
-      le-ltb (length (s .args .buf .now)) (volume (sides f n)) (omega arith),
-      le-ltb n (s .args .column) (omega arith),
-      le-ltb (length (s .args .buf .now)) (volume (sides f (n + 1))) (omega arith),
-      eq-eqb (length (s .args .words .now)) f (search),
-    )
+  abbrev from-25 : List Check
+  from-25 = check 25 (otherLength f (s .args .words .now)) ∷ []
+
+  abbrev from-17 : List Check
+  from-17 = check 17 (shortBuffer (sides f (n + 1)) (s .args .buf .now)) ∷ from-25
+
+  abbrev from-16 : List Check
+  from-16 = check 16 (noColumn n (s .args .column)) ∷ from-17
+
+  sized : number ≡ firstOf (check 3 (shortBuffer (sides f n) (s .args .buf .now)) ∷ from-16)
+  sized =
+      let before = volume-two f n in
+      let after = volume-two f (n + 1) in
+      rw (good, le-ltb 1048576 (volume (sides f n)) (omega arith), le-ltb 1048576 (volume (sides f (n + 1))) (omega arith))
+
+  short : lent < f * n → 3 ≡ number
+  short h = sym (sized ∙ rw (lt-ltb lent (volume (sides f n)) (omega (arith, volume-two f n))))
+
+  module _ (enough : f * n ≤ lent) where
+    held : number ≡ firstOf from-16
+    held = sized ∙ rw (le-ltb lent (volume (sides f n)) (omega (arith, volume-two f n)))
+
+    no-column : n < s .args .column → 16 ≡ number
+    no-column h = sym (held ∙ rw (lt-ltb n (s .args .column) h))
+
+    module _ (there : s .args .column ≤ n) where
+      placed : number ≡ firstOf from-17
+      placed = held ∙ rw (le-ltb n (s .args .column) there)
+
+      no-room : lent < f * (n + 1) → 17 ≡ number
+      no-room h = sym (placed ∙ rw (lt-ltb lent (volume (sides f (n + 1))) (omega (arith, volume-two f (n + 1)))))
+
+      module _ (roomy : f * (n + 1) ≤ lent) where
+        last : number ≡ firstOf from-25
+        last = placed ∙ rw (le-ltb lent (volume (sides f (n + 1))) (omega (arith, volume-two f (n + 1))))
+
+        other : (length (s .args .words .now) ≡ f → ⊥) → 25 ≡ number
+        other h = sym (last ∙ rw (ne-eqb (length (s .args .words .now)) f h))
+
+        accepted : length (s .args .words .now) ≡ f → 0 ≡ number
+        accepted h = sym (last ∙ rw (eq-eqb (length (s .args .words .now)) f h))
 
 pub add-number-spec : {M : Type 1} → statement M
 add-number-spec =
@@ -166,8 +140,8 @@ add-number-spec =
     mul-size
     add-room
     returns-3
-    returns-4
-    returns-5
-    returns-6
-    returns-7
-    returns-8)
+    (λ c. short (search) (search via) (omega arith) (omega arith))
+    (λ c. no-column (search) (search via) (omega arith) (omega arith) (omega arith))
+    (λ c. no-room (search) (search via) (omega arith) (omega arith) (omega arith) (omega arith))
+    (λ c. other (search) (search via) (omega arith) (omega arith) (omega arith) (omega arith) (search))
+    (λ c. accepted (search) (search via) (omega arith) (omega arith) (omega arith) (omega arith) (search)))
