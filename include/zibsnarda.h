@@ -19,6 +19,9 @@
 #include <stddef.h>
 #include <stdint.h>
 
+/* Raised where a call or a record changes. */
+#define ZIB_VERSION "1.0"
+
 #ifdef __cplusplus
 extern "C" {
 #endif
