@@ -31,6 +31,7 @@ need_x86_64() {
     if [ "$machine" = x86_64 ]; then
         cc=gcc run=
         need gcc gcc libc6-dev
+        need nm binutils
     else
         cc=x86_64-linux-gnu-gcc run=qemu-x86_64
         need "$cc" gcc-x86-64-linux-gnu libc6-dev-amd64-cross
