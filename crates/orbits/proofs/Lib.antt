@@ -14,3 +14,11 @@ pub mod Powers
 pub mod Turns
 -- the fewest repeats, and that n by m takes as many as m by n
 pub mod Fewest
+-- the right cycle lists of small blocks, computed
+pub mod CycleBenches
+-- the map of all offsets of a block is one to one
+pub mod Takes
+-- the least number of a cycle, by the computed test
+pub mod Least
+-- two flat lists of pairs compared from the front
+pub mod Pairs
