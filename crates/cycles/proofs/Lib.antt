@@ -1,0 +1,6 @@
+-- the loop that follows a cycle: where it starts, one step more, where it ends
+pub mod Follow
+-- the loop over the offsets: where it starts, an offset passed over, a pair found, where it ends
+pub mod Comparing
+-- the promise from what the parts found
+pub mod Judging

@@ -22,3 +22,5 @@ pub mod Takes
 pub mod Least
 -- two flat lists of pairs compared from the front
 pub mod Pairs
+-- the right list from one number on
+pub mod From

@@ -1,13 +1,18 @@
 -- Two flat lists of pairs compared from the front: what a loop over the pairs carries. Both are left with what follows the pairs that
 -- agreed; whether the two lists are equal, and which pair is the first that differs, is what is left says.
 use mathlib.Core.Path.{_≡_, refl, sym, ap, _∙_}
+use mathlib.Core.Bool.{Bool, true, false, _&&_}
 use mathlib.Core.List.{List, [], _∷_, _++_}
 use mathlib.Core.Logic.{⊎-elim}
 use Prim.Native.Nat.{ℕ, zero, suc, _+_, _*_, _<_, _≤_}
 use native.Mathlib.Nat.{mul-zero, mul-suc, add-zero, zero-add, add-suc, suc-add, not-suc-le-zero}
 use native.Mathlib.Numerals.{add-one}
 use native.Mathlib.Omega.{arith}
-use lib.ListN.{take, drop, take-append-drop}
+use lib.Dec.{eqb}
+use borrow.Author.Tests.{eq-eqb, ne-eqb}
+use lib.ListN.{length, getD, take, drop, take-append-drop}
+use Rattle.lists.specs.Same.{same}
+use Rattle.lists.proofs.Front.{drop-next, drop-end}
 use Rattle.lists.proofs.Decide.{lt-or-ge}
 use Rattle.orbits.specs.Cycles.{pairAt, FirstOther}
 
@@ -67,3 +72,30 @@ agreed-other {place = place} g n = let o = g .other 0 (other-here n) in rw (add-
 -- a list whose first pair is whole, by that pair and what follows it
 pub first-pair : (l : List ℕ) (a b : ℕ) → take 2 l ≡ a ∷ b ∷ [] → l ≡ a ∷ b ∷ drop 2 l
 first-pair l a b e = sym (take-append-drop 2 l) ∙ ap (λ (t : List ℕ). t ++ drop 2 l) e
+
+-- a whole pair, by its two words
+pub pair-words : (k : ℕ) (l : List ℕ) → 2 * k + 1 < length l → pairAt k l ≡ getD l (2 * k) 0 ∷ getD l (2 * k + 1) 0 ∷ []
+pair-words k l h = rw (drop-next l (2 * k) (omega arith), drop-next l (2 * k + 1) h)
+
+-- a half pair, or none, is no pair
+pub pair-short : (k a b : ℕ) (l : List ℕ) → length l ≤ 2 * k + 1 → same (pairAt k l) (a ∷ b ∷ []) ≡ false
+pair-short k a b l h = ⊎-elim half (λ none. rw (drop-end l (2 * k) none)) (lt-or-ge (2 * k) (length l))
+  where
+    neither : (t : Bool) → (t && false) ≡ false
+    neither true = refl
+    neither false = refl
+
+    half : 2 * k < length l → same (pairAt k l) (a ∷ b ∷ []) ≡ false
+    half g = rw (drop-next l (2 * k) g, drop-end l (2 * k + 1) h) (neither (eqb (getD l (2 * k) 0) a))
+
+-- a whole pair, compared word by word
+module _ (k a b : ℕ) (l : List ℕ) (h : 2 * k + 1 < length l) where
+  pub other-start : (getD l (2 * k) 0 ≡ a → ⊥) → same (pairAt k l) (a ∷ b ∷ []) ≡ false
+  other-start n = rw (pair-words k l h, ne-eqb (getD l (2 * k) 0) a n)
+
+  pub same-start : getD l (2 * k) 0 ≡ a → same (pairAt k l) (a ∷ b ∷ []) ≡ eqb (getD l (2 * k + 1) 0) b
+  same-start e = rw (pair-words k l h, eq-eqb (getD l (2 * k) 0) a e) (alone (eqb (getD l (2 * k + 1) 0) b))
+    where
+      alone : (t : Bool) → (t && true) ≡ t
+      alone true = refl
+      alone false = refl
