@@ -4,3 +4,5 @@ pub mod Follow
 pub mod Comparing
 -- the promise from what the parts found
 pub mod Judging
+-- what the answer means, and that any two outcomes coincide
+pub mod OneOutcome

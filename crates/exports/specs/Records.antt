@@ -4,11 +4,13 @@ use Rattle.axes.specs.declared.Planned.{Planned as Below-Planned}
 use Rattle.sheet.specs.declared.Sheet.{Sheet as Below-Sheet}
 use Rattle.sheet.specs.declared.Written.{Written as Below-Written}
 use Rattle.home.specs.declared.Home.{Home as Below-Home}
+use Rattle.cycles.specs.declared.Judged.{Judged as Below-Judged}
 use Rattle.exports.specs.declared.Answer.{Answer}
 use Rattle.exports.specs.declared.Planned.{Planned}
 use Rattle.exports.specs.declared.Sheet.{Sheet}
 use Rattle.exports.specs.declared.Written.{Written}
 use Rattle.exports.specs.declared.Home.{Home}
+use Rattle.exports.specs.declared.Judged.{Judged}
 
 -- what a chain or a direct request answers
 abbrev pub answered : Answer → Below-Answer
@@ -29,3 +31,7 @@ sheetWritten r = record { number = r .number; count = r .count }
 -- what the count of repeats answers
 abbrev pub homeAfter : Home → Below-Home
 homeAfter r = record { number = r .number; count = r .count }
+
+-- what the judgement of a list of cycles answers
+abbrev pub cyclesJudged : Judged → Below-Judged
+cyclesJudged r = record { number = r .number; place = r .place }

@@ -7,7 +7,8 @@ ghost use Rattle.sheet.specs.Writer.{WrittenAs};
 ghost use Rattle.job.specs.Job.{Done};
 ghost use Rattle.home.specs.Promise.{RepeatsPromise};
 ghost use Rattle.cameras.specs.Promises.{RemovePromise, AddPromise};
-ghost use Rattle.exports.specs.Records.{answered, planned, sheetRead, sheetWritten, homeAfter};
+ghost use Rattle.cycles.specs.Promise.{JudgedAs};
+ghost use Rattle.exports.specs.Records.{answered, planned, sheetRead, sheetWritten, homeAfter, cyclesJudged};
 
 // The lengths of four axes, last axis fastest.
 #[repr(C)]
@@ -55,6 +56,13 @@ pub struct Written {
 pub struct Home {
     pub number: u32,
     pub count: usize,
+}
+
+// What the judgement of a list of cycles answers.
+#[repr(C)]
+pub struct Judged {
+    pub number: u32,
+    pub place: usize,
 }
 
 // The flat turn of m by n by passes.
@@ -224,4 +232,16 @@ pub extern "C" fn zib_add_camera(
     ensures { λ r. ⌜ AddPromise frames cameras column (now (words .entry)) (now (buf .entry)) r (now (buf .exit)) ⌝ }
 {
     cameras::add(buf, frames, cameras, column, words)
+}
+
+// Judges a list of the cycles of the turn of m by n: start, length, start, length.
+#[no_mangle]
+pub extern "C" fn zib_judge_cycles(list: &[u32], m: usize, n: usize) -> Judged
+    ensures { λ r. ⌜ JudgedAs m n (now (list .entry)) (cyclesJudged r) ⌝ }
+{
+    let j = cycles::judge(list, m, n);
+    Judged {
+        number: j.number,
+        place: j.place,
+    }
 }
