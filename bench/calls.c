@@ -59,6 +59,40 @@ static void cameras(size_t frames, size_t count) {
            least[0] / all, least[1] / all, least[1] / least[0], least[2] / all, least[2] / least[0]);
 }
 
+/* The right list of the cycles of m by n, found with a table of the offsets that were seen; how many words it has. */
+static size_t right_list(size_t m, size_t n, uint32_t *list) {
+    static unsigned char seen[MOST_WORDS];
+    size_t last = m * n - 1, count = 0;
+    memset(seen, 0, sizeof seen);
+    for (size_t x = 0; x <= last; x++) {
+        size_t at = x, length = 0;
+        if (seen[x]) continue;
+        for (; !seen[at]; length++) {
+            seen[at] = 1;
+            if (at < last) at = at * m % last;
+        }
+        list[count++] = (uint32_t)x;
+        list[count++] = (uint32_t)length;
+    }
+    return count;
+}
+
+/* Judging the right list of cycles. */
+static void cycles(size_t m, size_t n) {
+    static uint32_t list[2 * MOST_WORDS];
+    size_t count = right_list(m, n, list);
+    double least = 1e18;
+    struct zib_judged judged = {0, 0};
+    for (int round = 0; round < ROUNDS; round++) {
+        double start = now();
+        judged = zib_judge_cycles(list, count, m, n);
+        double took = now() - start;
+        if (took < least) least = took;
+    }
+    printf("cycles, %4zu by %4zu: %zu pairs judged in %.2f ms, %.2f ns a word, answer %u\n", m, n, count / 2, least / 1e6,
+           least / (double)(m * n), judged.number);
+}
+
 int main(void) {
     printf("\nOther calls, least of %d rounds\n", ROUNDS);
     repeats(266, 3942); /* the longest count of any block */
@@ -66,5 +100,7 @@ int main(void) {
     cameras(1000, 16);
     cameras(1000, 1000);
     cameras(4096, 256);
+    cycles(1000, 1047);
+    cycles(1024, 1024);
     return 0;
 }

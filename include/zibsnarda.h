@@ -39,6 +39,7 @@ enum {
     ZIB_LONG_BUFFER = 13,   /* the buffer has more words than the block */
     ZIB_BAD_COLUMN = 16,    /* a column number is above the last camera (removing) or above the camera count (adding) */
     ZIB_NO_ROOM = 17,       /* the buffer lacks room for the block with one camera more */
+    ZIB_OTHER_CYCLES = 22,  /* the list of cycles is not the right one; place is that of the first pair that differs, from 0 */
     ZIB_SHORT_BYTES = 24,   /* the byte buffer is shorter than the result sheet */
     ZIB_OTHER_COLUMN = 25   /* the column's length isn't the frame count */
 };
@@ -87,6 +88,21 @@ uint32_t zib_remove_camera(uint32_t *buffer, size_t buffer_words, size_t frames,
  */
 uint32_t zib_add_camera(uint32_t *buffer, size_t buffer_words, size_t frames, size_t cameras, size_t column, const uint32_t *words,
                         size_t word_count);
+
+/* What zib_judge_cycles answers: for 22 the place of the first pair that differs, from 0, else 0. */
+struct zib_judged {
+    uint32_t number;
+    size_t place;
+};
+
+/*
+ * Judges a list of the cycles of zib_turn with these sides, bought from elsewhere; it is only read. The turn takes offset x below mn - 1 to
+ * x*m modulo mn - 1, and the last offset stays. The right list has, for every cycle once, single offsets included, its least offset and
+ * its length: start, length, start, length, starts rising. A missing, half or surplus pair differs at its place. No memory is used: each
+ * offset is followed until its cycle is home or a smaller offset shows, a multiplication and a remainder a step.
+ * Answers 0, or the first of 1, 2, 22 that holds.
+ */
+struct zib_judged zib_judge_cycles(const uint32_t *list, size_t list_words, size_t m, size_t n);
 
 /*
  * Four axes. A block has axes 0 to 3 with these lengths, the last fastest. Swap k (0, 1 or 2) exchanges the axes at

@@ -43,6 +43,7 @@ enum {
     REPEATS = 10,
     REMOVE_CAMERA = 11,
     ADD_CAMERA = 12,
+    JUDGE_CYCLES = 13,
     /* these touch what they must not, to show that the guards bite */
     WRITE_PAST_END = 100,
     READ_PAST_END = 101,
@@ -122,6 +123,11 @@ static void give_home(struct zib_home h) {
     give(h.count);
 }
 
+static void give_judged(struct zib_judged j) {
+    give(j.number);
+    give(j.place);
+}
+
 static void make_rooms(void) {
     size_t page = (size_t)sysconf(_SC_PAGESIZE);
     for (int k = 0; k < MOST_BUFFERS; k++) {
@@ -194,6 +200,9 @@ static void run(uint64_t call) {
         break;
     case ADD_CAMERA:
         give(zib_add_camera(words(0), word_count(0), numbers[0], numbers[1], numbers[2], words(1), word_count(1)));
+        break;
+    case JUDGE_CYCLES:
+        give_judged(zib_judge_cycles(words(0), word_count(0), numbers[0], numbers[1]));
         break;
     case WRITE_PAST_END:
         at[buffers[0].bytes] = 1;

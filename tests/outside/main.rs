@@ -3,6 +3,7 @@
 mod axes;
 mod bench;
 mod cameras;
+mod cycles;
 mod driver;
 mod flat;
 mod guards;
@@ -20,7 +21,7 @@ fn main() {
     if short {
         command.remove(0);
     }
-    println!("seeds {} to {}{}", SEED, SEED + 4, if short { ", short form" } else { "" });
+    println!("seeds {} to {}{}", SEED, SEED + 5, if short { ", short form" } else { "" });
     let mut t = bench::Bench::new(driver::Driver::new(&command), short);
     guards::all(&mut t);
     flat::all(&mut t, SEED);
@@ -28,6 +29,7 @@ fn main() {
     sheets::all(&mut t, SEED + 2);
     repeats::all(&mut t, SEED + 3);
     cameras::all(&mut t, SEED + 4);
+    cycles::all(&mut t, SEED + 5);
     let well = t.driver.end();
     t.verdict(well, || "the driver did not end well".to_string());
     println!("{} passed, {} failed", t.passed, t.failed);
