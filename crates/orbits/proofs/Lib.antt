@@ -24,3 +24,9 @@ pub mod Least
 pub mod Pairs
 -- the right list from one number on
 pub mod From
+-- lists in which every number stands once
+pub mod Once
+-- every number is in the cycle of one least number
+pub mod Roots
+-- the cycles of the right list visit every number once
+pub mod Visits
