@@ -30,3 +30,5 @@ pub mod Once
 pub mod Roots
 -- the cycles of the right list visit every number once
 pub mod Visits
+-- moving the words along the cycles of the right list leaves the flat turn
+pub mod Along

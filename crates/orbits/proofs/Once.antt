@@ -67,6 +67,19 @@ module _ (us vs : List ℕ) where
       (lt-or-ge j (length us)))
       (lt-or-ge i (length us))
 
+  -- and back
+  pub distinct-right : Distinct (us ++ vs) → Distinct vs
+  distinct-right d i j hi hj e =
+      let all = length-append us vs in
+      omega (arith, d (length us + i) (length us + j) (omega (arith, all)) (omega (arith, all)) (getD-append-add us vs i 0 ∙ e ∙ sym (getD-append-add us vs j 0)))
+
+  pub distinct-apart : Distinct (us ++ vs) → {y : ℕ} → In y us → In y vs → ⊥
+  unfolding in-left in-right
+  distinct-apart d i j =
+      let a = in-left i in
+      let b = in-right j in
+      omega (arith, i .low, d (i .k) (length us + j .k) (a .low) (b .low) (a .is ∙ sym (b .is)))
+
 -- each number below N once, and no other: N entries
 pub counted : (N : ℕ) (l : List ℕ) → ((k : ℕ) → k < length l → getD l k 0 < N) → Distinct l → ((y : ℕ) → y < N → In y l) → length l ≡ N
 counted N l low once every = ⊎-elim (λ h. absurd (more h)) (λ h. ⊎-elim (λ g. absurd (fewer g)) (λ g. omega arith) (lt-or-ge (length l) N)) (lt-or-ge N (length l))

@@ -29,13 +29,16 @@ visits-length f (s ∷ c ∷ l) = length-append (tab c (λ h. iter f h s)) (visi
 
 -- one cycle followed
 module _ {N : ℕ} {f : ℕ → ℕ} (p : Permutes N f) (x : ℕ) (l : x < N) where
-  abbrev ring : List ℕ
+  abbrev pub ring : List ℕ
   ring = tab (period f N x) (λ h. iter f h x)
 
-  in-ring : {y : ℕ} → In y ring → (h : ℕ) × (iter f h x ≡ y)
-  in-ring i = (i .k, sym (getD-tab (period f N x) (λ h. iter f h x) (i .k) 0 (omega (arith, i .low, length-tab (period f N x) (λ h. iter f h x)))) ∙ i .is)
+  pub in-ring : {y : ℕ} → In y ring → (h : ℕ) × (h < period f N x) × (iter f h x ≡ y)
+  in-ring i =
+      let c = period f N x in
+      let low : i .k < c = omega (arith, i .low, length-tab c (λ h. iter f h x)) in
+      (i .k, low, sym (getD-tab c (λ h. iter f h x) (i .k) 0 low) ∙ i .is)
 
-  ring-has : (h : ℕ) → In (iter f h x) ring
+  pub ring-has : (h : ℕ) → In (iter f h x) ring
   ring-has h =
       let q = period-is p x l in
       let c = period f N x in
@@ -47,7 +50,7 @@ module _ {N : ℕ} {f : ℕ → ℕ} (p : Permutes N f) (x : ℕ) (l : x < N) wh
       }
 
   -- no number twice before it is home
-  apart : (i j : ℕ) → i < j → j < period f N x → iter f i x ≡ iter f j x → ⊥
+  pub apart : (i j : ℕ) → i < j → j < i + period f N x → iter f i x ≡ iter f j x → ⊥
   apart i j b h e =
       let split : iter f j x ≡ iter f i (iter f (j - i) x) = ap (λ (z : ℕ). iter f z x) (omega arith) ∙ iter-add f i (j - i) x in
       let again : x ≡ iter f (j - i) x = iter-apart p i x (iter f (j - i) x) l (iter-within p (j - i) x l) (e ∙ split) in
@@ -61,8 +64,8 @@ module _ {N : ℕ} {f : ℕ → ℕ} (p : Permutes N f) (x : ℕ) (l : x < N) wh
       let lj : j < c = omega (arith, hj, long) in
       let q : iter f i x ≡ iter f j x = sym (getD-tab c (λ h. iter f h x) i 0 li) ∙ e ∙ getD-tab c (λ h. iter f h x) j 0 lj in
       ⊎-elim
-      (λ b. absurd (apart i j b lj q))
-      (λ b. ⊎-elim (λ g. absurd (apart j i g li (sym q))) (λ g. omega arith) (lt-or-ge j i))
+      (λ b. absurd (apart i j b (omega arith) q))
+      (λ b. ⊎-elim (λ g. absurd (apart j i g (omega arith) (sym q))) (λ g. omega arith) (lt-or-ge j i))
       (lt-or-ge i j)
 
 module _ {N : ℕ} {f : ℕ → ℕ} (p : Permutes N f) where
@@ -100,11 +103,11 @@ module _ {N : ℕ} {f : ℕ → ℕ} (p : Permutes N f) where
   }
     where
       own : {y : ℕ} → In y (ring p x low) → (r : Root f N y) × (x ≤ r .s)
-      own i = let (h, e) = in-ring p x low i in (record { s = x; h = h; low = low; least = t; reached = e }, omega arith)
+      own i = let (h, b, e) = in-ring p x low i in (record { s = x; h = h; low = low; least = t; reached = e }, omega arith)
 
       separate : (y : ℕ) → In y (ring p x low) → In y vs → ⊥
       separate y i k =
-          let (h, e) = in-ring p x low i in
+          let (h, b, e) = in-ring p x low i in
           let (r, a) = rest .roots k in
           omega (arith, a, one-root p x (r .s) h (r .h) low (r .low) t (r .least) (e ∙ sym (r .reached)))
 
