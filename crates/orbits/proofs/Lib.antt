@@ -32,3 +32,5 @@ pub mod Roots
 pub mod Visits
 -- moving the words along the cycles of the right list leaves the flat turn
 pub mod Along
+-- the right list by definition and in the words of the request
+pub mod RightList

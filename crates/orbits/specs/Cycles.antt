@@ -2,10 +2,11 @@
 use mathlib.Core.Path.{_≡_}
 use mathlib.Core.Bool.{Bool, cond}
 use mathlib.Core.List.{List, [], _∷_}
-use Prim.Native.Nat.{ℕ, zero, suc, _*_, _-_, _<_}
+use mathlib.Core.Logic.{_⊎_}
+use Prim.Native.Nat.{ℕ, zero, suc, _*_, _-_, _<_, _≤_}
 use lib.Dec.{eqb, ltb}
 use lib.ListN.{take, drop}
-use Rattle.orbits.specs.Orbit.{iter, first, period}
+use Rattle.orbits.specs.Orbit.{iter, Period, first, period}
 use Rattle.orbits.specs.Sent.{goes}
 
 -- where the turn of m by n takes the word at offset x: below mn − 1 to x·m modulo mn − 1; the last offset stays, also in a block of one word
@@ -34,3 +35,17 @@ pairAt k l = take 2 (drop (2 * k) l)
 pub record FirstOther (given right : List ℕ) (p : ℕ) : Type 0 where
   pub before : (k : ℕ) → k < p → pairAt k given ≡ pairAt k right
   pub here : pairAt p given ≡ pairAt p right → ⊥
+
+-- the pair at place k of a flat list is start and count
+abbrev pub Pair : List ℕ → ℕ → ℕ → ℕ → Type 0
+Pair list k start count = pairAt k list ≡ start ∷ count ∷ []
+
+-- a flat list of pairs in the words of the request: every cycle of the numbers below N once, each start being the cycle's least number,
+-- starts rising, lengths right, and no half pair
+pub record EveryCycleOnce (f : ℕ → ℕ) (N : ℕ) (list : List ℕ) : Type 0 where
+  pub whole : (k : ℕ) → (pairAt k list ≡ []) ⊎ ((start count : ℕ) × Pair list k start count)
+  pub within : (k start count : ℕ) → Pair list k start count → start < N
+  pub least : (k start count : ℕ) → Pair list k start count → (h : ℕ) → start ≤ iter f h start
+  pub lengths : (k start count : ℕ) → Pair list k start count → Period f start count
+  pub rising : (j k start count start′ count′ : ℕ) → j < k → Pair list j start count → Pair list k start′ count′ → start < start′
+  pub every : (x : ℕ) → x < N → (k start count h : ℕ) × Pair list k start count × (iter f h start ≡ x)
