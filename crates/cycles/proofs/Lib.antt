@@ -1,3 +1,5 @@
+-- one step of the turn's map of offsets, without a division
+pub mod Stepping
 -- the loop that follows a cycle: where it starts, one step more, where it ends
 pub mod Follow
 -- the loop over the offsets: where it starts, an offset passed over, a pair found, where it ends

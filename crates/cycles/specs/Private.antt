@@ -3,7 +3,7 @@ use mathlib.Core.Path.{_≡_}
 use mathlib.Core.Bool.{cond}
 use mathlib.Core.List.{List}
 use mathlib.Core.Logic.{_⊎_}
-use Prim.Native.Nat.{ℕ, _*_, _<_, _≤_}
+use Prim.Native.Nat.{ℕ, _+_, _*_, _/_, _<_, _≤_}
 use Rattle.orbits.specs.Orbit.{period}
 use Rattle.orbits.specs.Cycles.{isLeast, cycles, FirstOther}
 use Rattle.cycles.specs.declared.Judged.{Judged}
@@ -13,6 +13,10 @@ pub record Small (m n : ℕ) : Type 0 where
   pub some : 0 < m * n
   pub few : m * n ≤ 1048576
   pub side : m ≤ 4096
+
+-- a rounded inverse of n, in parts of 2 to the 40
+abbrev pub Inverse : ℕ → ℕ → Type 0
+Inverse n inverse = inverse ≡ 1099511627776 / n + 1
 
 -- the length of the cycle of x where x is its least number, else 0
 unfoldable pub lengthOf : (ℕ → ℕ) → ℕ → ℕ → ℕ

@@ -5,7 +5,7 @@ ghost use Prim.Native.Nat.{_*_, _<_, _≤_};
 ghost use Rattle.lists.specs.Same.{same};
 ghost use Rattle.orbits.specs.Cycles.{takes, pairAt};
 ghost use Rattle.cycles.specs.Promise.{JudgedAs};
-ghost use Rattle.cycles.specs.Private.{Small, lengthOf, Compared};
+ghost use Rattle.cycles.specs.Private.{Small, Inverse, lengthOf, Compared};
 
 // The number that the call answers, and for 22 the place of the first pair that differs.
 pub struct Judged {
@@ -13,19 +13,25 @@ pub struct Judged {
     pub place: usize,
 }
 
+// Where the turn takes offset x: its row and its column exchanged. The row is found by multiplication, so that no step divides.
+fn step(m: usize, n: usize, inverse: usize, x: usize) -> usize
+    requires { ⌜ Small m n × Inverse n inverse × (x < m * n) ⌝ }
+    ensures { λ r. ⌜ r ≡ takes m n x ⌝ }
+{
+    let row = x * inverse / 1099511627776;
+    let column = x - row * n;
+    column * m + row
+}
+
 // The length of the cycle of offset x where x is its least offset, else 0: the cycle is followed until it is home or a smaller offset shows.
-fn length_of(m: usize, n: usize, x: usize) -> usize
-    requires { ⌜ Small m n × (x < m * n) ⌝ }
+fn length_of(m: usize, n: usize, inverse: usize, x: usize) -> usize
+    requires { ⌜ Small m n × Inverse n inverse × (x < m * n) ⌝ }
     ensures { λ r. ⌜ r ≡ lengthOf (takes m n) (m * n) x ⌝ }
 {
-    let last = m * n - 1;
-    if x == last {
-        return 1;
-    }
-    let mut at = x * m % last;
+    let mut at = step(m, n, inverse, x);
     let mut count = 1;
     while x < at {
-        at = at * m % last;
+        at = step(m, n, inverse, at);
         count += 1;
     }
     if at < x {
@@ -61,9 +67,10 @@ fn compare(list: &[u32], m: usize, n: usize) -> Judged
     requires { ⌜ Small m n ⌝ }
     ensures { λ r. ⌜ Compared m n (now (list .entry)) r ⌝ }
 {
+    let inverse = 1099511627776 / n + 1;
     let mut place = 0;
     for x in 0..m * n {
-        let length = length_of(m, n, x);
+        let length = length_of(m, n, inverse, x);
         if length == 0 {
             continue;
         }

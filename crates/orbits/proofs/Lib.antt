@@ -34,3 +34,5 @@ pub mod Visits
 pub mod Along
 -- the right list by definition and in the words of the request
 pub mod RightList
+-- a quotient by multiplication with a rounded inverse
+pub mod Inverse

@@ -1,19 +1,21 @@
 -- `compare` meets its contract. The loop's invariant: the pairs so far agree, and what follows them decides; the measure is the offsets left.
 use mathlib.Core.Path.{_≡_, refl, sym, _∙_}
 use Prim.Native.Nat.{_*_, _-_, _<_, _≤_}
+use native.Mathlib.Nat.{div-le-self}
 use native.Mathlib.Omega.{arith}
 use borrow.Author.Needs.{needs}
 use borrow.Author.Tests.{not-true, not-false}
 use Rattle.lists.proofs.Via.{via}
+use Rattle.cycles.proofs.Stepping.{columns}
 use Rattle.cycles.proofs.Comparing.{Comparing, starts, passed-over, found, another, surplus, whole}
 use Rattle.cycles.proofs.compare.Statement.{statement}
 use Rattle.cycles.proofs.compare.Tie as tie
 
 abbrev Inv-loop : tie.InvT-loop
-Inv-loop list m n place₀ x₀ x-end place x = Comparing m n list place x
+Inv-loop list m n inverse place₀ x₀ x-end place x = Comparing m n list place x
 
 abbrev μ-loop : tie.MeasureT-loop
-μ-loop list m n place₀ x₀ x-end place x = x-end - x
+μ-loop list m n inverse place₀ x₀ x-end place x = x-end - x
 
 abbrev Loop : Type 0
 Loop = tie.At-loop Inv-loop μ-loop
@@ -21,11 +23,17 @@ Loop = tie.At-loop Inv-loop μ-loop
 abbrev Begin : Type 0
 Begin = tie.Start Inv-loop μ-loop
 
+div-inverse : tie.Need-div-inverse Inv-loop μ-loop
+div-inverse c = let s : Begin = search in columns (s .pre)
+
+add-inverse : tie.Need-add-inverse Inv-loop μ-loop
+add-inverse c = let s : Begin = search in omega (arith, div-le-self 1099511627776 (s .args .n))
+
 loop-holds : tie.Need-loop-holds Inv-loop μ-loop
 loop-holds c = starts _ _ _
 
 length-of-requires : tie.Need-length-of-requires Inv-loop μ-loop
-length-of-requires c κs = let s : Begin = search in (s .pre, search)
+length-of-requires c κs = let s : Begin = search in (s .pre, refl, search)
 
 loop-again : tie.Need-loop-again Inv-loop μ-loop
 loop-again c =
@@ -76,6 +84,8 @@ compare-spec =
     (tie.spec
     Inv-loop
     μ-loop
+    div-inverse
+    add-inverse
     (search needs)
     loop-holds
     length-of-requires
