@@ -8,3 +8,5 @@ pub mod Comparing
 pub mod Judging
 -- what the answer means, and that any two outcomes coincide
 pub mod OneOutcome
+-- the loops that move words along one cycle and along all
+pub mod Carrying

@@ -1,10 +1,13 @@
 // Lists of the cycles of a flat turn, bought from elsewhere, judged: start and length of every cycle, in rising order.
+mod along;
+mod steps;
+
 ghost use mathlib.Core.Path.{_≡_};
 ghost use mathlib.Core.List.{[], _∷_};
 ghost use Prim.Native.Nat.{_*_, _<_, _≤_};
 ghost use Rattle.lists.specs.Same.{same};
 ghost use Rattle.orbits.specs.Cycles.{takes, pairAt};
-ghost use Rattle.cycles.specs.Promise.{JudgedAs};
+ghost use Rattle.cycles.specs.Promise.{JudgedAs, RunAs};
 ghost use Rattle.cycles.specs.Private.{Small, Inverse, lengthOf, Compared};
 
 // The number that the call answers, and for 22 the place of the first pair that differs.
@@ -13,38 +16,21 @@ pub struct Judged {
     pub place: usize,
 }
 
-// Where the turn takes offset x: its row and its column exchanged. The row is found by multiplication, so that no step divides.
-fn step(m: usize, n: usize, inverse: usize, x: usize) -> usize
-    requires { ⌜ Small m n × Inverse n inverse × (x < m * n) ⌝ }
-    ensures { λ r. ⌜ r ≡ takes m n x ⌝ }
-{
-    let row = x * inverse / 1099511627776;
-    let column = x - row * n;
-    column * m + row
-}
-
 // The length of the cycle of offset x where x is its least offset, else 0: the cycle is followed until it is home or a smaller offset shows.
 fn length_of(m: usize, n: usize, inverse: usize, x: usize) -> usize
     requires { ⌜ Small m n × Inverse n inverse × (x < m * n) ⌝ }
     ensures { λ r. ⌜ r ≡ lengthOf (takes m n) (m * n) x ⌝ }
 {
-    let mut at = step(m, n, inverse, x);
+    let mut at = steps::step(m, n, inverse, x);
     let mut count = 1;
     while x < at {
-        at = step(m, n, inverse, at);
+        at = steps::step(m, n, inverse, at);
         count += 1;
     }
     if at < x {
         return 0;
     }
     count
-}
-
-// A word as a count.
-fn wide(word: u32) -> usize
-    ensures { λ r. ⌜ r ≡ word ⌝ }
-{
-    word as usize
 }
 
 // Whether the pair at a place is this start and this length; a half pair or none is not.
@@ -56,10 +42,10 @@ fn pair_is(list: &[u32], place: usize, start: usize, length: usize) -> bool
     if list.len() <= at + 1 {
         return false;
     }
-    if wide(list[at]) != start {
+    if steps::wide(list[at]) != start {
         return false;
     }
-    wide(list[at + 1]) == length
+    steps::wide(list[at + 1]) == length
 }
 
 // The list against the right one: offset by offset, each that is the least of its cycle must be the next pair, and no more may follow.
@@ -98,4 +84,21 @@ pub fn judge(list: &[u32], m: usize, n: usize) -> Judged
         return Judged { number, place: 0 };
     }
     compare(list, m, n)
+}
+
+// Runs a list of the cycles of a turn of m by n on the block within its buffer: the flat turn, without scratch; or 1, 2, 3, 13, 22.
+pub fn run(list: &[u32], buf: &mut [u32], m: usize, n: usize) -> Judged
+    ensures { λ r. ⌜ RunAs m n (now (list .entry)) (now (buf .entry)) r (now (buf .exit)) ⌝ }
+{
+    let sides = [m, n];
+    let number = checks::block_number(&sides, buf);
+    if number != 0 {
+        return Judged { number, place: 0 };
+    }
+    let judged = compare(list, m, n);
+    if judged.number != 0 {
+        return judged;
+    }
+    along::all(list, buf, m, n);
+    judged
 }

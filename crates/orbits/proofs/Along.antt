@@ -28,6 +28,13 @@ unfolding iter
 iter-shift f zero x = refl
 iter-shift f (suc h) x = ap f (iter-shift f h x)
 
+-- as many words as before
+pub carried-length : (f : ℕ → ℕ) (count x word : ℕ) (words : List ℕ) → length (carried f count x word words) ≡ length words
+unfolding carried
+carried-length f zero x word words = refl
+carried-length f (suc count) x word words =
+    carried-length f count (f x) (getD words (f x) 0) (set words (f x) word) ∙ length-set words (f x) word
+
 -- what is carried from x on: `source h` is the word that stood h steps on when the first was lifted
 record Carrying (f : ℕ → ℕ) (count x : ℕ) (source : ℕ → ℕ) (before after : List ℕ) : Type 0 where
   long : length after ≡ length before

@@ -1,9 +1,9 @@
--- `step` meets its contract: the product with the inverse gives the row, what is left the column.
+-- `steps::step` meets its contract: the product with the inverse gives the row, what is left the column.
 use native.Mathlib.Omega.{arith}
 use borrow.Author.Needs.{needs}
 use Rattle.cycles.proofs.Stepping.{product, rows-below, stepped, stepped-low}
-use Rattle.cycles.proofs.step.Statement.{statement}
-use Rattle.cycles.proofs.step.Tie as tie
+use Rattle.cycles.proofs.steps.step.Statement.{statement}
+use Rattle.cycles.proofs.steps.step.Tie as tie
 
 mul-row : tie.Need-mul-row
 mul-row c = let s : tie.Start = search in record { fits = omega (arith, product (s .pre .0) (s .pre .1) (s .pre .2)) }
