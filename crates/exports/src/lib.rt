@@ -7,7 +7,7 @@ ghost use Rattle.sheet.specs.Writer.{WrittenAs};
 ghost use Rattle.job.specs.Job.{Done};
 ghost use Rattle.home.specs.Promise.{RepeatsPromise};
 ghost use Rattle.cameras.specs.Promises.{RemovePromise, AddPromise};
-ghost use Rattle.cycles.specs.Promise.{JudgedAs};
+ghost use Rattle.cycles.specs.Promise.{JudgedAs, RunAs};
 ghost use Rattle.exports.specs.Records.{answered, planned, sheetRead, sheetWritten, homeAfter, cyclesJudged};
 
 // The lengths of four axes, last axis fastest.
@@ -58,7 +58,7 @@ pub struct Home {
     pub count: usize,
 }
 
-// What the judgement of a list of cycles answers.
+// What judging a list of cycles, or running it, answers.
 #[repr(C)]
 pub struct Judged {
     pub number: u32,
@@ -240,6 +240,18 @@ pub extern "C" fn zib_judge_cycles(list: &[u32], m: usize, n: usize) -> Judged
     ensures { λ r. ⌜ JudgedAs m n (now (list .entry)) (cyclesJudged r) ⌝ }
 {
     let j = cycles::judge(list, m, n);
+    Judged {
+        number: j.number,
+        place: j.place,
+    }
+}
+
+// Runs a list of the cycles of the turn of m by n on the block: the flat turn, without scratch.
+#[no_mangle]
+pub extern "C" fn zib_run_cycles(list: &[u32], buf: &mut [u32], m: usize, n: usize) -> Judged
+    ensures { λ r. ⌜ RunAs m n (now (list .entry)) (now (buf .entry)) (cyclesJudged r) (now (buf .exit)) ⌝ }
+{
+    let j = cycles::run(list, buf, m, n);
     Judged {
         number: j.number,
         place: j.place,

@@ -26,6 +26,6 @@ pub mod RefutedJob
 pub mod Repeats
 -- removing and adding a camera: one outcome, and wrong ones refuted
 pub mod Cameras
--- judging a list of cycles: one outcome; and wrong judgements refuted
+-- judging and running a list of cycles: one outcome; and wrong outcomes refuted
 pub mod Cycles
 pub mod RefutedCycles
