@@ -77,20 +77,23 @@ static size_t right_list(size_t m, size_t n, uint32_t *list) {
     return count;
 }
 
-/* Judging the right list of cycles. */
+/* Judging the right list of cycles, and running it, which judges it too. */
 static void cycles(size_t m, size_t n) {
     static uint32_t list[2 * MOST_WORDS];
     size_t count = right_list(m, n, list);
-    double least = 1e18;
-    struct zib_judged judged = {0, 0};
+    double least[2] = {1e18, 1e18};
+    uint32_t refused = 0;
     for (int round = 0; round < ROUNDS; round++) {
         double start = now();
-        judged = zib_judge_cycles(list, count, m, n);
-        double took = now() - start;
-        if (took < least) least = took;
+        refused |= zib_judge_cycles(list, count, m, n).number;
+        double judged = now();
+        refused |= zib_run_cycles(list, count, block, m * n, m, n).number;
+        double run = now();
+        if (judged - start < least[0]) least[0] = judged - start;
+        if (run - judged < least[1]) least[1] = run - judged;
     }
-    printf("cycles, %4zu by %4zu: %zu pairs judged in %.2f ms, %.2f ns a word, answer %u\n", m, n, count / 2, least / 1e6,
-           least / (double)(m * n), judged.number);
+    printf("cycles, %4zu by %4zu: %zu pairs judged in %.2f ms, %.2f ns a word; run in %.2f ms, %.2f ns a word%s\n", m, n, count / 2,
+           least[0] / 1e6, least[0] / (double)(m * n), least[1] / 1e6, least[1] / (double)(m * n), refused ? "; REFUSED" : "");
 }
 
 int main(void) {

@@ -6,11 +6,11 @@
 #include <stdio.h>
 
 static double steps_a_word(uint64_t m, uint64_t n) {
-    uint64_t last = m * n - 1, steps = 0;
-    for (uint64_t x = 0; x < last; x++) {
+    uint64_t steps = 0;
+    for (uint64_t x = 0; x < m * n; x++) {
         uint64_t at = x;
         do {
-            at = at * m % last;
+            at = at % n * m + at / n;
             steps++;
         } while (at > x);
     }

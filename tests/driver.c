@@ -44,6 +44,7 @@ enum {
     REMOVE_CAMERA = 11,
     ADD_CAMERA = 12,
     JUDGE_CYCLES = 13,
+    RUN_CYCLES = 14,
     /* these touch what they must not, to show that the guards bite */
     WRITE_PAST_END = 100,
     READ_PAST_END = 101,
@@ -203,6 +204,9 @@ static void run(uint64_t call) {
         break;
     case JUDGE_CYCLES:
         give_judged(zib_judge_cycles(words(0), word_count(0), numbers[0], numbers[1]));
+        break;
+    case RUN_CYCLES:
+        give_judged(zib_run_cycles(words(0), word_count(0), words(1), word_count(1), numbers[0], numbers[1]));
         break;
     case WRITE_PAST_END:
         at[buffers[0].bytes] = 1;

@@ -1,6 +1,6 @@
-// Document 02, item 11: lists of the cycles of a turn, right ones and damaged ones.
+// Document 02, item 11: lists of the cycles of a turn, right ones and damaged ones, judged and run.
 use crate::bench::Bench;
-use crate::driver::{words, Answer, Request, AT_END, JUDGE_CYCLES};
+use crate::driver::{words, Answer, Request, AT_END, JUDGE_CYCLES, RUN_CYCLES};
 use crate::random::Random;
 use crate::reference::{bad_length, first, turned, volume, MOST_WORDS};
 
@@ -50,7 +50,25 @@ fn judge(t: &mut Bench, m: u64, n: u64, list: &[u32], right: &[u32], both: bool,
     }
 }
 
-// The right list, and each kind of damage to it at pair k.
+// The list run on a buffer of that many words: the block that is turned by copying, or every word as it was.
+fn run(t: &mut Bench, r: &mut Random, m: u64, n: u64, list: &[u32], right: &[u32], room: usize, what: &str) {
+    let place = difference(list, right);
+    let before = r.words(room);
+    let number = first(&[
+        (1, bad_length(&[m, n])),
+        (2, volume(&[m, n]) > MOST_WORDS),
+        (3, (room as u128) < volume(&[m, n])),
+        (13, (room as u128) > volume(&[m, n])),
+        (22, place.is_some()),
+    ]);
+    let after = if number == 0 { turned(&before, m as usize, n as usize) } else { before.clone() };
+    let lent = words(list).read_only();
+    let q = Request { call: RUN_CYCLES, numbers: vec![m, n], buffers: vec![lent.clone(), words(&before)] };
+    let e = Answer { numbers: vec![number, if number == 22 { place.unwrap() } else { 0 }], buffers: vec![lent, words(&after)] };
+    t.expect_both(&q, &e, || format!("cycles of {} by {} run on {} words, {}", m, n, room, what));
+}
+
+// Each kind of damage to the right list at pair k.
 fn damaged(list: &[u32], to: &[u32], k: usize) -> Vec<(&'static str, Vec<u32>)> {
     let (start, length, pairs) = (list[2 * k], list[2 * k + 1], list.len() / 2);
     let with = |at: usize, v: u32| {
@@ -135,6 +153,21 @@ pub fn all(t: &mut Bench, seed: u64) {
     }
     t.group(&format!("cycles of flat shapes up to {} by {}, one pair and the last damaged in every way", side, side));
 
+    for m in 1..=side {
+        for n in 1..=side {
+            let list = right(&goes(m, n));
+            let room = (m * n) as usize;
+            run(t, &mut r, m, n, &list, &list, room, "the right list");
+            run(t, &mut r, m, n, &list, &list, room - 1, "a word too few");
+            run(t, &mut r, m, n, &list, &list, room + 1, "a word too many");
+            let mut other = list.clone();
+            *other.last_mut().unwrap() += 1;
+            run(t, &mut r, m, n, &other, &list, room, "the last length wrong");
+            run(t, &mut r, m, n, &list[..list.len() - 1], &list, room, "half of the last pair");
+        }
+    }
+    t.group(&format!("cycles run on flat shapes up to {} by {}", side, side));
+
     let mut large = if t.short { vec![(64, 16), (1000, 47)] } else { vec![(1000, 1047), (1024, 1024), (4096, 256), (266, 3942), (1, 4096)] };
     for _ in 0..if t.short { 2 } else { 12 } {
         let m = 1 + r.below(4096);
@@ -150,14 +183,18 @@ pub fn all(t: &mut Bench, seed: u64) {
         let mut other = list.clone();
         other[at] ^= 1 << r.below(32);
         judge(t, m, n, &other, &list, false, "one bit changed");
+        run(t, &mut r, m, n, &list, &list, (m * n) as usize, "the right list");
     }
-    t.group("cycles of large shapes");
+    t.group("cycles of large shapes, judged and run");
 
     let huge = u64::MAX;
     for &(m, n) in &[(0, 0), (0, 3), (3, 0), (4097, 1), (1, 4097), (4097, 4096), (4096, 257), (257, 4096), (huge, huge), (huge, 1), (1 << 32, 1 << 32)] {
         for list in [&[][..], &[0], &[0, 1], &[0, 1, 1, 1]] {
             judge(t, m, n, list, &[7, 7], true, "refused");
+            for room in [0, 1, 3] {
+                run(t, &mut r, m, n, list, &[7, 7], room, "refused");
+            }
         }
     }
-    t.group("cycles refused by the size of the block");
+    t.group("cycles judged and run, refused by the size of the block");
 }

@@ -15,6 +15,7 @@ pub const REPEATS: u64 = 10;
 pub const REMOVE_CAMERA: u64 = 11;
 pub const ADD_CAMERA: u64 = 12;
 pub const JUDGE_CYCLES: u64 = 13;
+pub const RUN_CYCLES: u64 = 14;
 pub const WRITE_PAST_END: u64 = 100;
 pub const READ_PAST_END: u64 = 101;
 pub const WRITE_BEFORE_START: u64 = 102;
