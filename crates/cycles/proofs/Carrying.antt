@@ -20,6 +20,11 @@ pub record Carries (m n count start : ℕ) (before words : List ℕ) (at word k 
   pub few : k ≤ count
   pub left : carried (takes m n) (count - k) at word words ≡ carried (takes m n) count start (getD before start 0) before
 
+-- where the next word goes is a place of the block
+pub next-low : {m n count start at word k next : ℕ} {before words : List ℕ} → Carries m n count start before words at word k → next ≡ takes m n at
+    → next < length words
+next-low {m} {n} {at = at} c e = omega (arith, e, takes-permutes m n .within at (c .low), c .long)
+
 module _ (m n count start : ℕ) (before : List ℕ) where
   pub carries-none : start < m * n → length before ≡ m * n → Carries m n count start before before start (getD before start 0) 0
   carries-none low long = record { low = low; long = long; few = omega arith; left = rw sub-zero refl }
@@ -35,10 +40,6 @@ module _ (m n count start : ℕ) (before : List ℕ) where
           few = omega arith;
           left = rw e (sym (ap (λ (z : ℕ). carried (takes m n) z at word words) one) ∙ c .left);
         }
-
-    -- where the next word goes is a place of the block
-    pub next-low : {next : ℕ} → next ≡ takes m n at → next < length words
-    next-low e = omega (arith, e, takes-permutes m n .within at (c .low), c .long)
 
     pub carries-all : count ≤ k → words ≡ carried (takes m n) count start (getD before start 0) before
     unfolding carried

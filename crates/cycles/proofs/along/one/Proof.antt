@@ -40,28 +40,20 @@ mul-next c =
     let t : tie.After-step Inv-loop μ-loop = search in
     let l : Loop = search in
     let s : Begin = search in
-    record { fits = omega (arith, next-low (s .args .m) (s .args .n) (s .args .count) (s .args .start) (s .args .buf .now) (l .loop .inv) (t .step .ensures), l .loop .inv .long, s .pre .0 .few) }
+    record { fits = omega (arith, next-low (l .loop .inv) (t .step .ensures), l .loop .inv .long, s .pre .0 .few) }
 
 slice-read-next : tie.Need-slice-read-next Inv-loop μ-loop
-slice-read-next c =
-    let t : tie.After-step Inv-loop μ-loop = search in
-    let l : Loop = search in
-    let s : Begin = search in
-    next-low (s .args .m) (s .args .n) (s .args .count) (s .args .start) (s .args .buf .now) (l .loop .inv) (t .step .ensures)
+slice-read-next c = search next-low
 
 mul-buf : tie.Need-mul-buf Inv-loop μ-loop
 mul-buf c =
     let t : tie.After-step Inv-loop μ-loop = search in
     let l : Loop = search in
     let s : Begin = search in
-    record { fits = omega (arith, next-low (s .args .m) (s .args .n) (s .args .count) (s .args .start) (s .args .buf .now) (l .loop .inv) (t .step .ensures), l .loop .inv .long, s .pre .0 .few) }
+    record { fits = omega (arith, next-low (l .loop .inv) (t .step .ensures), l .loop .inv .long, s .pre .0 .few) }
 
 slice-write-buf : tie.Need-slice-write-buf Inv-loop μ-loop
-slice-write-buf c =
-    let t : tie.After-step Inv-loop μ-loop = search in
-    let l : Loop = search in
-    let s : Begin = search in
-    next-low (s .args .m) (s .args .n) (s .args .count) (s .args .start) (s .args .buf .now) (l .loop .inv) (t .step .ensures)
+slice-write-buf c = search next-low
 
 loop-again : tie.Need-loop-again Inv-loop μ-loop
 loop-again c =
