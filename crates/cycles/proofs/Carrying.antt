@@ -6,8 +6,7 @@ use native.Mathlib.Nat.{sub-zero}
 use native.Mathlib.Omega.{arith}
 use lib.ListN.{length, getD, set, drop, length-set, length-drop}
 use Rattle.lists.proofs.Front.{drop-next}
-use Rattle.orbits.specs.Orbit.{Permutes}
-use Rattle.orbits.specs.Cycles.{takes, cycles, EveryCycleOnce}
+use Rattle.orbits.specs.Cycles.{takes, cycles}
 use Rattle.orbits.specs.Along.{carried, alongCycles}
 use Rattle.orbits.proofs.Pairs.{pair-words}
 use Rattle.orbits.proofs.Takes.{takes-permutes}

@@ -1,6 +1,6 @@
 -- The loop over the offsets: as many pairs as were found agree, and what is left of the list is compared with the right list from the
 -- next offset on.
-use mathlib.Core.Path.{_≡_, refl, sym, ap, ap₂, subst, _∙_}
+use mathlib.Core.Path.{_≡_, refl, sym, ap, subst, _∙_}
 use mathlib.Core.Bool.{Bool, true, false, cond}
 use mathlib.Core.List.{List, [], _∷_}
 use mathlib.Core.Logic.{inl, inr}
@@ -15,7 +15,7 @@ use Rattle.lists.proofs.Test.{same→eq, eq→same}
 use Rattle.lists.proofs.Front.{drop-end}
 use Rattle.lists.proofs.Decide.{decided}
 use Rattle.orbits.specs.Orbit.{period}
-use Rattle.orbits.specs.Cycles.{takes, isLeast, cyclesFrom, cycles, pairAt, FirstOther}
+use Rattle.orbits.specs.Cycles.{takes, isLeast, cyclesFrom, cycles, pairAt}
 use Rattle.orbits.proofs.Pairs.{Agreed, agreed-none, agreed-more, agreed-other, first-pair}
 use Rattle.orbits.proofs.From.{from-least, from-other, from-end}
 use Rattle.cycles.specs.declared.Judged.{Judged}

@@ -1,6 +1,6 @@
 -- The loop that follows a cycle from offset x: it stands at the offset of its count, every offset between was above x, and it has not
 -- passed the period; so it ends at x, or at the first offset below x.
-use mathlib.Core.Path.{_≡_, refl, sym, ap, _∙_}
+use mathlib.Core.Path.{_≡_, sym, ap, _∙_}
 use mathlib.Core.Logic.{⊎-elim}
 use Prim.Native.Nat.{ℕ, zero, suc, _+_, _*_, _<_, _≤_}
 use native.Mathlib.Numerals.{add-one}

@@ -58,7 +58,7 @@ passed-first cs ds z = ⊎-elim (λ e. e) (λ o. absurd (o (sym (refused-first c
 
 -- a block whose size is accepted
 pub small : {m n : ℕ} → firstOf (sizeChecks (sides m n)) ≡ 0 → Small m n
-small {m} {n} e = let z = sized-two m n e in record { some = z .0; few = z .1; side = z .2 }
+small {m} {n} e = let z = sized-two m n e in record { some = z .0; few = z .1 }
 
 pub block-small : (m n : ℕ) (before : List ℕ) → firstOf (blockChecks (sides m n) before) ≡ 0 → Small m n × (length before ≡ m * n)
 block-small m n before e =

@@ -1,11 +1,10 @@
 -- What the answer means: 0 exactly for the right list of a block whose size is accepted, 22 exactly for another list. Any two outcomes that
 -- the promise allows coincide, because two lists differ first at one place.
 use mathlib.Core.Path.{_≡_, refl, sym, ap, ap₂, subst, _∙_}
-use mathlib.Core.Bool.{Bool, true, false, not}
+use mathlib.Core.Bool.{false}
 use mathlib.Core.List.{List, [], _∷_, _++_}
 use mathlib.Core.Logic.{_↔_, ⊎-elim}
 use Prim.Native.Nat.{ℕ}
-use native.Mathlib.Omega.{arith}
 use lib.Dec.{T, lit<}
 use borrow.Author.Tests.{not-false}
 use Rattle.lists.specs.Same.{same}

@@ -5,7 +5,6 @@ use mathlib.Core.Logic.{⊎-elim}
 use Prim.Native.Nat.{ℕ, _+_, _*_, _-_, _/_, _%_, _<_, _≤_}
 use native.Mathlib.Nat.{eq-zero-or-pos, div-le-self, div-add-mod', mul-le-mul, mul-le-mul-right, mul-zero, zero-mul}
 use native.Mathlib.Omega.{arith}
-use Rattle.orbits.specs.Orbit.{Permutes}
 use Rattle.orbits.specs.Cycles.{takes}
 use Rattle.orbits.proofs.Inverse.{scale, by-inverse}
 use Rattle.orbits.proofs.Takes.{takes-split, takes-permutes}

@@ -12,7 +12,6 @@ use Rattle.cycles.specs.declared.Judged.{Judged}
 pub record Small (m n : ℕ) : Type 0 where
   pub some : 0 < m * n
   pub few : m * n ≤ 1048576
-  pub side : m ≤ 4096
 
 -- a rounded inverse of n, in parts of 2 to the 40
 abbrev pub Inverse : ℕ → ℕ → Type 0

@@ -3,24 +3,23 @@
 use mathlib.Core.Path.{_≡_, refl, sym, ap, _∙_}
 use mathlib.Core.Bool.{Bool, true, false, cond}
 use mathlib.Core.List.{List, [], _∷_, _++_}
-use mathlib.Core.Logic.{_⊎_, inl, inr, ⊎-elim}
+use mathlib.Core.Logic.{_⊎_, ⊎-elim}
 use Prim.Native.Nat.{ℕ, zero, suc, _+_, _*_, _-_, _<_, _≤_}
 use native.Mathlib.Nat.{not-suc-le-zero}
 use native.Mathlib.Omega.{arith}
 use lib.ListN.{length, getD, set, length-set}
 use lib.Seq.{getD-set-same, getD-set-other}
-use Rattle.lists.specs.Tab.{tab}
 use Rattle.lists.proofs.Decide.{lt-or-ge}
 use Rattle.flat.specs.Turn.{Turn}
-use Rattle.orbits.specs.Orbit.{iter, Permutes, Period, period}
-use Rattle.orbits.specs.Sent.{goes, Sent}
+use Rattle.orbits.specs.Orbit.{iter, Permutes, period}
+use Rattle.orbits.specs.Sent.{Sent}
 use Rattle.orbits.specs.Cycles.{takes, isLeast, cyclesFrom, cycles}
-use Rattle.orbits.specs.Along.{visits, lengthsOf, carried, alongCycles}
-use Rattle.orbits.proofs.Orbit.{iter-add, iter-within, period-is}
+use Rattle.orbits.specs.Along.{visits, carried, alongCycles}
+use Rattle.orbits.proofs.Orbit.{iter-within}
 use Rattle.orbits.proofs.Sent.{turn-iff}
 use Rattle.orbits.proofs.Takes.{takes-goes, takes-last, takes-permutes}
 use Rattle.orbits.proofs.Once.{In, Distinct, in-left, in-right, in-either, distinct-right, distinct-apart}
-use Rattle.orbits.proofs.Visits.{ring, in-ring, ring-has, apart, visited, visited-once, visited-low, lengths-all}
+use Rattle.orbits.proofs.Visits.{ring, in-ring, ring-has, apart, visited, visited-once, visited-low}
 
 -- from one step on
 pub iter-shift : (f : ℕ → ℕ) (h x : ℕ) → iter f h (f x) ≡ iter f (suc h) x

@@ -17,7 +17,7 @@ use Rattle.orbits.proofs.Least.{least-is, least-all}
 use Rattle.orbits.proofs.Takes.{takes-permutes}
 use Rattle.orbits.proofs.Pairs.{pair-next, first-pair}
 use Rattle.orbits.proofs.Once.{In, Distinct}
-use Rattle.orbits.proofs.Roots.{Root, root, one-root}
+use Rattle.orbits.proofs.Roots.{root, one-root}
 use Rattle.orbits.proofs.Visits.{visited, visited-once, visited-low, lengths-all}
 
 -- a list that is empty, and a pair that is not there

@@ -2,17 +2,16 @@
 -- numbers of one cycle are equal, because each is reached from the other.
 use mathlib.Core.Path.{_≡_, refl, sym, ap, _∙_}
 use mathlib.Core.Bool.{Bool, true, false}
-use mathlib.Core.Logic.{⊎-elim}
 use Prim.Native.Nat.{ℕ, zero, suc, _+_, _-_, _%_, _<_, _≤_}
 use native.Mathlib.Nat.{mod-lt, not-suc-le-zero}
 use native.Mathlib.Omega.{arith}
-use lib.Dec.{ltb, eqb}
+use lib.Dec.{ltb}
 use borrow.Author.Tests.{ltb-true, eqb-false}
 use Rattle.lists.proofs.Decide.{decided}
-use Rattle.orbits.specs.Orbit.{iter, Permutes, Period, first, period}
+use Rattle.orbits.specs.Orbit.{iter, Permutes, first, period}
 use Rattle.orbits.specs.Cycles.{isLeast}
 use Rattle.orbits.proofs.First.{first-most, first-holds}
-use Rattle.orbits.proofs.Orbit.{iter-add, iter-within, period-le, period-is}
+use Rattle.orbits.proofs.Orbit.{iter-add, period-is}
 use Rattle.orbits.proofs.Least.{iter-mod, least-all}
 
 -- y is reached from s, the least of its cycle

@@ -4,19 +4,18 @@ use mathlib.Core.Path.{_≡_, refl, sym, ap, ap₂, subst, _∙_}
 use mathlib.Core.Bool.{Bool, true, false, cond}
 use mathlib.Core.List.{List, [], _∷_, _++_}
 use mathlib.Core.Logic.{⊎-elim}
-use Prim.Native.Nat.{ℕ, zero, suc, _+_, _*_, _-_, _%_, _<_, _≤_}
+use Prim.Native.Nat.{ℕ, zero, suc, _+_, _-_, _%_, _<_, _≤_}
 use native.Mathlib.Nat.{mod-lt, not-suc-le-zero}
 use native.Mathlib.Omega.{arith}
-use lib.ListN.{length, getD, length-append}
+use lib.ListN.{length, length-append}
 use Rattle.lists.specs.Tab.{tab}
 use Rattle.lists.proofs.Tab.{length-tab, getD-tab}
-use Rattle.lists.proofs.Decide.{decided, lt-or-ge, eq-or-ne}
-use Rattle.orbits.specs.Orbit.{iter, Permutes, Period, period}
-use Rattle.orbits.specs.Cycles.{takes, isLeast, cyclesFrom, cycles}
+use Rattle.lists.proofs.Decide.{lt-or-ge, eq-or-ne}
+use Rattle.orbits.specs.Orbit.{iter, Permutes, period}
+use Rattle.orbits.specs.Cycles.{isLeast, cyclesFrom}
 use Rattle.orbits.specs.Along.{visits, lengthsOf}
 use Rattle.orbits.proofs.Orbit.{iter-add, iter-within, iter-apart, period-is}
 use Rattle.orbits.proofs.Least.{iter-mod}
-use Rattle.orbits.proofs.Takes.{takes-permutes}
 use Rattle.orbits.proofs.Once.{In, Distinct, in-left, in-right, in-either, distinct-both, counted}
 use Rattle.orbits.proofs.Roots.{Root, root, one-root}
 

@@ -11,7 +11,7 @@ use Rattle.orbits.specs.Orbit.{iter, first, period}
 use Rattle.orbits.specs.Sent.{goes}
 use Rattle.orbits.specs.Cycles.{takes, isLeast, cyclesFrom, cycles}
 use Rattle.cycles.specs.declared.Judged.{Judged}
-use Rattle.cycles.specs.Promise.{cycleChecks, runChecks, Answers, JudgedAs, RunAs}
+use Rattle.cycles.specs.Promise.{cycleChecks, runChecks, JudgedAs, RunAs}
 use Rattle.outcomes.proofs.Wrong.{other-number, other-list, misplaced}
 
 abbrev answer : ℕ → ℕ → Judged

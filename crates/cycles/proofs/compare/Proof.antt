@@ -1,6 +1,6 @@
 -- `compare` meets its contract. The loop's invariant: the pairs so far agree, and what follows them decides; the measure is the offsets left.
-use mathlib.Core.Path.{_≡_, refl, sym, _∙_}
-use Prim.Native.Nat.{_*_, _-_, _<_, _≤_}
+use mathlib.Core.Path.{refl}
+use Prim.Native.Nat.{_-_}
 use native.Mathlib.Nat.{div-le-self}
 use native.Mathlib.Omega.{arith}
 use borrow.Author.Needs.{needs}

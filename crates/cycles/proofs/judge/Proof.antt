@@ -1,5 +1,4 @@
 -- `judge` meets its contract: refused by the size of the block, or compared with the right list.
-use mathlib.Core.Path.{_≡_}
 use borrow.Author.Needs.{needs}
 use Rattle.lists.proofs.Via.{via}
 use Rattle.cycles.proofs.Judging.{small, judge-refused, judge-accepted}

@@ -1,8 +1,7 @@
 -- `length_of` meets its contract. The loop's invariant: it follows the cycle, above x so far; the measure is what is left of the period.
-use mathlib.Core.Path.{_≡_, refl}
+use mathlib.Core.Path.{refl}
 use Prim.Native.Nat.{_*_, _-_}
 use native.Mathlib.Omega.{arith}
-use borrow.Author.Needs.{needs}
 use Rattle.orbits.specs.Orbit.{period}
 use Rattle.orbits.specs.Cycles.{takes}
 use Rattle.cycles.proofs.Follow.{Followed, most, low, starts, goes-on, ends-below, ends-home}

@@ -1,14 +1,9 @@
 -- `pair_is` meets its contract: the two words of the pair are compared, where both are there.
-use mathlib.Core.Path.{_≡_, refl, sym, ap, _∙_}
-use mathlib.Core.Bool.{Bool, true, false, _&&_}
-use mathlib.Core.List.{[], _∷_}
-use Prim.Native.Nat.{ℕ, _+_, _*_}
+use mathlib.Core.Path.{sym, ap, _∙_}
+use Prim.Native.Nat.{ℕ}
 use native.Mathlib.Omega.{arith}
 use lib.Dec.{eqb}
-use lib.ListN.{getD}
 use borrow.Author.Needs.{needs}
-use borrow.Author.Tests.{ne-eqb, eq-eqb}
-use Rattle.lists.proofs.Via.{via}
 use Rattle.orbits.proofs.Pairs.{pair-short, other-start, same-start}
 use Rattle.cycles.proofs.pair_is.Statement.{statement}
 use Rattle.cycles.proofs.pair_is.Tie as tie

@@ -1,5 +1,4 @@
 -- `run` meets its contract: refused by the block, refused by the list, or moved along the cycles of the right list, which is the turn.
-use mathlib.Core.Path.{_≡_}
 use borrow.Author.Needs.{needs}
 use Rattle.lists.proofs.Via.{via}
 use Rattle.cycles.proofs.Judging.{block-small, run-refused, run-other, run-right}

@@ -1,6 +1,6 @@
 -- `along::all` meets its contract. The loop's invariant: what is left of the list leaves what the whole list leaves; the measure is how many
 -- pairs are left.
-use mathlib.Core.Path.{_≡_, refl, sym, _∙_}
+use mathlib.Core.Path.{refl, sym, _∙_}
 use Prim.Native.Nat.{_-_}
 use native.Mathlib.Nat.{div-le-self}
 use native.Mathlib.Omega.{arith}

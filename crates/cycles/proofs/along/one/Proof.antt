@@ -1,6 +1,6 @@
 -- `along::one` meets its contract. The loop's invariant: what is left to carry leaves what the whole cycle leaves; the measure is how many
 -- words are left.
-use mathlib.Core.Path.{_≡_, sym, _∙_}
+use mathlib.Core.Path.{sym, _∙_}
 use Prim.Native.Nat.{_-_}
 use native.Mathlib.Omega.{arith}
 use borrow.Author.Needs.{needs}
