@@ -9,7 +9,7 @@ pub(crate) fn step(m: usize, n: usize, inverse: usize, x: usize) -> usize
     requires { ⌜ Small m n × Inverse n inverse × (x < m * n) ⌝ }
     ensures { λ r. ⌜ r ≡ takes m n x ⌝ }
 {
-    let row = x * inverse / 1099511627776;
+    let row = (x * inverse) >> 40;
     let column = x - row * n;
     column * m + row
 }
