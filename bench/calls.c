@@ -133,6 +133,43 @@ static void results(void) {
            least[1] / (double)bytes, least[2] / (double)bytes);
 }
 
+/* The right list of the cycles of m by n, found with a table of the offsets that were seen; how many words it has. */
+static size_t right_list(size_t m, size_t n, uint32_t *list) {
+    static unsigned char seen[MOST_WORDS];
+    size_t last = m * n - 1, count = 0;
+    memset(seen, 0, sizeof seen);
+    for (size_t x = 0; x <= last; x++) {
+        size_t at = x, length = 0;
+        if (seen[x]) continue;
+        for (; !seen[at]; length++) {
+            seen[at] = 1;
+            if (at < last) at = at * m % last;
+        }
+        list[count++] = (uint32_t)x;
+        list[count++] = (uint32_t)length;
+    }
+    return count;
+}
+
+/* Judging the right list of cycles, and running it, which judges it too. */
+static void cycles(size_t m, size_t n) {
+    static uint32_t list[2 * MOST_WORDS];
+    size_t count = right_list(m, n, list);
+    double least[2] = {1e18, 1e18};
+    uint32_t refused = 0;
+    for (int round = 0; round < ROUNDS; round++) {
+        double start = now();
+        refused |= zib_judge_cycles(list, count, m, n).number;
+        double judged = now();
+        refused |= zib_run_cycles(list, count, block, m * n, m, n).number;
+        double run = now();
+        if (judged - start < least[0]) least[0] = judged - start;
+        if (run - judged < least[1]) least[1] = run - judged;
+    }
+    printf("cycles, %4zu by %4zu: %zu pairs judged in %.2f ms, %.2f ns a word; run in %.2f ms, %.2f ns a word%s\n", m, n, count / 2,
+           least[0] / 1e6, least[0] / (double)(m * n), least[1] / 1e6, least[1] / (double)(m * n), refused ? "; REFUSED" : "");
+}
+
 int main(void) {
     printf("\nOther calls, least of %d rounds\n", ROUNDS);
     repeats(266, 3942); /* the longest count of any block */
@@ -144,5 +181,7 @@ int main(void) {
     tiles(1000, 1047, 16, 16);
     tiles(64, 16, 8, 8);
     results();
+    cycles(1000, 1047);
+    cycles(1024, 1024);
     return 0;
 }

@@ -50,6 +50,7 @@ enum {
     ZIB_NOTHING_USABLE = 19, /* no usable exchange exists */
     ZIB_NONE_COMMON = 20,   /* no frame is common to all cameras */
     ZIB_BAD_TICKS = 21,     /* ticks per frame outside 1 to 1,000,000 */
+    ZIB_OTHER_CYCLES = 22,  /* the list of cycles is not the right one; place is that of the first pair that differs, from 0 */
     ZIB_SHORT_BYTES = 24,   /* the byte buffer is shorter than the result sheet */
     ZIB_OTHER_COLUMN = 25,  /* the column's length isn't the frame count */
     ZIB_BAD_RUN = 26        /* a run isn't four readings (offset and delay), or no multiple of four (choosing) */
@@ -126,6 +127,27 @@ uint32_t zib_remove_camera(uint32_t *buffer, size_t buffer_words, size_t frames,
  */
 uint32_t zib_add_camera(uint32_t *buffer, size_t buffer_words, size_t frames, size_t cameras, size_t column, const uint32_t *words,
                         size_t word_count);
+
+/* What zib_judge_cycles and zib_run_cycles answer: for 22 the place of the first pair that differs, from 0, else 0. */
+struct zib_judged {
+    uint32_t number;
+    size_t place;
+};
+
+/*
+ * Judges a list of the cycles of zib_turn with these sides, bought from elsewhere; it is only read. The turn takes offset x below mn - 1 to
+ * x*m modulo mn - 1, and the last offset stays. The right list has, for every cycle once, single offsets included, its least offset and
+ * its length: start, length, start, length, starts rising. A missing, half or surplus pair differs at its place. No memory is used: each
+ * offset is followed until its cycle is home or a smaller offset shows; a step takes no division.
+ * Answers 0, or the first of 1, 2, 22 that holds.
+ */
+struct zib_judged zib_judge_cycles(const uint32_t *list, size_t list_words, size_t m, size_t n);
+
+/*
+ * Judges such a list and moves the words of the block along its cycles: the words are then those that zib_turn leaves, and no scratch is
+ * needed. The list is only read and must not overlap the buffer. Answers 0, or the first of 1, 2, 3, 13, 22 that holds.
+ */
+struct zib_judged zib_run_cycles(const uint32_t *list, size_t list_words, uint32_t *buffer, size_t buffer_words, size_t m, size_t n);
 
 /*
  * Stores the block of m rows and n columns as tiles of r by s words (r and s 1 to 64): tiles row by row, each stored together row by

@@ -48,6 +48,8 @@ enum {
     READ_RESULT = 15,
     TICK = 16,
     LINES = 17,
+    JUDGE_CYCLES = 18,
+    RUN_CYCLES = 19,
     OFFSET_DELAY = 20,
     TO_FRAMES = 21,
     JOIN = 22,
@@ -185,6 +187,11 @@ static struct zib_part choose(void) {
     return part;
 }
 
+static void give_judged(struct zib_judged j) {
+    give(j.number);
+    give(j.place);
+}
+
 static void make_rooms(void) {
     size_t page = (size_t)sysconf(_SC_PAGESIZE);
     for (int k = 0; k < MOST_BUFFERS; k++) {
@@ -287,6 +294,12 @@ static void run(uint64_t call) {
         break;
     case CHOOSE_NUMBER:
         give(zib_choose_number(readings(0), reading_count(0), readings(1), reading_count(1)));
+        break;
+    case JUDGE_CYCLES:
+        give_judged(zib_judge_cycles(words(0), word_count(0), numbers[0], numbers[1]));
+        break;
+    case RUN_CYCLES:
+        give_judged(zib_run_cycles(words(0), word_count(0), words(1), word_count(1), numbers[0], numbers[1]));
         break;
     case WRITE_PAST_END:
         at[buffers[0].bytes] = 1;

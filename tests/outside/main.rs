@@ -3,6 +3,7 @@
 mod axes;
 mod bench;
 mod cameras;
+mod cycles;
 mod desk;
 mod driver;
 mod flat;
@@ -24,7 +25,7 @@ fn main() {
     if short {
         command.remove(0);
     }
-    println!("seeds {} to {}{}", SEED, SEED + 8, if short { ", short form" } else { "" });
+    println!("seeds {} to {}{}", SEED, SEED + 9, if short { ", short form" } else { "" });
     let mut t = bench::Bench::new(driver::Driver::new(&command), short);
     guards::all(&mut t);
     flat::all(&mut t, SEED);
@@ -36,6 +37,7 @@ fn main() {
     results::all(&mut t, SEED + 6);
     desk::all(&mut t, SEED + 7);
     ticks::all(&mut t, SEED + 8);
+    cycles::all(&mut t, SEED + 9);
     let well = t.driver.end();
     t.verdict(well, || "the driver did not end well".to_string());
     println!("{} passed, {} failed", t.passed, t.failed);

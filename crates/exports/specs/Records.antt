@@ -6,6 +6,7 @@ use Rattle.printer.specs.declared.Written.{Written as Below-Written}
 use Rattle.home.specs.declared.Home.{Home as Below-Home}
 use Rattle.sheet.specs.declared.ResultSheet.{ResultSheet as Below-ResultSheet}
 use Rattle.passes.specs.declared.LineCount.{LineCount as Below-Lines}
+use Rattle.cycles.specs.declared.Judged.{Judged as Below-Judged}
 use Rattle.exports.specs.declared.Answer.{Answer}
 use Rattle.exports.specs.declared.Planned.{Planned}
 use Rattle.exports.specs.declared.Sheet.{Sheet}
@@ -13,6 +14,7 @@ use Rattle.exports.specs.declared.Written.{Written}
 use Rattle.exports.specs.declared.Home.{Home}
 use Rattle.exports.specs.declared.ResultSheet.{ResultSheet}
 use Rattle.exports.specs.declared.Lines.{Lines}
+use Rattle.exports.specs.declared.Judged.{Judged}
 
 -- what a chain or a direct request answers
 abbrev pub answered : Answer → Below-Answer
@@ -41,3 +43,7 @@ resultRead r = record { number = r .number; place = r .place; lens = r .lens; or
 -- what the count of a turn's lines answers
 abbrev pub linesCounted : Lines → Below-Lines
 linesCounted r = record { number = r .number; count = r .count }
+
+-- what the judgement of a list of cycles answers
+abbrev pub cyclesJudged : Judged → Below-Judged
+cyclesJudged r = record { number = r .number; place = r .place }

@@ -13,7 +13,8 @@ ghost use Rattle.desk.specs.Promises.{MeasuredAs, FramesAs, JoinedAs};
 ghost use Rattle.choice.specs.Promises.{ChosenAs, NumberAs};
 ghost use Rattle.passes.specs.Ticks.{LinesPromise};
 ghost use Rattle.ticks.specs.Steps.{StepPromise};
-ghost use Rattle.exports.specs.Records.{answered, planned, sheetRead, sheetWritten, homeAfter, resultRead, linesCounted};
+ghost use Rattle.cycles.specs.Promise.{JudgedAs, RunAs};
+ghost use Rattle.exports.specs.Records.{answered, planned, sheetRead, sheetWritten, homeAfter, resultRead, linesCounted, cyclesJudged};
 
 // The lengths of four axes, last axis fastest.
 #[repr(C)]
@@ -77,6 +78,13 @@ pub struct ResultSheet {
 pub struct Lines {
     pub number: u32,
     pub count: usize,
+}
+
+// What judging a list of cycles, or running it, answers.
+#[repr(C)]
+pub struct Judged {
+    pub number: u32,
+    pub place: usize,
 }
 
 // The flat turn of m by n by passes.
@@ -359,4 +367,28 @@ pub extern "C" fn zib_tick(
     ensures { λ r. ⌜ StepPromise m n (now (lines .entry)) (now (buf .entry)) (now (scratch .entry)) r (now (lines .exit)) (now (buf .exit)) (now (scratch .exit)) ⌝ }
 {
     ticks::step(buf, scratch, lines, m, n)
+}
+
+// Judges a list of the cycles of the turn of m by n: start, length, start, length.
+#[no_mangle]
+pub extern "C" fn zib_judge_cycles(list: &[u32], m: usize, n: usize) -> Judged
+    ensures { λ r. ⌜ JudgedAs m n (now (list .entry)) (cyclesJudged r) ⌝ }
+{
+    let j = cycles::judge(list, m, n);
+    Judged {
+        number: j.number,
+        place: j.place,
+    }
+}
+
+// Runs a list of the cycles of the turn of m by n on the block: the flat turn, without scratch.
+#[no_mangle]
+pub extern "C" fn zib_run_cycles(list: &[u32], buf: &mut [u32], m: usize, n: usize) -> Judged
+    ensures { λ r. ⌜ RunAs m n (now (list .entry)) (now (buf .entry)) (cyclesJudged r) (now (buf .exit)) ⌝ }
+{
+    let j = cycles::run(list, buf, m, n);
+    Judged {
+        number: j.number,
+        place: j.place,
+    }
 }

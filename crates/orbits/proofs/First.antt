@@ -2,11 +2,21 @@
 use mathlib.Core.Path.{_≡_, refl, sym, _∙_}
 use mathlib.Core.Bool.{Bool, true, false, cond}
 use mathlib.Core.Logic.{⊎-elim}
-use Prim.Native.Nat.{ℕ, zero, suc, _<_, _≤_}
+use Prim.Native.Nat.{ℕ, zero, suc, _<_, _≤_, suc-le-suc}
 use native.Mathlib.Nat.{not-suc-le-zero, le-of-suc-le-suc}
 use native.Mathlib.Omega.{arith}
 use Rattle.lists.proofs.Decide.{lt-or-ge}
 use Rattle.orbits.specs.Orbit.{first}
+
+-- it is never past n
+pub first-most : (n : ℕ) (t : ℕ → Bool) → first n t ≤ n
+unfolding first
+first-most zero t = omega arith
+first-most (suc n) t = go (t 0) (first-most n (λ k. t (suc k)))
+  where
+    go : (b : Bool) → first n (λ k. t (suc k)) ≤ n → cond b 0 (suc (first n (λ k. t (suc k)))) ≤ suc n
+    go true ih = omega arith
+    go false ih = suc-le-suc ih
 
 -- where one below n is found, the test holds there
 pub first-holds : (n : ℕ) (t : ℕ → Bool) → first n t < n → t (first n t) ≡ true

@@ -39,3 +39,6 @@ pub mod RefutedTiles
 -- the join desk: one outcome, and wrong ones refuted
 pub mod Desk
 pub mod RefutedDesk
+-- judging and running a list of cycles: one outcome; and wrong outcomes refuted
+pub mod Cycles
+pub mod RefutedCycles

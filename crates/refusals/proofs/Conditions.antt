@@ -2,8 +2,8 @@
 use mathlib.Core.Path.{_≡_, refl}
 use mathlib.Core.Bool.{Bool, true, false, cond}
 use mathlib.Core.List.{List, [], _∷_, _++_}
-use Prim.Native.Nat.{ℕ, _<_, _≤_}
-use native.Mathlib.Nat.{pos-of-ne-zero, le-antisymm}
+use Prim.Native.Nat.{ℕ, _*_, _<_, _≤_}
+use native.Mathlib.Nat.{pos-of-ne-zero, le-antisymm, mul-pos}
 use native.Mathlib.Omega.{arith}
 use lib.Dec.{ltb, eqb, lit<}
 use lib.ListN.{length, getD}
@@ -97,3 +97,14 @@ pub enough-scratch : (needed : ℕ) (scratch : List ℕ) (rest : List Check) →
 enough-scratch needed scratch rest e =
     let p = passed (shortScratch needed scratch) 4 (firstOf rest) (lit< tt) e in
     (ltb-false (length scratch) needed (p .0), p .1)
+
+-- a flat block whose size is accepted, by its sides
+pub sized-two : (m n : ℕ) → firstOf (sizeChecks (m ∷ n ∷ [])) ≡ 0 → (0 < m * n) × (m * n ≤ 1048576) × (m ≤ 4096)
+unfolding volume
+sized-two m n e = go (s .lengths)
+  where
+    s : Sized (m ∷ n ∷ [])
+    s = size-valid (m ∷ n ∷ []) [] e .0
+
+    go : InRange (m ∷ n ∷ []) → (0 < m * n) × (m * n ≤ 1048576) × (m ≤ 4096)
+    go (more pm fm (more pn fn none)) = (mul-pos pm pn, omega (arith, s .few), fm)

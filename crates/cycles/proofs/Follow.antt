@@ -1,0 +1,71 @@
+-- The loop that follows a cycle from offset x: it stands at the offset of its count, every offset between was above x, and it has not
+-- passed the period; so it ends at x, or at the first offset below x.
+use mathlib.Core.Path.{_≡_, sym, ap, _∙_}
+use mathlib.Core.Logic.{⊎-elim}
+use Prim.Native.Nat.{ℕ, zero, suc, _+_, _*_, _<_, _≤_}
+use native.Mathlib.Numerals.{add-one}
+use native.Mathlib.Omega.{arith}
+use Rattle.lists.proofs.Decide.{eq-or-ne}
+use Rattle.orbits.specs.Orbit.{iter, period}
+use Rattle.orbits.specs.Cycles.{takes}
+use Rattle.orbits.proofs.Orbit.{iter-within, period-le, period-is, period-first}
+use Rattle.orbits.proofs.Takes.{takes-permutes}
+use Rattle.orbits.proofs.Least.{not-least, least-is}
+use Rattle.cycles.specs.Private.{lengthOf}
+
+pub record Followed (m n x at count : ℕ) : Type 0 where
+  pub some : 0 < count
+  pub before : count ≤ period (takes m n) (m * n) x
+  pub is : at ≡ iter (takes m n) count x
+  pub above : (h : ℕ) → 0 < h → h < count → x < iter (takes m n) h x
+
+module _ (m n x : ℕ) (small : x < m * n) where
+  -- the period is at most mn
+  pub most : period (takes m n) (m * n) x ≤ m * n
+  most = period-le (takes-permutes m n) x small
+
+  pub starts : {at : ℕ} → at ≡ takes m n x → Followed m n x at 1
+  unfolding iter
+  starts e = record {
+    some = omega arith;
+    before = period-is (takes-permutes m n) x small .positive;
+    is = e;
+    above = λ h a b. absurd (omega arith);
+  }
+
+  module _ {at count : ℕ} (f : Followed m n x at count) where
+    pub low : at < m * n
+    low = omega (arith, f .is, iter-within (takes-permutes m n) count x small)
+
+    -- away from x the period is not reached
+    not-home : (at ≡ x → ⊥) → count < period (takes m n) (m * n) x
+    not-home away =
+        let home = period-is (takes-permutes m n) x small .home in
+        let ends : count ≡ period (takes m n) (m * n) x → ⊥ = λ e. away (f .is ∙ ap (λ (h : ℕ). iter (takes m n) h x) e ∙ home) in
+        omega (arith, f .before, ends)
+
+    pub goes-on : {next : ℕ} → x < at → next ≡ takes m n at → Followed m n x next (count + 1)
+    unfolding iter
+    goes-on up e = record {
+      some = omega arith;
+      before = omega (arith, not-home (λ e. omega arith));
+      is = rw add-one (e ∙ ap (takes m n) (f .is));
+      above = λ h a b. ⊎-elim (λ q. omega (arith, up, f .is, ap (λ (k : ℕ). iter (takes m n) k x) q)) (λ o. f .above h a (omega (arith, o))) (eq-or-ne h count);
+    }
+
+    -- a smaller offset showed
+    pub ends-below : at < x → 0 ≡ lengthOf (takes m n) (m * n) x
+    unfolding lengthOf
+    ends-below down = rw (not-least (takes m n) (m * n) x count (omega (arith, most, not-home (λ e. omega arith))) (omega (arith, f .is)))
+
+    -- it is home
+    pub ends-home : at ≡ x → count ≡ lengthOf (takes m n) (m * n) x
+    unfolding iter lengthOf
+    ends-home e =
+        let whole : count ≡ period (takes m n) (m * n) x =
+        omega (arith, f .before, period-first (takes m n) (m * n) x count (f .some) (sym (f .is) ∙ e)) in
+        rw (least-is (takes-permutes m n) x small (λ h b. up h (omega arith))) whole
+      where
+        up : (h : ℕ) → h < count → x ≤ iter (takes m n) h x
+        up zero b = omega arith
+        up (suc h) b = omega (arith, f .above (suc h) (omega arith) b)

@@ -1,0 +1,137 @@
+-- The answer from what the parts found: refused by a check that comes before 22, or compared with the right list.
+use mathlib.Core.Path.{_≡_, refl, sym, ap, _∙_}
+use mathlib.Core.Bool.{Bool, true, false, cond, not}
+use mathlib.Core.List.{List, [], _∷_, _++_}
+use mathlib.Core.Logic.{⊎-elim}
+use Prim.Native.Nat.{ℕ, _*_}
+use native.Mathlib.Omega.{arith}
+use lib.Dec.{T, lit<}
+use lib.ListN.{length}
+use Rattle.lists.specs.Same.{same}
+use Rattle.lists.proofs.Test.{same→eq, eq→same}
+use Rattle.lists.proofs.Decide.{eq-or-ne}
+use Rattle.refusals.specs.FirstOf.{Check, check, firstOf}
+use Rattle.refusals.specs.Conditions.{badLength, tooManyWords, shortBuffer, longBuffer}
+use Rattle.refusals.specs.Calls.{sizeChecks, exactChecks, blockChecks}
+use Rattle.refusals.proofs.FirstOf.{Refusing, refused-first, through}
+use Rattle.refusals.proofs.FirstOf.Refusing.{none, more}
+use Rattle.refusals.proofs.Conditions.{sized-two, valid}
+use Rattle.flat.specs.Turn.{sides}
+use Rattle.flat.proofs.Turn.{volume-two}
+use Rattle.orbits.specs.Cycles.{takes, cycles}
+use Rattle.orbits.specs.Along.{alongCycles}
+use Rattle.orbits.proofs.Along.{along-turns}
+use Rattle.orbits.proofs.Pairs.{none-other}
+use Rattle.cycles.specs.declared.Judged.{Judged}
+use Rattle.cycles.specs.Promise.{wrongCycles, Answers, JudgedAs, RunAs}
+use Rattle.cycles.specs.Private.{Small, Compared}
+use Rattle.cycles.proofs.Comparing.{answer}
+
+-- the test of 22, either way
+pub right-list : (m n : ℕ) (list : List ℕ) → list ≡ cycles m n → wrongCycles m n list ≡ false
+right-list m n list e =
+    let t : T (same list (cycles m n)) = eq→same list (cycles m n) e in
+    go (same list (cycles m n)) t
+  where
+    go : (b : Bool) → T b → not b ≡ false
+    go true t = refl
+    go false t = absurd t
+
+wrong-list : (m n : ℕ) (list : List ℕ) → (list ≡ cycles m n → ⊥) → wrongCycles m n list ≡ true
+wrong-list m n list d = go (same list (cycles m n)) (λ t. d (same→eq list (cycles m n) t))
+  where
+    go : (b : Bool) → (T b → ⊥) → not b ≡ true
+    go true n = absurd (n tt)
+    go false n = refl
+
+-- neither the size of a block nor that of its buffer is refused with 22
+pub not-22 : (a b c d : Bool) → cond {A = ℕ} a 1 (cond b 2 (cond c 3 (cond d 13 0))) ≡ 22 → ⊥
+not-22 true b c d e = omega arith
+not-22 false true c d e = omega arith
+not-22 false false true d e = omega arith
+not-22 false false false true e = omega arith
+not-22 false false false false e = omega arith
+
+-- what is accepted by all checks is accepted by the first ones
+pub passed-first : (cs ds : List Check) → firstOf (cs ++ ds) ≡ 0 → firstOf cs ≡ 0
+passed-first cs ds z = ⊎-elim (λ e. e) (λ o. absurd (o (sym (refused-first cs ds o) ∙ z))) (eq-or-ne (firstOf cs) 0)
+
+-- a block whose size is accepted
+pub small : {m n : ℕ} → firstOf (sizeChecks (sides m n)) ≡ 0 → Small m n
+small {m} {n} e = let z = sized-two m n e in record { some = z .0; few = z .1 }
+
+pub block-small : (m n : ℕ) (before : List ℕ) → firstOf (blockChecks (sides m n) before) ≡ 0 → Small m n × (length before ≡ m * n)
+block-small m n before e =
+    (small (passed-first (sizeChecks (sides m n)) (exactChecks (sides m n) before) e), valid (sides m n) before [] e .0 .exact ∙ volume-two m n)
+
+-- checks that come before 22
+module _ (cs : List Check) (m n : ℕ) (list : List ℕ) where
+  abbrev all : List Check
+  all = cs ++ (check 22 (wrongCycles m n list) ∷ [])
+
+  -- where none of them holds, the test of 22 decides
+  pub then-22 : Refusing cs → (t : Bool) → wrongCycles m n list ≡ t → firstOf cs ≡ 0 → firstOf all ≡ cond t 22 0
+  then-22 r t w e = through {cs = cs} (check 22 (wrongCycles m n list) ∷ []) r e ∙ ap (λ (b : Bool). cond {A = ℕ} b 22 0) w
+
+  pub refused : {number : ℕ} → number ≡ firstOf cs → (number ≡ 0 → ⊥) → (firstOf cs ≡ 22 → ⊥) → Answers all m n list (answer number 0)
+  refused e z other = record {
+    number-is = e ∙ sym (refused-first cs (check 22 (wrongCycles m n list) ∷ []) (λ y. z (e ∙ y)));
+    differs = λ d. absurd (other (sym e ∙ d));
+    otherwise = λ _. refl;
+  }
+
+  pub accepted : {r : Judged} → Refusing cs → firstOf cs ≡ 0 → Compared m n list r → Answers all m n list r
+  accepted {r} q e c = record {
+    number-is =
+        ⊎-elim
+        (λ (z : r .number ≡ 0). z ∙ sym (then-22 q false (right-list m n list (c .right z .0)) e))
+        (λ (d : r .number ≡ 22). d ∙ sym (then-22 q true (wrong-list m n list (none-other (c .differs d))) e))
+        (c .either);
+    differs = c .differs;
+    otherwise = λ o. ⊎-elim (λ z. c .right z .1) (λ d. absurd (o d)) (c .either);
+  }
+
+-- the checks of the size, and those of the block
+pub size-refusing : (m n : ℕ) → Refusing (sizeChecks (sides m n))
+size-refusing m n = more (lit< tt) (more (lit< tt) none)
+
+pub block-refusing : (m n : ℕ) (buffer : List ℕ) → Refusing (blockChecks (sides m n) buffer)
+block-refusing m n buffer = more (lit< tt) (more (lit< tt) (more (lit< tt) (more (lit< tt) none)))
+
+pub size-not-22 : (m n : ℕ) → firstOf (sizeChecks (sides m n)) ≡ 22 → ⊥
+size-not-22 m n = not-22 (badLength (sides m n)) (tooManyWords (sides m n)) false false
+
+pub block-not-22 : (m n : ℕ) (buffer : List ℕ) → firstOf (blockChecks (sides m n) buffer) ≡ 22 → ⊥
+block-not-22 m n buffer =
+    not-22 (badLength (sides m n)) (tooManyWords (sides m n)) (shortBuffer (sides m n) buffer) (longBuffer (sides m n) buffer)
+
+-- what judging and running answer, either way
+module _ (m n : ℕ) (list : List ℕ) where
+  pub judge-refused : {number : ℕ} → number ≡ firstOf (sizeChecks (sides m n)) → (number ≡ 0 → ⊥) → JudgedAs m n list (answer number 0)
+  judge-refused e z = refused (sizeChecks (sides m n)) m n list e z (size-not-22 m n)
+
+  pub judge-accepted : {r : Judged} → firstOf (sizeChecks (sides m n)) ≡ 0 → Compared m n list r → JudgedAs m n list r
+  judge-accepted e c = accepted (sizeChecks (sides m n)) m n list (size-refusing m n) e c
+
+  module _ (before : List ℕ) where
+    pub run-refused : {number : ℕ} → number ≡ firstOf (blockChecks (sides m n) before) → (number ≡ 0 → ⊥) → RunAs m n list before (answer number 0) before
+    run-refused e z = record {
+      answers = refused (blockChecks (sides m n) before) m n list e z (block-not-22 m n before);
+      words = λ y. absurd (z y);
+      kept = λ _. refl;
+    }
+
+    module _ {r : Judged} (e : firstOf (blockChecks (sides m n) before) ≡ 0) (c : Compared m n list r) where
+      pub run-other : (r .number ≡ 0 → ⊥) → RunAs m n list before r before
+      run-other z = record {
+        answers = accepted (blockChecks (sides m n) before) m n list (block-refusing m n before) e c;
+        words = λ y. absurd (z y);
+        kept = λ _. refl;
+      }
+
+      pub run-right : {after : List ℕ} → r .number ≡ 0 → after ≡ alongCycles (takes m n) (cycles m n) before → RunAs m n list before r after
+      run-right z t = record {
+        answers = accepted (blockChecks (sides m n) before) m n list (block-refusing m n before) e c;
+        words = λ _. rw t (along-turns m n before (omega (arith, block-small m n before e .1)));
+        kept = λ y. absurd (y z);
+      }

@@ -1,0 +1,12 @@
+-- one step of the turn's map of offsets, without a division
+pub mod Stepping
+-- the loop that follows a cycle: where it starts, one step more, where it ends
+pub mod Follow
+-- the loop over the offsets: where it starts, an offset passed over, a pair found, where it ends
+pub mod Comparing
+-- the promise from what the parts found
+pub mod Judging
+-- what the answer means, and that any two outcomes coincide
+pub mod OneOutcome
+-- the loops that move words along one cycle and along all
+pub mod Carrying

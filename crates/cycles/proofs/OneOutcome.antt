@@ -1,0 +1,66 @@
+-- What the answer means: 0 exactly for the right list of a block whose size is accepted, 22 exactly for another list. Any two outcomes that
+-- the promise allows coincide, because two lists differ first at one place.
+use mathlib.Core.Path.{_≡_, refl, sym, ap, ap₂, subst, _∙_}
+use mathlib.Core.Bool.{false}
+use mathlib.Core.List.{List, [], _∷_, _++_}
+use mathlib.Core.Logic.{_↔_, ⊎-elim}
+use Prim.Native.Nat.{ℕ}
+use lib.Dec.{T, lit<}
+use borrow.Author.Tests.{not-false}
+use Rattle.lists.specs.Same.{same}
+use Rattle.lists.proofs.Test.{same→eq}
+use Rattle.lists.proofs.Decide.{eq-or-ne}
+use Rattle.refusals.specs.FirstOf.{Check, check, firstOf}
+use Rattle.refusals.specs.Calls.{sizeChecks}
+use Rattle.refusals.proofs.Conditions.{passed}
+use Rattle.refusals.proofs.FirstOf.{Refusing}
+use Rattle.flat.specs.Turn.{sides}
+use Rattle.flat.proofs.Turn.{one-turn}
+use Rattle.orbits.specs.Cycles.{cycles}
+use Rattle.orbits.proofs.Pairs.{one-other, none-other}
+use Rattle.cycles.specs.declared.Judged.{Judged}
+use Rattle.cycles.specs.Promise.{wrongCycles, Answers, JudgedAs, RunAs}
+use Rattle.cycles.proofs.Judging.{right-list, passed-first, then-22, size-refusing}
+use Rattle.cycles.proofs.Comparing.{answer}
+
+-- accepted exactly when no check before 22 holds and the list is the right list
+pub accepted-exactly : (cs : List Check) → Refusing cs → {m n : ℕ} {list : List ℕ} {a : Judged}
+    → Answers (cs ++ (check 22 (wrongCycles m n list) ∷ [])) m n list a → (a .number ≡ 0) ↔ ((firstOf cs ≡ 0) × (list ≡ cycles m n))
+accepted-exactly cs refusing {m} {n} {list} {a} p = (there, λ q. p .number-is ∙ then-22 cs m n list refusing false (right-list m n list (q .1)) (q .0))
+  where
+    there : a .number ≡ 0 → (firstOf cs ≡ 0) × (list ≡ cycles m n)
+    there z =
+        let e = passed-first cs (check 22 (wrongCycles m n list) ∷ []) (sym (p .number-is) ∙ z) in
+        let w = then-22 cs m n list refusing (wrongCycles m n list) refl e in
+        let quiet = passed (wrongCycles m n list) 22 0 (lit< tt) (sym w ∙ sym (p .number-is) ∙ z) .0 in
+        (e, same→eq list (cycles m n) (subst T (sym (not-false (same list (cycles m n)) quiet)) tt))
+
+-- a list is judged 0 exactly when the size is accepted and it is the right list
+pub judged-exactly : {m n : ℕ} {list : List ℕ} {a : Judged} → JudgedAs m n list a
+    → (a .number ≡ 0) ↔ ((firstOf (sizeChecks (sides m n)) ≡ 0) × (list ≡ cycles m n))
+judged-exactly {m} {n} p = accepted-exactly (sizeChecks (sides m n)) (size-refusing m n) p
+
+-- refused with 22, the list is another
+pub refused-other : {checks : List Check} {m n : ℕ} {list : List ℕ} {a : Judged} → Answers checks m n list a → a .number ≡ 22 → list ≡ cycles m n → ⊥
+refused-other p d = none-other (p .differs d)
+
+pub judge-once : {checks : List Check} {m n : ℕ} {list : List ℕ} {a b : Judged} → Answers checks m n list a → Answers checks m n list b → a ≡ b
+judge-once {a = a} {b} p q =
+    let one : a .number ≡ b .number = p .number-is ∙ sym (q .number-is) in
+    let place : a .place ≡ b .place =
+    ⊎-elim
+    (λ (d : a .number ≡ 22). one-other (p .differs d) (q .differs (sym one ∙ d)))
+    (λ (o : a .number ≡ 22 → ⊥). p .otherwise o ∙ sym (q .otherwise (λ d. o (one ∙ d))))
+    (eq-or-ne (a .number) 22) in
+    ap₂ answer one place
+
+pub run-once : {m n : ℕ} {list before after after′ : List ℕ} {a b : Judged} → RunAs m n list before a after → RunAs m n list before b after′
+    → (a ≡ b) × (after ≡ after′)
+run-once {a = a} {b} p q =
+    let one : a ≡ b = judge-once (p .answers) (q .answers) in
+    let number : b .number ≡ a .number = ap (λ (r : Judged). r .number) (sym one) in
+    let words = ⊎-elim
+    (λ (z : a .number ≡ 0). one-turn (p .words z) (q .words (number ∙ z)))
+    (λ (z : a .number ≡ 0 → ⊥). p .kept z ∙ sym (q .kept (λ y. z (sym number ∙ y))))
+    (eq-or-ne (a .number) 0) in
+    (one, words)

@@ -1,0 +1,78 @@
+-- `length_of` meets its contract. The loop's invariant: it follows the cycle, above x so far; the measure is what is left of the period.
+use mathlib.Core.Path.{refl}
+use Prim.Native.Nat.{_*_, _-_}
+use native.Mathlib.Omega.{arith}
+use Rattle.orbits.specs.Orbit.{period}
+use Rattle.orbits.specs.Cycles.{takes}
+use Rattle.cycles.proofs.Follow.{Followed, most, low, starts, goes-on, ends-below, ends-home}
+use Rattle.cycles.proofs.length_of.Statement.{statement}
+use Rattle.cycles.proofs.length_of.Tie as tie
+
+abbrev Inv-loop : tie.InvT-loop
+Inv-loop m n inverse x at₀ count₀ at count = Followed m n x at count
+
+abbrev μ-loop : tie.MeasureT-loop
+μ-loop m n inverse x at₀ count₀ at count = period (takes m n) (m * n) x - count
+
+abbrev Loop : Type 0
+Loop = tie.At-loop Inv-loop μ-loop
+
+abbrev Begin : Type 0
+Begin = tie.Start Inv-loop μ-loop
+
+step-requires : tie.Need-step-requires Inv-loop μ-loop
+step-requires c κs = c .pre
+
+loop-holds : tie.Need-loop-holds Inv-loop μ-loop
+loop-holds c = let s : Begin = search in starts (s .args .m) (s .args .n) (s .args .x) (s .pre .2) (c .step .ensures)
+
+step-requires-2 : tie.Need-step-requires-2 Inv-loop μ-loop
+step-requires-2 c κs =
+    let l : Loop = search in
+    let s : Begin = search in
+    (s .pre .0, s .pre .1, low (s .args .m) (s .args .n) (s .args .x) (s .pre .2) (l .loop .inv))
+
+add-count : tie.Need-add-count Inv-loop μ-loop
+add-count c =
+    let l : Loop = search in
+    let s : Begin = search in
+    omega (arith, l .loop .inv .before, most (s .args .m) (s .args .n) (s .args .x) (s .pre .2))
+
+loop-less : tie.Need-loop-less Inv-loop μ-loop
+loop-less c =
+    let l : Loop = search in
+    let s : Begin = search in
+    omega (arith, goes-on (s .args .m) (s .args .n) (s .args .x) (s .pre .2) (l .loop .inv) (search) refl .before)
+
+loop-again : tie.Need-loop-again Inv-loop μ-loop
+loop-again c =
+    let l : Loop = search in
+    let s : Begin = search in
+    goes-on (s .args .m) (s .args .n) (s .args .x) (s .pre .2) (l .loop .inv) (search) (c .step2 .ensures)
+
+returns : tie.Need-returns Inv-loop μ-loop
+returns c =
+    let l : Loop = search in
+    let s : Begin = search in
+    ends-below (s .args .m) (s .args .n) (s .args .x) (s .pre .2) (l .loop .inv) (search)
+
+returns-2 : tie.Need-returns-2 Inv-loop μ-loop
+returns-2 c =
+    let l : Loop = search in
+    let s : Begin = search in
+    ends-home (s .args .m) (s .args .n) (s .args .x) (s .pre .2) (l .loop .inv) (omega arith)
+
+pub length-of-spec : {M : Type 1} → statement M
+length-of-spec =
+    tie.close
+    (tie.spec
+    Inv-loop
+    μ-loop
+    step-requires
+    loop-holds
+    step-requires-2
+    add-count
+    loop-less
+    loop-again
+    returns
+    returns-2)

@@ -1,0 +1,42 @@
+-- `pair_is` meets its contract: the two words of the pair are compared, where both are there.
+use mathlib.Core.Path.{sym, ap, _∙_}
+use Prim.Native.Nat.{ℕ}
+use native.Mathlib.Omega.{arith}
+use lib.Dec.{eqb}
+use borrow.Author.Needs.{needs}
+use Rattle.orbits.proofs.Pairs.{pair-short, other-start, same-start}
+use Rattle.cycles.proofs.pair_is.Statement.{statement}
+use Rattle.cycles.proofs.pair_is.Tie as tie
+
+returns : tie.Need-returns
+returns c = let s : tie.Start = search in sym (pair-short (s .args .place) (s .args .start) (s .args .length) (s .args .list .now) (omega arith))
+
+returns-2 : tie.Need-returns-2
+returns-2 c =
+    let w : tie.After-wide = search in
+    let s : tie.Start = search in
+    sym (other-start (s .args .place) (s .args .start) (s .args .length) (s .args .list .now) (omega arith) (λ e. omega (arith, w .wide .ensures)))
+
+returns-3 : tie.Need-returns-3
+returns-3 c =
+    let w : tie.After-wide = search in
+    let s : tie.Start = search in
+    ap (λ (z : ℕ). eqb z (s .args .length)) (c .wide2 .ensures)
+    ∙ sym (same-start (s .args .place) (s .args .start) (s .args .length) (s .args .list .now) (omega arith) (omega (arith, w .wide .ensures)))
+
+pub pair-is-spec : {M : Type 1} → statement M
+pair-is-spec =
+    tie.close
+    (tie.spec
+    (search needs)
+    (search needs)
+    returns
+    (search needs)
+    (search needs)
+    (λ c κs. search needs)
+    returns-2
+    (search needs)
+    (search needs)
+    (search needs)
+    (λ c κs. search needs)
+    returns-3)

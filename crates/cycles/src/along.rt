@@ -1,0 +1,37 @@
+// The words of a block moved along the cycles of a list.
+use crate::steps;
+ghost use mathlib.Core.Path.{_≡_};
+ghost use Prim.Native.Nat.{_*_, _<_};
+ghost use lib.ListN.{length, getD};
+ghost use Rattle.orbits.specs.Cycles.{takes, cycles};
+ghost use Rattle.orbits.specs.Along.{carried, alongCycles};
+ghost use Rattle.cycles.specs.Private.{Small, Inverse};
+
+// Along one cycle: a word is put where the turn takes its offset, and the word that stood there goes on.
+fn one(buf: &mut [u32], m: usize, n: usize, inverse: usize, start: usize, count: usize)
+    requires { ⌜ Small m n × Inverse n inverse × (start < m * n) × (length (now buf) ≡ m * n) ⌝ }
+    ensures { λ _. ⌜ now (buf .exit) ≡ carried (takes m n) count start (getD (now (buf .entry)) start 0) (now (buf .entry)) ⌝ }
+{
+    let mut at = start;
+    let mut word = buf[start];
+    for k in 0..count {
+        at = steps::step(m, n, inverse, at);
+        let next = buf[at];
+        buf[at] = word;
+        word = next;
+    }
+}
+
+// Along every cycle of the right list, one after the other.
+pub(crate) fn all(list: &[u32], buf: &mut [u32], m: usize, n: usize)
+    requires { ⌜ Small m n × (now list ≡ cycles m n) × (length (now buf) ≡ m * n) ⌝ }
+    ensures { λ _. ⌜ now (buf .exit) ≡ alongCycles (takes m n) (cycles m n) (now (buf .entry)) ⌝ }
+{
+    let inverse = 1099511627776 / n + 1;
+    let pairs = list.len() / 2;
+    for k in 0..pairs {
+        let start = steps::wide(list[2 * k]);
+        let count = steps::wide(list[2 * k + 1]);
+        one(buf, m, n, inverse, start, count);
+    }
+}
