@@ -116,18 +116,19 @@ pub extern "C" fn zib_chain(
     }
 }
 
-// The direct request for an order of four axes, by its number.
+// The direct request for the order of four axes that a number names by its release.
 #[no_mangle]
 pub extern "C" fn zib_request(
     buf: &mut [u32],
     scratch: &mut [u32],
     shape: Shape,
+    release: usize,
     order: usize,
 ) -> Answer
-    ensures { λ r. ⌜ RequestPromise 4 (shape .lens) order (now (buf .entry)) (now (scratch .entry)) (answered r) (now (buf .exit)) (now (scratch .exit)) ⌝ }
+    ensures { λ r. ⌜ RequestPromise 4 (shape .lens) release order (now (buf .entry)) (now (scratch .entry)) (answered r) (now (buf .exit)) (now (scratch .exit)) ⌝ }
 {
     let entry = shape.lens;
-    let a = axes::request(buf, scratch, axes::Shape { lens: entry }, order);
+    let a = axes::request(buf, scratch, axes::Shape { lens: entry }, release, order);
     let lens = a.lens;
     Answer {
         number: a.number,

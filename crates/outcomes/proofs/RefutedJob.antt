@@ -67,11 +67,11 @@ written-with-the-old-lengths p = other-list (p .text-is) tt
 
 -- the whole buffer passed on to the chain, which refuses it with 13: a sheet of two words in a buffer of four; a word past the block changed
 pub whole-buffer-passed-on : {count : ℕ} {words scratch : List ℕ} → Done flat lent lent out count words scratch (refusalText 13 0 ++ replicate 27 1) → ⊥
-unfolding sheetText resultText refusalText rowsText rowCount rowWidth volume line fields field decimal digits readMore readNumber readField readFields closed readLine tabs shapeLine chainLine rowLines ended meaning firstPlace at pick coords placeOf places laid exchange follow named arrangements orders rank numberOf
+unfolding sheetText resultText refusalText rowsText rowCount rowWidth volume line fields field decimal digits readMore readNumber readField readFields closed readLine tabs shapeLine chainLine rowLines ended meaningBy firstPlace at pick coords placeOf places laid exchange follow named arrangements orders rank numberOf
 whole-buffer-passed-on p = other-list (p .text-is) tt
 
 pub tail-word-changed : {count : ℕ} {scratch out′ : List ℕ} → Done flat lent lent out count (1 ∷ 2 ∷ 0 ∷ 9 ∷ []) scratch out′ → ⊥
-unfolding sheetText resultText refusalText rowsText rowCount rowWidth volume line fields field decimal digits readMore readNumber readField readFields closed readLine tabs shapeLine chainLine rowLines ended meaning firstPlace at pick coords placeOf places laid exchange follow named arrangements orders rank numberOf
+unfolding sheetText resultText refusalText rowsText rowCount rowWidth volume line fields field decimal digits readMore readNumber readField readFields closed readLine tabs shapeLine chainLine rowLines ended meaningBy firstPlace at pick coords placeOf places laid exchange follow named arrangements orders rank numberOf
 tail-word-changed p = other-list (p .words-are) tt
 
 -- the whole buffer counted; a byte behind the text changed
