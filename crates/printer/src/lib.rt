@@ -31,7 +31,8 @@ fn result_len(lens: [usize; 4], release: usize, order: usize, words: &[u32]) -> 
 {
     let size = checks::words_of(&lens);
     let rows = checks::words_of(&lens[..3]);
-    let head = page::head_len(page::shape_line(lens)) + page::head_len(page::order_line(release, order));
+    let head = page::head_len(page::shape_line(lens))
+        + page::head_len(page::order_line(release, order));
     head + 4 * rows + page::words_len(&words[..size])
 }
 

@@ -4,7 +4,7 @@ use mathlib.Core.Path.{_≡_}
 use mathlib.Core.Bool.{Bool, true, false, cond}
 use mathlib.Core.List.{List, []}
 use Prim.Native.Nat.{ℕ, _≤_}
-use lib.Dec.{eqb}
+use lib.Dec.{ltb}
 use lib.ListN.{length, getD, drop, replicate}
 use lib.Seq.{sets}
 use Rattle.refusals.specs.FirstOf.{firstOf}
@@ -82,7 +82,7 @@ pub record SecondAt (bytes : List ℕ) (what : Verdict) (number place : ℕ) (nu
 -- what refuses the numbers of line 2 of a result sheet: 14, 7; one number is judged as if it named release 1
 abbrev pub lineNumber : ℕ → List ℕ → ℕ
 lineNumber count numbers =
-    cond (eqb count 2) (firstOf (namedChecks 4 (getD numbers 0 0) (getD numbers 1 0))) (firstOf (namedChecks 4 1 (getD numbers 0 0)))
+    cond (ltb 1 count) (firstOf (namedChecks 4 (getD numbers 0 0) (getD numbers 1 0))) (firstOf (namedChecks 4 1 (getD numbers 0 0)))
 
 -- line 2 of a result sheet, or of a sheet
 abbrev pub secondLine : Bool → List ℕ → Verdict

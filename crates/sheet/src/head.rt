@@ -115,7 +115,7 @@ fn order_fields(bytes: &[u8], at: usize) -> usize
 fn order_number(numbers: [usize; 32], count: usize) -> u32
     ensures { λ r. ⌜ r ≡ lineNumber count numbers ⌝ }
 {
-    if count == 2 {
+    if 1 < count {
         return checks::named_number(numbers[0], numbers[1]);
     }
     checks::named_number(1, numbers[0])

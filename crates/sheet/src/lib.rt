@@ -49,7 +49,7 @@ pub fn read_result(bytes: &[u8], words: &mut [u32]) -> ResultSheet
     let page = whole::read_page(bytes, words, true);
     let lens = page.lens;
     let numbers = page.numbers;
-    if page.count == 2 {
+    if 1 < page.count {
         return ResultSheet {
             number: page.number,
             place: page.place,
