@@ -46,6 +46,7 @@ enum {
     TO_TILES = 13,
     FROM_TILES = 14,
     READ_RESULT = 15,
+    WRITE_RELEASE = 16,
     OFFSET_DELAY = 20,
     TO_FRAMES = 21,
     JOIN = 22,
@@ -136,6 +137,7 @@ static void give_result(struct zib_result s) {
     give(s.number);
     give(s.place);
     give_all(s.lengths, 4);
+    give(s.release);
     give(s.order);
 }
 
@@ -223,7 +225,7 @@ static void run(uint64_t call) {
         give_answer(zib_chain(words(0), word_count(0), words(1), word_count(1), shape, (size_t *)buffers[2].at, buffers[2].bytes / sizeof(size_t)));
         break;
     case REQUEST:
-        give_answer(zib_request(words(0), word_count(0), words(1), word_count(1), shape, numbers[4]));
+        give_answer(zib_request(words(0), word_count(0), words(1), word_count(1), shape, numbers[4], numbers[5]));
         break;
     case PLAN:
         give_plan(zib_plan(numbers[0]));
@@ -254,6 +256,9 @@ static void run(uint64_t call) {
         break;
     case READ_RESULT:
         give_result(zib_read_result(buffers[0].at, buffers[0].bytes, words(1), word_count(1)));
+        break;
+    case WRITE_RELEASE:
+        give_written(zib_write_release(shape, numbers[4], numbers[5], words(0), word_count(0), buffers[1].at, buffers[1].bytes));
         break;
     case OFFSET_DELAY:
         give_measured(zib_offset_delay(readings(0), reading_count(0)));

@@ -17,6 +17,7 @@ pub const ADD_CAMERA: u64 = 12;
 pub const TO_TILES: u64 = 13;
 pub const FROM_TILES: u64 = 14;
 pub const READ_RESULT: u64 = 15;
+pub const WRITE_RELEASE: u64 = 16;
 pub const OFFSET_DELAY: u64 = 20;
 pub const TO_FRAMES: u64 = 21;
 pub const JOIN: u64 = 22;

@@ -74,7 +74,7 @@ abbrev as-home : Below-Home → Home
 as-home r = record { number = r .number; count = r .count }
 
 abbrev as-result : Below-ResultSheet → ResultSheet
-as-result r = record { number = r .number; place = r .place; lens = r .lens; order = r .order }
+as-result r = record { number = r .number; place = r .place; lens = r .lens; release = r .release; order = r .order }
 
 abbrev as-wrote : Below-Written → Written
 as-wrote r = record { number = r .number; count = r .count }

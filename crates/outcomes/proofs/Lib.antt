@@ -25,6 +25,8 @@ pub mod RefutedRead
 pub mod RefutedResult
 pub mod RefutedWrite
 pub mod RefutedJob
+-- the release of an order number: wrong outcomes of the direct request and of the writer
+pub mod RefutedRelease
 -- the count of repeats: one outcome, and wrong ones refuted
 pub mod Repeats
 -- removing and adding a camera: one outcome, and wrong ones refuted
