@@ -58,7 +58,8 @@ fn try_write_by(t: &mut Bench, lengths: Lengths, release: Option<u64>, order: u6
 
 // By the writer that names none, and by the other with 1, 2 and a release that there is not.
 fn try_write(t: &mut Bench, lengths: Lengths, order: u64, block: &[u32], out: &[u8]) {
-    for release in [None, Some(1), Some(2), Some(order % 5 * 3)] {
+    let no_release = [0, 3, 256, 1 << 32, u64::MAX][(order % 5) as usize];
+    for release in [None, Some(1), Some(2), Some(no_release)] {
         try_write_by(t, lengths, release, order, block, out);
     }
 }
