@@ -9,6 +9,8 @@ pub mod Checks
 pub mod Methods
 -- demand 3 about the contract of the chain as the checker reads it
 pub mod Demand3
+-- both releases about the contract of the direct request as the checker reads it
+pub mod Releases
 -- result sheets come back: what is written reads back the same, and what is read is what would be written
 pub mod ResultSheets
 -- what a wrong outcome runs into
