@@ -46,7 +46,7 @@ enum {
     TO_TILES = 13,
     FROM_TILES = 14,
     READ_RESULT = 15,
-    WRITE_RELEASE = 16,
+    WRITE_RELEASE = 18,
     OFFSET_DELAY = 20,
     TO_FRAMES = 21,
     JOIN = 22,

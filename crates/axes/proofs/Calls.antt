@@ -177,6 +177,10 @@ module _ (r release order : ℕ) (known : noRelease release ≡ false) (low : or
             (ne-eqb (a .number) 0 n);
       }
 
+-- one of the orders has a plan
+pub plan-given : {r n : ℕ} {q : Planned} → n < orderCount r → PlanPromise r n q → q .number ≡ 0
+plan-given {r} {n} low p = p .number-is ∙ silent-zero (Silent.more (no-order-false r n low) Silent.none)
+
 -- a number and its release that are not refused
 module _ (r release order : ℕ) (e : firstOf (namedChecks r release order) ≡ 0) where
   pub named-known : (noRelease release ≡ false) × (order < orderCount r)
@@ -185,17 +189,11 @@ module _ (r release order : ℕ) (e : firstOf (namedChecks r release order) ≡ 
       go : Silent (namedChecks r release order) → (noRelease release ≡ false) × (order < orderCount r)
       go (Silent.more h (Silent.more k s)) = (h, is-order r order k)
 
-  -- the order that they name has a plan
-  pub plan-given : {n : ℕ} {q : Planned} → n ≡ numberBy r release order → PlanPromise r n q → q .number ≡ 0
-  plan-given {n} own p =
-      let low : n < orderCount r = rw own (by-below r order (named-known .1) release) in
-      p .number-is ∙ silent-zero (Silent.more (no-order-false r n low) Silent.none)
-
-  -- and the chain of that plan answers as the request does, but for the number
-  pub request-named : {n : ℕ} {q : Planned} → planPlaces r ≤ 32 → n ≡ numberBy r release order → PlanPromise r n q → {ds xs ss ys ts : List ℕ} {a b : Answer}
-      → ChainPromise r ds (take (q .len) (q .swaps)) xs ss a ys ts → b ≡ askedFor order a → RequestPromise r ds release order xs ss b ys ts
-  request-named {n} few own p {ds} {xs} {ss} {ys} {ts} {a} c asked =
+  -- the chain of the plan of the order that they name answers as the request does, but for the number
+  pub request-named : {n : ℕ} {q : Planned} → planPlaces r ≤ 32 → n ≡ numberBy r release order → PlanPromise r n q → q .number ≡ 0
+      → {ds xs ss ys ts : List ℕ} {a b : Answer} → ChainPromise r ds (take (q .len) (q .swaps)) xs ss a ys ts → b ≡ askedFor order a → RequestPromise r ds release order xs ss b ys ts
+  request-named {n} few own p z {ds} {xs} {ss} {ys} {ts} {a} c asked =
       let done : RequestPromise r ds 1 (numberBy r release order) xs ss a ys ts =
-      subst (λ (k : ℕ). RequestPromise r ds 1 k xs ss a ys ts) own (request-of-chain few p (plan-given own p) c) in
+      subst (λ (k : ℕ). RequestPromise r ds 1 k xs ss a ys ts) own (request-of-chain few p z c) in
       subst (λ (t : Answer). RequestPromise r ds release order xs ss t ys ts) (sym asked)
       (request-by r release order (named-known .0) (named-known .1) done)

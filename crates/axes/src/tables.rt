@@ -110,7 +110,7 @@ pub(crate) fn next_order(order: usize, k: usize) -> usize
 // The release 1 number of the order that a number names by its release.
 pub(crate) fn number_by(release: usize, order: usize) -> usize
     requires { ⌜ order < 24 ⌝ }
-    ensures { λ r. ⌜ r ≡ numberBy 4 release order ⌝ }
+    ensures { λ r. ⌜ (r ≡ numberBy 4 release order) × (r < 24) ⌝ }
 {
     if release == 2 {
         return INVERSE[order];

@@ -2,11 +2,10 @@
 -- the request does, but for the number.
 use mathlib.Core.Path.{_≡_, refl, sym, _∙_}
 use mathlib.Core.List.{List, [], _∷_, _++_}
-use Prim.Native.Nat.{ℕ, _≤_}
+use Prim.Native.Nat.{_≤_}
 use native.Mathlib.Omega.{arith}
 use lib.ListN.{length}
 use borrow.Author.Needs.{needs}
-use Rattle.orders.specs.Releases.{numberBy}
 use Rattle.orders.specs.Plans.{planPlaces}
 use Rattle.orders.specs.Needs.{planNeed}
 use Rattle.refusals.specs.FirstOf.{Check, check, firstOf}
@@ -14,7 +13,6 @@ use Rattle.refusals.specs.Conditions.{shortScratch}
 use Rattle.refusals.specs.Calls.{namedChecks}
 use Rattle.refusals.proofs.FirstOf.{refused-first}
 use Rattle.lists.proofs.Via.{via}
-use Rattle.axes.specs.Promises.{PlanPromise}
 use Rattle.axes.proofs.Accepted.{by-block, by-last}
 use Rattle.axes.proofs.Calls.{request-refused, plan-holds, plan-count, named-known, plan-given, request-named}
 use Rattle.axes.proofs.request.Statement.{statement}
@@ -59,35 +57,33 @@ returns-2 c =
 number-by-requires : tie.Need-number-by-requires
 number-by-requires c = let x : tie.Start = search in λ _. named-known 4 (x .args .release) (x .args .order) (search via) .1
 
+-- the plan that is run was given
+given : (p : tie.After-plan) → p .plan .result .number ≡ 0
+given p = let n : tie.After-number-by = search in plan-given (n .number-by .ensures .1) (p .plan .ensures)
+
+array-share-prefix-swaps : tie.Need-array-share-prefix-swaps
+array-share-prefix-swaps c = let p : tie.After-plan = search in plan-holds four-few (p .plan .ensures) (given p)
+
+slice-aggregate-chain : tie.Need-slice-aggregate-chain
+slice-aggregate-chain c = let p : tie.After-plan = search in plan-count four-few (p .plan .ensures) (given p)
+
 -- the start, where the plan is known: the end of the call lies too far from it to be searched
 entry : tie.After-plan → tie.Start
 entry p = search
 
--- the number and its release were not refused, and the plan is that of the order that they name
+-- the number and its release were not refused
 named : (p : tie.After-plan) → firstOf (namedChecks 4 (entry p .args .release) (entry p .args .order)) ≡ 0
 unfolding entry
 named p = search via
-
-own : (p : tie.After-plan) → (n : ℕ) × (n ≡ numberBy 4 (entry p .args .release) (entry p .args .order)) × PlanPromise 4 n (p .plan .result)
-unfolding entry
-own p = let n : tie.After-number-by = search in (n .number-by .result, n .number-by .ensures, p .plan .ensures)
-
-given : (p : tie.After-plan) → p .plan .result .number ≡ 0
-given p = let (n, e, q) = own p in plan-given 4 (entry p .args .release) (entry p .args .order) (named p) e q
-
-array-share-prefix-swaps : tie.Need-array-share-prefix-swaps
-array-share-prefix-swaps c = let p : tie.After-plan = search in let (n, e, q) = own p in plan-holds four-few q (given p)
-
-slice-aggregate-chain : tie.Need-slice-aggregate-chain
-slice-aggregate-chain c = let p : tie.After-plan = search in let (n, e, q) = own p in plan-count four-few q (given p)
 
 returns-3 : tie.Need-returns-3
 unfolding entry
 returns-3 c =
     let r : tie.After-chain = search in
     let p : tie.After-plan = search in
-    let (n, e, q) = own p in
-    request-named 4 (entry p .args .release) (entry p .args .order) (named p) four-few e q (r .chain .ensures) (c .asked .ensures)
+    let n : tie.After-number-by = search in
+    request-named 4 (entry p .args .release) (entry p .args .order) (named p) four-few (n .number-by .ensures .0) (p .plan .ensures) (given p)
+    (r .chain .ensures) (c .asked .ensures)
 
 pub request-spec : {M : Type 1} → statement M
 request-spec =
