@@ -10,7 +10,6 @@ use Rattle.orders.specs.Chains.{exchange}
 use Rattle.orders.specs.Numbers.{arrangements, orders, orderOf}
 use Rattle.orders.specs.Plans.{under, falling, relabelled, firstBack, planned, planOf}
 use Rattle.orders.specs.Needs.{exchanged, chainNeed}
-use Rattle.refusals.specs.FirstOf.{firstOf}
 use Rattle.refusals.specs.Calls.{requestChecks}
 use Rattle.axes.specs.declared.Answer.{Answer}
 use Rattle.axes.specs.Promises.{RequestPromise}
@@ -18,16 +17,8 @@ use Rattle.text.specs.Print.{digits, decimal, field, fields, line}
 use Rattle.text.specs.Sheet.{rowCount, rowWidth, rowsText, resultBy}
 use Rattle.printer.specs.declared.Written.{Written}
 use Rattle.printer.specs.Writer.{releaseNumber, ReleaseWrittenAs}
+use Rattle.outcomes.proofs.RefutedRequest.{lengths, block, scratch}
 use Rattle.outcomes.proofs.Wrong.{other-number, other-list, misplaced, Broken, broken}
-
-abbrev lengths : List ℕ
-lengths = 2 ∷ 3 ∷ 1 ∷ 1 ∷ []
-
-abbrev block : List ℕ
-block = 0 ∷ 1 ∷ 2 ∷ 3 ∷ 4 ∷ 5 ∷ []
-
-abbrev scratch : List ℕ
-scratch = replicate 4 9
 
 abbrev Leaves : Answer → List ℕ → List ℕ → Type 0
 Leaves a buffer scratch′ = RequestPromise 4 lengths 2 18 block scratch a buffer scratch′

@@ -17,13 +17,13 @@ use Rattle.axes.specs.declared.Answer.{Answer}
 use Rattle.axes.specs.Promises.{RequestPromise}
 use Rattle.outcomes.proofs.Wrong.{other-number, other-list, misplaced, refuses, Broken, broken}
 
-abbrev lengths : List ℕ
+abbrev pub lengths : List ℕ
 lengths = 2 ∷ 3 ∷ 1 ∷ 1 ∷ []
 
-abbrev block : List ℕ
+abbrev pub block : List ℕ
 block = 0 ∷ 1 ∷ 2 ∷ 3 ∷ 4 ∷ 5 ∷ []
 
-abbrev scratch : List ℕ
+abbrev pub scratch : List ℕ
 scratch = replicate 4 9
 
 abbrev Leaves : Answer → List ℕ → List ℕ → Type 0
