@@ -46,12 +46,12 @@ enum {
     TO_TILES = 13,
     FROM_TILES = 14,
     READ_RESULT = 15,
-    WRITE_RELEASE = 18,
     OFFSET_DELAY = 20,
     TO_FRAMES = 21,
     JOIN = 22,
     CHOOSE = 23,
     CHOOSE_NUMBER = 24,
+    WRITE_RELEASE = 30,
     /* these touch what they must not, to show that the guards bite */
     WRITE_PAST_END = 100,
     READ_PAST_END = 101,
@@ -257,9 +257,6 @@ static void run(uint64_t call) {
     case READ_RESULT:
         give_result(zib_read_result(buffers[0].at, buffers[0].bytes, words(1), word_count(1)));
         break;
-    case WRITE_RELEASE:
-        give_written(zib_write_release(shape, numbers[4], numbers[5], words(0), word_count(0), buffers[1].at, buffers[1].bytes));
-        break;
     case OFFSET_DELAY:
         give_measured(zib_offset_delay(readings(0), reading_count(0)));
         break;
@@ -274,6 +271,9 @@ static void run(uint64_t call) {
         break;
     case CHOOSE_NUMBER:
         give(zib_choose_number(readings(0), reading_count(0), readings(1), reading_count(1)));
+        break;
+    case WRITE_RELEASE:
+        give_written(zib_write_release(shape, numbers[4], numbers[5], words(0), word_count(0), buffers[1].at, buffers[1].bytes));
         break;
     case WRITE_PAST_END:
         at[buffers[0].bytes] = 1;
