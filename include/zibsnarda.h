@@ -43,6 +43,7 @@ enum {
     ZIB_LARGE_SHEET = 11,   /* a sheet's lengths multiply to more than 1,024 */
     ZIB_PAST_LINES = 12,    /* the lines done are more than the turn has */
     ZIB_LONG_BUFFER = 13,   /* the buffer has more words than the block */
+    ZIB_BAD_RELEASE = 14,   /* the release is neither 1 nor 2 */
     ZIB_BAD_TILE = 15,      /* a tile side is 0 or above 64 */
     ZIB_BAD_COLUMN = 16,    /* a column number is above the last camera (removing) or above the camera count (adding) */
     ZIB_NO_ROOM = 17,       /* the buffer lacks room for the block with one camera more */
@@ -179,7 +180,7 @@ struct zib_answer {
     uint32_t number;
     size_t place;
     size_t lengths[4]; /* of the block as it now stands */
-    size_t order;      /* the number of the order in which its axes now stand */
+    size_t order;      /* the number of the order in which its axes now stand; of a direct request the number that it was given */
     size_t swaps;      /* how many were done */
 };
 
@@ -200,19 +201,21 @@ struct zib_answer zib_chain(uint32_t *buffer, size_t buffer_words, uint32_t *scr
                             const size_t *swaps, size_t swap_count);
 
 /*
- * Brings a block into the order with a number, by that order's plan. Scratch is as for zib_chain with that plan: as many
- * words as the longest axis that stands in falling order with another. No chain that names the order needs less.
- * Answers 0, or the first of 1, 2, 3, 13, 7, 4 that holds.
+ * Brings a block into the order that a number names by its release, by that order's plan. In release 1 the number's list says which axis stands
+ * at each place, in release 2 at which place each axis stands: number 18 in release 2 is order 9. Scratch is as for zib_chain with that plan: as
+ * many words as the longest axis that stands in falling order with another, in both releases the same. No chain that names the order needs less.
+ * Answers 0, or the first of 1, 2, 3, 13, 14, 7, 4 that holds.
  */
 struct zib_answer zib_request(uint32_t *buffer, size_t buffer_words, uint32_t *scratch, size_t scratch_words, struct zib_shape shape,
-                              size_t order);
+                              size_t release, size_t order);
 
-/* The shortest chain that names an order and, among the shortest, the first in dictionary order. Answers 0 or 7. */
+/* The shortest chain that names the order with a number in release 1 and, among the shortest, the first in dictionary order. Answers 0 or 7. */
 struct zib_planned zib_plan(size_t order);
 
 /*
  * Sheets: lines of text, fields parted by one tab, each line closed by one LF. `shape` and four lengths; `chain` and the
- * swaps; then for each row `row` and its words. A result sheet has `order` and the order's number for its second line.
+ * swaps; then for each row `row` and its words. A result sheet has `order` and the order's number for its second line,
+ * or `order`, the release and the number.
  */
 
 /* What the reader answers: lengths, swaps (unused ones 0) and how many they are. In a refusal all but number and place is 0. */
@@ -244,18 +247,27 @@ struct zib_sheet zib_read_sheet(const uint8_t *text, size_t text_bytes, uint32_t
 struct zib_written zib_write_sheet(struct zib_shape shape, size_t order, const uint32_t *words, size_t word_count, uint8_t *text,
                                    size_t text_bytes);
 
-/* What the reader of result sheets answers: lengths and order number. In a refusal all but number and place is 0. */
+/*
+ * Writes the result sheet that names the release of its order number: `order`, the release, the number. All else is as for zib_write_sheet.
+ * Answers 0, or the first of 1, 11, 3, 14, 7, 24 that holds; release 0 is 14.
+ */
+struct zib_written zib_write_release(struct zib_shape shape, size_t release, size_t order, const uint32_t *words, size_t word_count,
+                                     uint8_t *text, size_t text_bytes);
+
+/* What the reader of result sheets answers: lengths, release and order number. In a refusal all but number and place is 0. */
 struct zib_result {
     uint32_t number;
     size_t place;
     size_t lengths[4];
+    size_t release; /* 0 where the sheet names none */
     size_t order;
 };
 
 /*
- * Reads a result sheet, which is only read, and stores its words from the start of the word buffer, if the whole sheet is right.
- * What zib_write_sheet wrote reads back the same, and every accepted sheet is the one that it writes for those values.
- * Answers 0, or the first of 9, 10 (line 1), 1, 11, 3, 10 (line 2), 7, 10 (each row, then what is left over).
+ * Reads a result sheet, with a release or without, which is only read, and stores its words from the start of the word buffer, if the whole sheet
+ * is right. What zib_write_sheet or zib_write_release wrote reads back the same, and every accepted sheet is the one that the first, for release
+ * 0, or the second writes for those values.
+ * Answers 0, or the first of 9, 10 (line 1), 1, 11, 3, 10 (line 2), 14, 7, 10 (each row, then what is left over).
  */
 struct zib_result zib_read_result(const uint8_t *text, size_t text_bytes, uint32_t *words, size_t word_count);
 

@@ -55,6 +55,7 @@ enum {
     JOIN = 22,
     CHOOSE = 23,
     CHOOSE_NUMBER = 24,
+    WRITE_RELEASE = 30,
     /* these touch what they must not, to show that the guards bite */
     WRITE_PAST_END = 100,
     READ_PAST_END = 101,
@@ -150,6 +151,7 @@ static void give_result(struct zib_result s) {
     give(s.number);
     give(s.place);
     give_all(s.lengths, 4);
+    give(s.release);
     give(s.order);
 }
 
@@ -242,7 +244,7 @@ static void run(uint64_t call) {
         give_answer(zib_chain(words(0), word_count(0), words(1), word_count(1), shape, (size_t *)buffers[2].at, buffers[2].bytes / sizeof(size_t)));
         break;
     case REQUEST:
-        give_answer(zib_request(words(0), word_count(0), words(1), word_count(1), shape, numbers[4]));
+        give_answer(zib_request(words(0), word_count(0), words(1), word_count(1), shape, numbers[4], numbers[5]));
         break;
     case PLAN:
         give_plan(zib_plan(numbers[0]));
@@ -300,6 +302,9 @@ static void run(uint64_t call) {
         break;
     case RUN_CYCLES:
         give_judged(zib_run_cycles(words(0), word_count(0), words(1), word_count(1), numbers[0], numbers[1]));
+        break;
+    case WRITE_RELEASE:
+        give_written(zib_write_release(shape, numbers[4], numbers[5], words(0), word_count(0), buffers[1].at, buffers[1].bytes));
         break;
     case WRITE_PAST_END:
         at[buffers[0].bytes] = 1;

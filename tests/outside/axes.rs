@@ -2,7 +2,7 @@
 use crate::bench::Bench;
 use crate::driver::{sizes, words, Answer, Request, CHAIN, PLAN, REQUEST};
 use crate::random::Random;
-use crate::reference::{block_checks, first, laid, longest, named, need, number_of, orders, plan, reordered, volume, zeroed};
+use crate::reference::{block_checks, by_release, first, laid, longest, named, need, number_of, orders, plan, reordered, volume, zeroed};
 
 type Lengths = [u64; 4];
 
@@ -44,9 +44,10 @@ fn chain_case(lengths: Lengths, chain: &[u64], buffer: &[u32], scratch: &[u32]) 
     (q, e)
 }
 
-fn request_case(lengths: Lengths, asked: u64, buffer: &[u32], scratch: &[u32]) -> (Request, Answer) {
-    let chain = orders().get(asked as usize).map_or(Vec::new(), |&order| plan(order));
+fn request_case(lengths: Lengths, release: u64, asked: u64, buffer: &[u32], scratch: &[u32]) -> (Request, Answer) {
+    let chain = orders().get(asked as usize).map_or(Vec::new(), |&list| plan(by_release(release, list)));
     let mut checks = block_checks(&lengths, buffer.len());
+    checks.push((14, release != 1 && release != 2));
     checks.push((7, asked > 23));
     checks.push((4, (scratch.len() as u64) < need(lengths, &chain)));
     let number = first(&checks);
@@ -57,7 +58,7 @@ fn request_case(lengths: Lengths, asked: u64, buffer: &[u32], scratch: &[u32]) -
         outcome(answer(number, 0, [0; 4], 0, 0), lengths, None, buffer, scratch)
     };
     let mut numbers = lengths.to_vec();
-    numbers.push(asked);
+    numbers.extend(&[release, asked]);
     let q = Request { call: REQUEST, numbers, buffers: vec![words(buffer), words(scratch)] };
     (q, e)
 }
@@ -69,11 +70,18 @@ fn try_chain(t: &mut Bench, lengths: Lengths, chain: &[u64], buffer: &[u32], scr
     });
 }
 
-fn try_request(t: &mut Bench, lengths: Lengths, asked: u64, buffer: &[u32], scratch: &[u32]) {
-    let (q, e) = request_case(lengths, asked, buffer, scratch);
+fn try_release(t: &mut Bench, lengths: Lengths, release: u64, asked: u64, buffer: &[u32], scratch: &[u32]) {
+    let (q, e) = request_case(lengths, release, asked, buffer, scratch);
     t.expect_both(&q, &e, || {
-        format!("order {} of {:?}, {} words, scratch {}", asked, lengths, buffer.len(), scratch.len())
+        format!("release {}, order {} of {:?}, {} words, scratch {}", release, asked, lengths, buffer.len(), scratch.len())
     });
+}
+
+// A number in both releases.
+fn try_request(t: &mut Bench, lengths: Lengths, asked: u64, buffer: &[u32], scratch: &[u32]) {
+    for release in [1, 2] {
+        try_release(t, lengths, release, asked, buffer, scratch);
+    }
 }
 
 // Buffer and scratch for a shape, scratch longer than any chain needs by the spare words.
@@ -105,7 +113,7 @@ fn plans(t: &mut Bench) {
     t.group("plans against brute force");
 }
 
-// Every order of every shape with sides up to four, and of larger ones, by request and by its plan's chain.
+// Every order of every shape with sides up to four, and of larger ones, by request in both releases and by its plan's chain.
 fn every_order(t: &mut Bench, r: &mut Random) {
     let side = if t.short { 2 } else { 4 };
     let mut shapes: Vec<Lengths> = Vec::new();
@@ -233,7 +241,7 @@ fn needs(t: &mut Bench, r: &mut Random) {
     t.group("needs: document 02's example, length-1 partners, two chains of one order");
 }
 
-// Every set of the checks 1, 2, 3, 13, 5, 6, 4, and of 1, 2, 3, 13, 7, 4: each alone, each pair, and more.
+// Every set of the checks 1, 2, 3, 13, 5, 6, 4, and of 1, 2, 3, 13, 14, 7, 4: each alone, each pair, and more.
 fn check_sets(t: &mut Bench, r: &mut Random) {
     for set in 0..128 {
         let holds = |k: u32| set & (1 << k) != 0;
@@ -259,7 +267,10 @@ fn check_sets(t: &mut Bench, r: &mut Random) {
                 chain[place] = r.pick(&[3, 4, 255, 256, 65_536, 1 << 32, u64::MAX]);
             }
             try_chain(t, lengths, &chain, &buffer, &scratch[0]);
-            try_request(t, lengths, if holds(5) { 24 } else { 23 }, &buffer, &scratch[1]);
+            let asked = if holds(5) { 24 } else { 23 };
+            try_request(t, lengths, asked, &buffer, &scratch[1]);
+            let release = r.pick(&[0, 3, 4, 255, 256, 1 << 32, u64::MAX]);
+            try_release(t, lengths, release, asked, &buffer, &scratch[1]);
         }
     }
     t.group("four-axis refusals: each check alone, each pair and every larger set");
@@ -356,9 +367,52 @@ fn pool_buffer(t: &mut Bench, r: &mut Random) {
     t.group("a pool buffer with another frame count, by chain and by request");
 }
 
+// Document 02, item 5: a number in release 2 says where each axis goes. Orders that are their own inverse hide the difference; 9 and 18 do not.
+fn releases(t: &mut Bench, r: &mut Random) {
+    let lengths = [2, 3, 4, 5];
+    let (buffer, scratch) = lent(r, lengths, 2);
+    let written: [(u64, u64, Lengths, u64); 8] = [
+        (1, 9, [3, 4, 5, 2], 3), (2, 9, [5, 2, 3, 4], 3), (1, 18, [5, 2, 3, 4], 3), (2, 18, [3, 4, 5, 2], 3),
+        (1, 16, [4, 5, 2, 3], 4), (2, 16, [4, 5, 2, 3], 4), (1, 3, [2, 4, 5, 3], 2), (2, 3, [2, 5, 3, 4], 2),
+    ];
+    for &(release, asked, after, swaps) in &written {
+        let e = request_case(lengths, release, asked, &buffer, &scratch).1;
+        t.verdict(e.numbers == answer(0, 0, after, asked, swaps), || {
+            format!("the reference answers release {}, order {} otherwise", release, asked)
+        });
+        try_release(t, lengths, release, asked, &buffer, &scratch);
+    }
+    let mut turned = 0;
+    for asked in 0..24 {
+        // the same words as the release 1 number of the inverse, by request and by chain, and every word where its axes went
+        let list = orders()[asked as usize];
+        let inverse = number_of(by_release(2, list));
+        turned += (inverse != asked) as u64;
+        let (two, one) = (request_case(lengths, 2, asked, &buffer, &scratch).1, request_case(lengths, 1, inverse, &buffer, &scratch).1);
+        t.verdict(two.buffers == one.buffers && two.numbers[2..6] == one.numbers[2..6], || format!("number {} and {} leave other words", asked, inverse));
+        t.verdict((0..4).all(|axis| two.numbers[2 + list[axis]] == lengths[axis]), || format!("number {} sends an axis elsewhere", asked));
+        try_request(t, lengths, asked, &buffer, &scratch);
+        try_chain(t, lengths, &plan(by_release(2, list)), &buffer, &scratch);
+        // one word less than the need of either release
+        let less = need(lengths, &plan(list)).saturating_sub(1);
+        t.verdict(need(lengths, &plan(list)) == need(lengths, &plan(by_release(2, list))), || format!("{} needs more in one release", asked));
+        try_request(t, lengths, asked, &buffer, &r.words(less as usize));
+    }
+    t.verdict(turned == 14, || format!("{} numbers are not their own inverse", turned));
+    for &release in &[0, 1, 2, 3, 4, 255, 256, 257, 258, 65_537, (1 << 32) + 1, (1 << 32) + 2, 1 << 63, u64::MAX] {
+        for &asked in &[0, 9, 23, 24, u64::MAX] {
+            try_release(t, lengths, release, asked, &buffer, &scratch);
+            try_release(t, lengths, release, asked, &buffer[1..], &scratch);
+            try_release(t, lengths, release, asked, &buffer, &[]);
+        }
+    }
+    t.group("releases: both of all 24 orders, 0, 3 and huge ones, 14 against 7, 3 and 4");
+}
+
 pub fn all(t: &mut Bench, seed: u64) {
     let mut r = Random::new(seed);
     benches(t, &mut r);
+    releases(t, &mut r);
     pool_buffer(t, &mut r);
     plans(t);
     every_order(t, &mut r);

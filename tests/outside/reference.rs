@@ -86,6 +86,18 @@ pub fn need(lengths: [u64; 4], chain: &[u64]) -> u64 {
     most
 }
 
+// The order that a number's list names: release 1 says which axis stands at each place, release 2 where each axis goes.
+pub fn by_release(release: u64, list: [usize; 4]) -> [usize; 4] {
+    if release != 2 {
+        return list;
+    }
+    let mut stands = [0; 4];
+    for (axis, &place) in list.iter().enumerate() {
+        stands[place] = axis;
+    }
+    stands
+}
+
 // The 24 orders of four axes, in dictionary order.
 pub fn orders() -> Vec<[usize; 4]> {
     let mut all = Vec::new();

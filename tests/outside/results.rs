@@ -1,4 +1,4 @@
-// Document 02, item 1: result sheets come back. The reader of result sheets on right ones and on damaged ones.
+// Document 02, items 1 and 5: result sheets come back, those that name a release and those that name none. The reader of result sheets on right ones and on damaged ones.
 use crate::bench::Bench;
 use crate::driver::{bytes, words, Answer, Request, AT_END, READ_RESULT};
 use crate::random::Random;
@@ -11,12 +11,13 @@ type Lengths = [u64; 4];
 // The call that reads a text into a buffer, and what it leaves.
 fn reading(text: &[u8], buffer: &[u32], outcome: &Result<Outcome, Refusal>) -> (Request, Answer) {
     let mut left = buffer.to_vec();
-    let mut numbers = vec![0; 7];
+    let mut numbers = vec![0; 8];
     match outcome {
         Ok(s) => {
             left[..s.words.len()].copy_from_slice(&s.words);
             numbers[2..6].copy_from_slice(&s.lengths);
-            numbers[6] = s.order;
+            numbers[6] = s.release;
+            numbers[7] = s.order;
         }
         Err((number, place)) => {
             numbers[0] = *number;
@@ -34,25 +35,25 @@ pub fn try_read(t: &mut Bench, text: &[u8], buffer: &[u32]) {
 }
 
 // What the writer writes in this call, read back into a buffer that has two words more than the block.
-pub fn reads_back(t: &mut Bench, writing: &Request, lengths: Lengths, order: u64, block: &[u32]) {
+pub fn reads_back(t: &mut Bench, writing: &Request, lengths: Lengths, release: u64, order: u64, block: &[u32]) {
     let written = match t.driver.ask(AT_END, writing) {
         Ok(a) => a,
         Err(why) => return t.verdict(false, || format!("writing again: {}", why)),
     };
     let text = &written.buffers[1].bytes[..written.numbers[1] as usize];
     let size = volume(&lengths) as usize;
-    let outcome = Ok(Outcome { lengths, order, words: block[..size].to_vec() });
+    let outcome = Ok(Outcome { lengths, release, order, words: block[..size].to_vec() });
     let (q, e) = reading(text, &vec![0xa5a5_a5a5; size + 2], &outcome);
     t.expect_both(&q, &e, || format!("reading back {:?}", String::from_utf8_lossy(text)));
 }
 
 fn random_result(r: &mut Random, side: u64) -> Outcome {
     let s = random_sheet(r, side);
-    Outcome { lengths: s.lengths, order: r.below(24), words: s.words }
+    Outcome { lengths: s.lengths, release: r.below(3), order: r.below(24), words: s.words }
 }
 
 fn printed(o: &Outcome) -> Vec<u8> {
-    result(o.lengths, o.order, &o.words)
+    result(o.lengths, Some(o.release).filter(|&k| k != 0), o.order, &o.words)
 }
 
 fn right_results(t: &mut Bench, r: &mut Random) {
@@ -89,7 +90,8 @@ fn damaged_results(t: &mut Bench, r: &mut Random) {
     t.group(&format!("damaged result sheets read ({} of {} are refused)", refused, count));
 }
 
-// Result sheets that document 01 or document 02 decides, written out with their answers, for a buffer of 1,000 words.
+// Result sheets that document 01 or document 02 decides, written out with their answers, for a buffer of 1,000 words; a right one's answer is
+// its order number and a hundred for each step of its release.
 fn cases() -> Vec<(String, Result<u64, Refusal>)> {
     let rows = "row\t1\t4\nrow\t2\t5\nrow\t3\t6\n";
     let with_order = |line: &str| format!("shape\t1\t1\t3\t2\n{}{}", line, rows);
@@ -125,11 +127,32 @@ fn cases() -> Vec<(String, Result<u64, Refusal>)> {
         (with_order("order\t4294967295\n"), Err((7, 0))),
         (with_order("order\t4294967296\n"), Err((10, 2))),
         (with_order("order\t18446744073709551616\n"), Err((10, 2))),
-        (with_order("order\t1\t2\n"), Err((10, 2))),
-        (with_order("order\t2\t1\n"), Err((10, 2))),
-        (with_order("order\t24\t1\n"), Err((10, 2))),
-        (with_order("order\t1\t24\n"), Err((10, 2))),
+        (with_order("order\t1\t2\n"), Ok(102)),
+        (with_order("order\t2\t1\n"), Ok(201)),
+        (with_order("order\t2\t9\n"), Ok(209)),
+        (with_order("order\t2\t18\n"), Ok(218)),
+        (with_order("order\t1\t0\n"), Ok(100)),
+        (with_order("order\t0\t5\n"), Err((14, 0))),
+        (with_order("order\t0\t24\n"), Err((14, 0))),
+        (with_order("order\t3\t5\n"), Err((14, 0))),
+        (with_order("order\t3\t24\n"), Err((14, 0))),
+        (with_order("order\t24\t1\n"), Err((14, 0))),
+        (with_order("order\t257\t1\n"), Err((14, 0))),
+        (with_order("order\t4294967295\t1\n"), Err((14, 0))),
+        (with_order("order\t4294967296\t1\n"), Err((10, 2))),
+        (with_order("order\t1\t24\n"), Err((7, 0))),
+        (with_order("order\t2\t4294967295\n"), Err((7, 0))),
+        (with_order("order\t2\t4294967296\n"), Err((10, 2))),
+        (with_order("order\t3\tx\n"), Err((10, 2))),
+        (with_order("order\t02\t1\n"), Err((10, 2))),
+        (with_order("order\t2\t01\n"), Err((10, 2))),
+        (with_order("order\t2\t\n"), Err((10, 2))),
+        (with_order("order\t\t2\n"), Err((10, 2))),
+        (with_order("order\t2\t1"), Err((10, 2))),
+        (with_order("order\t2\t1\t\n"), Err((10, 2))),
         (with_order("order\t1\t2\t3\n"), Err((10, 2))),
+        (with_order("order\t1\t1\t1\n"), Err((10, 2))),
+        (with_order("order\t1\t2\t3\t4\n"), Err((10, 2))),
         (with_order("order\n"), Err((10, 2))),
         (with_order("order\t\n"), Err((10, 2))),
         (with_order("order\t1\t\n"), Err((10, 2))),
@@ -147,6 +170,10 @@ fn cases() -> Vec<(String, Result<u64, Refusal>)> {
         (with_order(""), Err((10, 2))),
         // 7 and a wrong row; a wrong line 2 and a wrong row
         ("shape\t1\t1\t1\t1\norder\t24\nrow\n".into(), Err((7, 0))),
+        ("shape\t1\t1\t1\t1\norder\t3\t24\nrow\n".into(), Err((14, 0))),
+        ("shape\t1\t1\t1001\t1\norder\t3\t24\n".into(), Err((3, 0))),
+        ("shape\t1\t1\t1\t1\norder\t2\t9\nrow\n".into(), Err((10, 3))),
+        ("shape\t1\t1\t1\t1\norder\t2\t9\nrow\t7\n\n".into(), Err((10, 4))),
         ("shape\t1\t1\t1\t1\norder\t24".into(), Err((10, 2))),
         ("shape\t1\t1\t1\t1\norder\nrow\n".into(), Err((10, 2))),
         // rows
@@ -175,13 +202,16 @@ fn cases() -> Vec<(String, Result<u64, Refusal>)> {
     ];
     for order in 0..24 {
         cases.push((format!("shape\t1\t1\t1\t2\norder\t{}\nrow\t1\t2\n", order), Ok(order)));
+        for release in 1..3 {
+            cases.push((format!("shape\t1\t1\t1\t2\norder\t{}\t{}\nrow\t1\t2\n", release, order), Ok(100 * release + order)));
+        }
     }
     cases
 }
 
 fn written_out(t: &mut Bench, r: &mut Random) {
     for (text, verdict) in &cases() {
-        let told = read_result(text.as_bytes(), 1000).map(|s| s.order);
+        let told = read_result(text.as_bytes(), 1000).map(|s| 100 * s.release + s.order);
         t.verdict(told == *verdict, || format!("the reference answers {:?} for {:?}", told, text));
         try_read(t, text.as_bytes(), &r.words(1000));
     }
@@ -196,7 +226,14 @@ fn written_out(t: &mut Bench, r: &mut Random) {
 
 // Every single byte of a result sheet lost, doubled or replaced, and every start of it.
 fn each_byte(t: &mut Bench, r: &mut Random) {
-    let text = b"shape\t1\t1\t3\t2\norder\t10\nrow\t1\t4294967295\nrow\t20\t5\nrow\t0\t6\n";
+    let rows = "row\t1\t4294967295\nrow\t20\t5\nrow\t0\t6\n";
+    for line in ["order\t10\n", "order\t2\t19\n"] {
+        damaged_bytes(t, r, format!("shape\t1\t1\t3\t2\n{}{}", line, rows).as_bytes());
+    }
+    t.group("one byte of a result sheet lost, doubled or replaced, and each start of it");
+}
+
+fn damaged_bytes(t: &mut Bench, r: &mut Random, text: &[u8]) {
     for at in 0..text.len() {
         let mut lost = text.to_vec();
         lost.remove(at);
@@ -211,7 +248,6 @@ fn each_byte(t: &mut Bench, r: &mut Random) {
             try_read(t, &other, &r.words(7));
         }
     }
-    t.group("one byte of a result sheet lost, doubled or replaced, and each start of it");
 }
 
 // The sheets of `turn` are no result sheets; the longest result sheets are read.
@@ -222,8 +258,12 @@ fn others(t: &mut Bench, r: &mut Random) {
         try_read(t, &text, &r.words(1024));
     }
     for &lengths in &[[1024, 1, 1, 1], [1, 1, 1024, 1], [1, 1, 1, 1024], [4, 4, 8, 8]] {
-        let o = Outcome { lengths, order: 23, words: vec![u32::MAX; 1024] };
-        try_read(t, &printed(&o), &r.words(1024));
+        for release in 0..3 {
+            let o = Outcome { lengths, release, order: 23, words: vec![u32::MAX; 1024] };
+            let text = printed(&o);
+            t.verdict(text.len() <= 15_388, || format!("{} bytes", text.len()));
+            try_read(t, &text, &r.words(1024));
+        }
     }
     t.group("sheets with a chain, and the longest result sheets");
 }

@@ -1,6 +1,6 @@
 // The sheet reader, the sheet writer and the whole job, on right sheets and on damaged ones.
 use crate::bench::Bench;
-use crate::driver::{bytes, sizes, words, Answer, Request, CHAIN, JOB, READ_SHEET, WRITE_SHEET};
+use crate::driver::{bytes, sizes, words, Answer, Request, CHAIN, JOB, READ_SHEET, WRITE_RELEASE, WRITE_SHEET};
 use crate::random::Random;
 use crate::reference::{longest, volume};
 use crate::results::{self, reads_back};
@@ -30,9 +30,10 @@ fn try_read(t: &mut Bench, text: &[u8], buffer: &[u32]) {
     t.expect_both(&q, &e, || format!("reading {:?}, {} words", String::from_utf8_lossy(text), buffer.len()));
 }
 
-fn try_write(t: &mut Bench, lengths: Lengths, order: u64, block: &[u32], out: &[u8]) {
+// By the writer that names a release, or by the one that names none.
+fn try_write_by(t: &mut Bench, lengths: Lengths, release: Option<u64>, order: u64, block: &[u32], out: &[u8]) {
     let mut left = out.to_vec();
-    let outcome = write(lengths, order, block, out.len());
+    let outcome = write(lengths, release, order, block, out.len());
     let numbers = match &outcome {
         Ok(text) => {
             left[..text.len()].copy_from_slice(text);
@@ -41,13 +42,25 @@ fn try_write(t: &mut Bench, lengths: Lengths, order: u64, block: &[u32], out: &[
         Err(number) => vec![*number, 0],
     };
     let mut asked = lengths.to_vec();
+    asked.extend(release);
     asked.push(order);
     let lent = words(block).read_only();
-    let q = Request { call: WRITE_SHEET, numbers: asked, buffers: vec![lent.clone(), bytes(out)] };
+    let call = if release.is_some() { WRITE_RELEASE } else { WRITE_SHEET };
+    let q = Request { call, numbers: asked, buffers: vec![lent.clone(), bytes(out)] };
     let e = Answer { numbers, buffers: vec![lent, bytes(&left)] };
-    t.expect_both(&q, &e, || format!("writing {:?}, order {}, {} words to {} bytes", lengths, order, block.len(), out.len()));
+    t.expect_both(&q, &e, || {
+        format!("writing {:?}, release {:?}, order {}, {} words to {} bytes", lengths, release, order, block.len(), out.len())
+    });
     if outcome.is_ok() {
-        reads_back(t, &q, lengths, order, block);
+        reads_back(t, &q, lengths, release.unwrap_or(0), order, block);
+    }
+}
+
+// By the writer that names none, and by the other with 1, 2 and a release that there is not.
+fn try_write(t: &mut Bench, lengths: Lengths, order: u64, block: &[u32], out: &[u8]) {
+    let no_release = [0, 3, 256, 1 << 32, u64::MAX][(order % 5) as usize];
+    for release in [None, Some(1), Some(2), Some(no_release)] {
+        try_write_by(t, lengths, release, order, block, out);
     }
 }
 
@@ -243,14 +256,14 @@ fn writes(t: &mut Bench, r: &mut Random) {
         let tail = r.below(3) as usize;
         let mut block = s.words.clone();
         block.extend(r.words(tail));
-        let exact = result(s.lengths, order, &block).len();
-        for &length in &[0, exact - 1, exact, exact + 1, exact + 50] {
+        let exact = result(s.lengths, None, order, &block).len();
+        for &length in &[0, exact - 1, exact, exact + 1, exact + 2, exact + 3, exact + 50] {
             try_write(t, s.lengths, order, &block, &r.bytes(length));
         }
         try_write(t, s.lengths, order, &block[..s.words.len() - 1], &r.bytes(exact));
     }
     t.group("result sheets written: bytes short by one, exact, longer; what was written is read back");
-    // every set of the checks 1, 11, 3, 7 and 24
+    // every set of the checks 1, 11, 3, 7 and 24, by each writer, and with 14
     for set in 0..32 {
         let holds = |k: u32| set & (1 << k) != 0;
         let shapes: &[Lengths] = match (holds(0), holds(1)) {

@@ -1,4 +1,4 @@
-// Sheets as document 01 describes them and result sheets as document 02, item 1, has them loaded, read and written by copying text.
+// Sheets as document 01 describes them and result sheets as document 02, items 1 and 5, has them loaded, read and written by copying text.
 use crate::reference::{bad_length, first, laid, named, need, number_of, reordered, volume, zeroed};
 
 type Lengths = [u64; 4];
@@ -16,6 +16,8 @@ pub struct Sheet {
 #[derive(Clone, Debug, PartialEq)]
 pub struct Outcome {
     pub lengths: Lengths,
+    // 0 where none is named
+    pub release: u64,
     pub order: u64,
     pub words: Vec<u32>,
 }
@@ -90,13 +92,16 @@ fn chain(line: Option<&[u8]>) -> Result<Vec<u64>, Refusal> {
     }
 }
 
-// Line 2 of a result sheet: its form, one number; 7.
+// Line 2 of a result sheet: its form, a release, which may be missing, and a number; 14; 7.
 fn order(line: Option<&[u8]>) -> Result<Vec<u64>, Refusal> {
-    let order = record(line, "order").filter(|v| v.len() == 1).ok_or((10, 2))?;
-    if order[0] > 23 {
-        return Err((7, 0));
+    let numbers = record(line, "order").filter(|v| v.len() == 1 || v.len() == 2).ok_or((10, 2))?;
+    let (named, release) = (numbers.len() == 2, numbers[0]);
+    let order = numbers[numbers.len() - 1];
+    let number = first(&[(14, named && release != 1 && release != 2), (7, order > 23)]);
+    if number != 0 {
+        return Err((number, 0));
     }
-    Ok(order)
+    Ok(vec![if named { release } else { 0 }, order])
 }
 
 pub fn read(text: &[u8], room: usize) -> Result<Sheet, Refusal> {
@@ -104,7 +109,7 @@ pub fn read(text: &[u8], room: usize) -> Result<Sheet, Refusal> {
 }
 
 pub fn read_result(text: &[u8], room: usize) -> Result<Outcome, Refusal> {
-    page(text, room, order).map(|(lengths, numbers, words)| Outcome { lengths, order: numbers[0], words })
+    page(text, room, order).map(|(lengths, numbers, words)| Outcome { lengths, release: numbers[0], order: numbers[1], words })
 }
 
 fn line(word: &str, values: impl Iterator<Item = u64>) -> String {
@@ -125,24 +130,25 @@ pub fn sheet(s: &Sheet) -> Vec<u8> {
     (head + &rows(s.lengths, &s.words)).into_bytes()
 }
 
-// The text of a result sheet.
-pub fn result(lengths: Lengths, order: u64, words: &[u32]) -> Vec<u8> {
-    let head = line("shape", lengths.iter().copied()) + &line("order", std::iter::once(order));
+// The text of a result sheet, with its release if there is one.
+pub fn result(lengths: Lengths, release: Option<u64>, order: u64, words: &[u32]) -> Vec<u8> {
+    let head = line("shape", lengths.iter().copied()) + &line("order", release.into_iter().chain([order]));
     (head + &rows(lengths, &words[..volume(&lengths) as usize])).into_bytes()
 }
 
-// What the writer answers for a byte buffer of this length.
-pub fn write(lengths: Lengths, order: u64, words: &[u32], bytes: usize) -> Result<Vec<u8>, u64> {
+// What the writer answers for a byte buffer of this length: the one that names a release, or the one that names none.
+pub fn write(lengths: Lengths, release: Option<u64>, order: u64, words: &[u32], bytes: usize) -> Result<Vec<u8>, u64> {
     let number = first(&[
         (1, bad_length(&lengths)),
         (11, volume(&lengths) > MOST_WORDS),
         (3, (words.len() as u128) < volume(&lengths)),
+        (14, release.map_or(false, |k| k != 1 && k != 2)),
         (7, order > 23),
     ]);
     if number != 0 {
         return Err(number);
     }
-    let text = result(lengths, order, words);
+    let text = result(lengths, release, order, words);
     if bytes < text.len() {
         Err(24)
     } else {
@@ -158,7 +164,7 @@ pub fn job(text: &[u8], words: &[u32], scratch: &[u32]) -> (Vec<u8>, Vec<u32>, V
             let order = named(&s.chain);
             let mut left = words.to_vec();
             left[..s.words.len()].copy_from_slice(&laid(&s.words, s.lengths, order));
-            let told = result(reordered(s.lengths, order), number_of(order), &left);
+            let told = result(reordered(s.lengths, order), None, number_of(order), &left);
             (told, left, zeroed(scratch, need(s.lengths, &s.chain)))
         }
     }

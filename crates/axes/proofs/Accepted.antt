@@ -154,9 +154,13 @@ module _ {r : ℕ} {ds xs ss s : List ℕ} (p : ChainAccepted r ds xs ss s) wher
 pub is-order : (r order : ℕ) → noOrder r order ≡ false → order < orderCount r
 is-order r order e = omega (arith, ltb-false (orderCount r - 1) order e, count-pos r)
 
+-- and one of the orders' is not refused
+pub no-order-false : (r order : ℕ) → order < orderCount r → noOrder r order ≡ false
+no-order-false r order h = le-ltb (orderCount r - 1) order (omega (arith, h))
+
 -- a request that is accepted asks for one of the orders
-pub request-order : (r : ℕ) (ds xs ss : List ℕ) (order : ℕ) → firstOf (requestChecks r ds xs ss order) ≡ 0 → order < orderCount r
-request-order r ds xs ss order e = go (request-accepted r ds xs ss order .0 e)
+pub request-order : (r : ℕ) (ds xs ss : List ℕ) (release order : ℕ) → firstOf (requestChecks r ds xs ss release order) ≡ 0 → order < orderCount r
+request-order r ds xs ss release order e = go (request-accepted r ds xs ss release order .0 e)
   where
-    go : Silent (requestChecks r ds xs ss order) → order < orderCount r
-    go (more a (more b (more c (more d (more f g))))) = is-order r order f
+    go : Silent (requestChecks r ds xs ss release order) → order < orderCount r
+    go (more a (more b (more c (more d (more f (more g h)))))) = is-order r order g

@@ -1,5 +1,6 @@
 -- What the calls on r axes do together, as theorems over what they promise: chains join, chains that name one order leave the same, a chain
--- run backwards restores the block, an order number means the same in every call, and a request leaves what the chain of its plan leaves.
+-- run backwards restores the block, an order number means the same in every call, and a request leaves what the chain of its plan leaves, in
+-- either release.
 -- Each call has its own scratch, any that is enough by the call's own need, and what it holds afterwards each call's promise says by itself;
 -- where one scratch is lent to all, what it holds is said too.
 -- The words by the laws of layouts, the lengths by following the chain.
@@ -16,6 +17,7 @@ use Rattle.lists.proofs.Decide.{eq-or-ne}
 use Rattle.layout.specs.Layout.{pick, Laid}
 use Rattle.orders.specs.Chains.{follow, named}
 use Rattle.orders.specs.Numbers.{orderCount, orderOf, numberOf}
+use Rattle.orders.specs.Releases.{orderBy, numberBy}
 use Rattle.orders.specs.Plans.{planPlaces}
 use Rattle.orders.specs.Needs.{chainNeed, planNeed}
 use Rattle.orders.proofs.Chains.{pick-named, follow-append, follow-home, joined, length-follow}
@@ -23,18 +25,20 @@ use Rattle.orders.proofs.Layouts.{chain-joined, chain-home, chain-once}
 use Rattle.orders.proofs.Numbers.{number-below, order-number}
 use Rattle.orders.proofs.Needs.{need-append, need-back}
 use Rattle.orders.proofs.PlanNeeds.{plan-least}
+use Rattle.orders.proofs.Releases.{by-order, by-first}
 use Rattle.refusals.specs.FirstOf.{Check, check, firstOf}
-use Rattle.refusals.specs.Conditions.{shortScratch, badSwap}
-use Rattle.refusals.specs.Calls.{chainChecks, requestChecks, planChecks}
+use Rattle.refusals.specs.Conditions.{shortScratch, badSwap, noRelease}
+use Rattle.refusals.specs.Calls.{chainChecks, requestChecks, namedChecks}
 use Rattle.refusals.specs.Scratch.{cleared}
 use Rattle.refusals.specs.Promise.{Rearranged}
 use Rattle.refusals.proofs.FirstOf.{Silent, silent-zero}
 use Rattle.refusals.proofs.Scratch.{cleared-length, cleared-twice}
 use Rattle.axes.specs.declared.Answer.{Answer}
 use Rattle.axes.specs.declared.Planned.{Planned}
+use Rattle.axes.specs.Asked.{askedFor}
 use Rattle.axes.specs.Promises.{ChainPromise, RequestPromise, PlanPromise}
-use Rattle.axes.proofs.Accepted.{ChainAccepted, accepts-chain, block-zero, chain-zero, next-accepted, joined-accepted, back-accepted, by-last}
-use Rattle.axes.proofs.Calls.{request-of-chain}
+use Rattle.axes.proofs.Accepted.{ChainAccepted, accepts-chain, block-zero, chain-zero, next-accepted, joined-accepted, back-accepted, by-last, no-order-false}
+use Rattle.axes.proofs.Calls.{request-of-chain, request-by}
 use Rattle.axes.proofs.OneOutcome.{request-once}
 
 -- what an accepted chain leaves, as facts of the entry
@@ -193,37 +197,57 @@ backwards-scratch axes p q e =
     let home = backwards axes p q e (omega (arith, as-long axes p e, ran axes p e .room)) in
     (home, scratch-back axes p e (q .block .zeroed (home .accepts)))
 
--- an order that one call answers, asked for in another, means the same layout
+-- a request for the order that a chain names leaves what the chain leaves: lengths and words, and the number of that order by its release
+pub record AlikeBy (r release : ℕ) (a a′ : Answer) (ys zs : List ℕ) : Type 0 where
+  pub accepts : a′ .number ≡ 0
+  pub lengths : a′ .lens ≡ a .lens
+  pub order : numberBy r release (a′ .order) ≡ a .order
+  pub words : zs ≡ ys
+
+-- an order that one call answers, asked for in another by the number that names it in either release, means the same layout
+module _ {r : ℕ} {ds c xs ss ss′ : List ℕ} {release k : ℕ} {a a′ : Answer} {ys ts zs us : List ℕ} (axes : length ds ≡ r)
+    (p : ChainPromise r ds c xs ss a ys ts) (q : RequestPromise r ds release k xs ss′ a′ zs us) (e : a .number ≡ 0) (known : noRelease release ≡ false)
+    (low : k < orderCount r) (one : numberBy r release k ≡ a .order) where
+  the-order : orderBy r release k ≡ named r c
+  the-order = sym (by-order r k low release) ∙ ap (orderOf r) one ∙ new-order axes p e
+
+  -- scratch that was enough for the chain is enough for the request
+  pub enough-by : planNeed r ds release k ≤ chainNeed ds c
+  enough-by = rw the-order (plan-least ds c axes)
+
+  by-accepted : planNeed r ds release k ≤ length ss′ → a′ .number ≡ 0
+  by-accepted room =
+      let need = check 4 (shortScratch (planNeed r ds release k) ss′) ∷ [] in
+      let silent : Silent (namedChecks r release k ++ need) =
+      Silent.more known
+      (Silent.more (no-order-false r k low) (Silent.more (le-ltb (length ss′) (planNeed r ds release k) room) Silent.none)) in
+      q .block .number-is ∙ by-last ds xs (namedChecks r release k ++ need) (sym (block-zero (ran axes p e .block))) refl ∙ silent-zero silent
+
+  pub one-meaning-by : planNeed r ds release k ≤ length ss′ → AlikeBy r release a a′ ys zs
+  one-meaning-by room =
+      let z = by-accepted room in
+      record {
+        accepts = z;
+        lengths = ap (λ (b : Answer). b .lens) (q .given z)
+            ∙ ap (λ (o : List ℕ). pick o ds) the-order
+            ∙ sym (ap (λ (b : Answer). b .lens) (p .given e));
+        order = ap (λ (b : Answer). numberBy r release (b .order)) (q .given z) ∙ one;
+        words = chain-once ds axes c (subst (λ (o : List ℕ). Laid ds o xs zs) the-order (q .block .words z)) (laid-out axes p e);
+      }
+
+-- in release 1 it is the number that was answered
 module _ {r : ℕ} {ds c xs ss ss′ : List ℕ} {a a′ : Answer} {ys ts zs us : List ℕ} (axes : length ds ≡ r) (p : ChainPromise r ds c xs ss a ys ts)
-    (q : RequestPromise r ds (a .order) xs ss′ a′ zs us) (e : a .number ≡ 0) (room : planNeed r ds (a .order) ≤ length ss′) where
+    (q : RequestPromise r ds 1 (a .order) xs ss′ a′ zs us) (e : a .number ≡ 0) where
   low : a .order < orderCount r
   low = rw (ap (λ (b : Answer). b .order) (p .given e)) (number-below r c)
 
-  asked-accepted : a′ .number ≡ 0
-  asked-accepted =
-      let need = check 4 (shortScratch (planNeed r ds (a .order)) ss′) ∷ [] in
-      let silent : Silent (planChecks r (a .order) ++ need) =
-      Silent.more (le-ltb (orderCount r - 1) (a .order) (omega (arith, low)))
-      (Silent.more (le-ltb (length ss′) (planNeed r ds (a .order)) room) Silent.none) in
-      q .block .number-is ∙ by-last ds xs (planChecks r (a .order) ++ need) (sym (block-zero (ran axes p e .block))) refl ∙ silent-zero silent
+  pub enough-asked : planNeed r ds 1 (a .order) ≤ chainNeed ds c
+  enough-asked = enough-by axes p q e refl low (by-first r (a .order) low)
 
-  -- scratch that was enough for the chain is enough for the request
-  pub enough-asked : planNeed r ds (a .order) ≤ chainNeed ds c
-  enough-asked = rw (new-order axes p e) (plan-least ds c axes)
-
-  pub one-meaning : (a′ .number ≡ 0) × Alike a a′ ys zs
-  one-meaning = (
-    asked-accepted,
-    record {
-      lengths = ap (λ (b : Answer). b .lens) (q .given asked-accepted)
-          ∙ ap (λ (o : List ℕ). pick o ds) (new-order axes p e)
-          ∙ sym (ap (λ (b : Answer). b .lens) (p .given e));
-      order = ap (λ (b : Answer). b .order) (q .given asked-accepted);
-      words = chain-once ds axes c
-          (subst (λ (o : List ℕ). Laid ds o xs zs) (new-order axes p e) (q .block .words asked-accepted))
-          (laid-out axes p e);
-    },
-  )
+  pub one-meaning : planNeed r ds 1 (a .order) ≤ length ss′ → (a′ .number ≡ 0) × Alike a a′ ys zs
+  one-meaning room =
+      let m = one-meaning-by axes p q e refl low (by-first r (a .order) low) room in
+      (m .accepts, record { lengths = m .lengths; order = ap (λ (b : Answer). b .order) (q .given (m .accepts)); words = m .words })
 
 -- what was promised through one scratch is promised through another, where the checks say the same of both
 other-scratch : {checks checks′ : List Check} {needed : ℕ} {Right : List ℕ → Type 0} {xs ss : List ℕ} (ss′ : List ℕ) {n : ℕ} {ys ts : List ℕ}
@@ -240,20 +264,40 @@ other-scratch {needed = needed} ss′ {n = n} same p =
     ))
     (eq-or-ne n 0)
 
+-- two requests of one number, each through its own scratch, both enough
+request-words : {r : ℕ} {ds xs ss ss′ : List ℕ} {release k : ℕ} {a a′ : Answer} {ys ts zs us : List ℕ} → length ds ≡ r
+    → RequestPromise r ds release k xs ss a ys ts → RequestPromise r ds release k xs ss′ a′ zs us → planNeed r ds release k ≤ length ss
+    → planNeed r ds release k ≤ length ss′ → (a ≡ a′) × (ys ≡ zs)
+request-words {r} {ds} {xs} {ss} {ss′} {release} {k} axes q d h h′ =
+    let same : firstOf (requestChecks r ds xs ss′ release k) ≡ firstOf (requestChecks r ds xs ss release k) =
+    rw (le-ltb (length ss) (planNeed r ds release k) h, le-ltb (length ss′) (planNeed r ds release k) h′) in
+    let (vs, block) = other-scratch ss same (d .block) in
+    let one = request-once axes q (record { block = block; given = d .given; refusal = d .refusal }) in
+    (one .0, one .1)
+
 -- a request of a number leaves exactly what the chain of its plan leaves, answer and both slices, refused or not, where no plan is longer
 -- than a chain may be
 module _ {r : ℕ} {ds xs ss : List ℕ} {k : ℕ} {plan : Planned} {a a′ : Answer} {ys ts zs us : List ℕ} (axes : length ds ≡ r)
-    (few : planPlaces r ≤ 32) (p : PlanPromise r k plan) (z : plan .number ≡ 0) (q : RequestPromise r ds k xs ss a ys ts) where
+    (few : planPlaces r ≤ 32) (p : PlanPromise r k plan) (z : plan .number ≡ 0) (q : RequestPromise r ds 1 k xs ss a ys ts) where
   pub plan-leaves : ChainPromise r ds (take (plan .len) (plan .swaps)) xs ss a′ zs us → (a ≡ a′) × (ys ≡ zs) × (ts ≡ us)
   plan-leaves c = request-once axes q (request-of-chain few p z c)
 
   -- and answer and words also where each has its own scratch, both enough
-  pub plan-leaves-words : {ss′ : List ℕ} → ChainPromise r ds (take (plan .len) (plan .swaps)) xs ss′ a′ zs us → planNeed r ds k ≤ length ss
-      → planNeed r ds k ≤ length ss′ → (a ≡ a′) × (ys ≡ zs)
-  plan-leaves-words {ss′} c h h′ =
-      let d = request-of-chain few p z c in
-      let same : firstOf (requestChecks r ds xs ss′ k) ≡ firstOf (requestChecks r ds xs ss k) =
-      rw (le-ltb (length ss) (planNeed r ds k) h, le-ltb (length ss′) (planNeed r ds k) h′) in
-      let (vs, block) = other-scratch ss same (d .block) in
-      let one = request-once axes q (record { block = block; given = d .given; refusal = d .refusal }) in
-      (one .0, one .1)
+  pub plan-leaves-words : {ss′ : List ℕ} → ChainPromise r ds (take (plan .len) (plan .swaps)) xs ss′ a′ zs us → planNeed r ds 1 k ≤ length ss
+      → planNeed r ds 1 k ≤ length ss′ → (a ≡ a′) × (ys ≡ zs)
+  plan-leaves-words c h h′ = request-words axes q (request-of-chain few p z c) h h′
+
+-- either release: a request leaves what the request for the release 1 number of its order leaves, and what the chain of that order's plan leaves;
+-- all but the number in the answer, which is the one that was asked for
+module _ {r : ℕ} {ds xs ss : List ℕ} (release : ℕ) {k : ℕ} {a a′ : Answer} {ys ts zs us : List ℕ} (axes : length ds ≡ r)
+    (known : noRelease release ≡ false) (low : k < orderCount r) (q : RequestPromise r ds release k xs ss a ys ts) where
+  pub releases-agree : RequestPromise r ds 1 (numberBy r release k) xs ss a′ zs us → (a ≡ askedFor k a′) × (ys ≡ zs) × (ts ≡ us)
+  releases-agree p = request-once axes q (request-by r release k known low p)
+
+  module _ {plan : Planned} (few : planPlaces r ≤ 32) (p : PlanPromise r (numberBy r release k) plan) (z : plan .number ≡ 0) where
+    pub plan-leaves-by : ChainPromise r ds (take (plan .len) (plan .swaps)) xs ss a′ zs us → (a ≡ askedFor k a′) × (ys ≡ zs) × (ts ≡ us)
+    plan-leaves-by c = releases-agree (request-of-chain few p z c)
+
+    pub plan-leaves-words-by : {ss′ : List ℕ} → ChainPromise r ds (take (plan .len) (plan .swaps)) xs ss′ a′ zs us
+        → planNeed r ds release k ≤ length ss → planNeed r ds release k ≤ length ss′ → (a ≡ askedFor k a′) × (ys ≡ zs)
+    plan-leaves-words-by c h h′ = request-words axes q (request-by r release k known low (request-of-chain few p z c)) h h′

@@ -1,3 +1,5 @@
+-- a row of a table of the orders
+pub mod Rows
 -- the checks of a block and of a chain as facts, and that an accepted block stays accepted after a chain
 pub mod Accepted
 -- a swap of two neighbouring axes, over any number of axes, is a swap in the middle of four

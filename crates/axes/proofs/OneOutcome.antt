@@ -7,9 +7,10 @@ use Prim.Native.Nat.{ℕ, _<_}
 use lib.ListN.{length}
 use Rattle.lists.proofs.Decide.{eq-or-ne}
 use Rattle.layout.specs.Layout.{Laid}
-use Rattle.orders.specs.Numbers.{orderCount, orderOf}
+use Rattle.orders.specs.Numbers.{orderCount}
+use Rattle.orders.specs.Releases.{orderBy}
 use Rattle.orders.proofs.Layouts as layouts
-use Rattle.orders.proofs.Numbers.{order-named}
+use Rattle.orders.proofs.Releases.{by-named}
 use Rattle.refusals.specs.FirstOf.{Check, firstOf}
 use Rattle.refusals.specs.Promise.{Rearranged}
 use Rattle.refusals.proofs.Promise.{one-outcome}
@@ -35,10 +36,11 @@ chain-once {r} {ds} {chain} axes p q =
       scratch,
     )
 
--- two layouts under the order with a number
-once : {r : ℕ} {ds xs ys zs : List ℕ} (order : ℕ) → length ds ≡ r → order < orderCount r → Laid ds (orderOf r order) xs ys → Laid ds (orderOf r order) xs zs → ys ≡ zs
-once {r} {ds} {xs} {ys} {zs} order axes h f g =
-    let (c, e) = order-named r order h in
+-- two layouts under the order that a number names by its release
+once : {r : ℕ} {ds xs ys zs : List ℕ} (release order : ℕ) → length ds ≡ r → order < orderCount r → Laid ds (orderBy r release order) xs ys
+    → Laid ds (orderBy r release order) xs zs → ys ≡ zs
+once {r} {ds} {xs} {ys} {zs} release order axes h f g =
+    let (c, e) = by-named r order h release in
     layouts.chain-once ds axes c (subst (λ (o : List ℕ). Laid ds o xs ys) (sym e) f) (subst (λ (o : List ℕ). Laid ds o xs zs) (sym e) g)
 
 -- the right words, and that none of the checks holds
@@ -51,11 +53,11 @@ with-checks p = record {
   kept = p .kept;
 }
 
-pub request-once : {r : ℕ} {ds : List ℕ} {order : ℕ} {xs ss : List ℕ} → length ds ≡ r → {a a′ : Answer} {ys ys′ ts ts′ : List ℕ}
-    → RequestPromise r ds order xs ss a ys ts → RequestPromise r ds order xs ss a′ ys′ ts′ → (a ≡ a′) × (ys ≡ ys′) × (ts ≡ ts′)
-request-once {r} {ds} {order} {xs} {ss} axes p q =
+pub request-once : {r : ℕ} {ds : List ℕ} {release order : ℕ} {xs ss : List ℕ} → length ds ≡ r → {a a′ : Answer} {ys ys′ ts ts′ : List ℕ}
+    → RequestPromise r ds release order xs ss a ys ts → RequestPromise r ds release order xs ss a′ ys′ ts′ → (a ≡ a′) × (ys ≡ ys′) × (ts ≡ ts′)
+request-once {r} {ds} {release} {order} {xs} {ss} axes p q =
     let (number, words, scratch) =
-    one-outcome (λ ys zs f g. once order axes (request-order r ds xs ss order (f .1)) (f .0) (g .0)) (with-checks (p .block)) (with-checks (q .block)) in (
+    one-outcome (λ ys zs f g. once release order axes (request-order r ds xs ss release order (f .1)) (f .0) (g .0)) (with-checks (p .block)) (with-checks (q .block)) in (
       either-way number
           (λ e e′. p .given e ∙ sym (q .given e′))
           (λ n n′. p .refusal n ∙ ap (λ (k : ℕ). refused r k 0) number ∙ sym (q .refusal n′)),

@@ -5,7 +5,8 @@ use Prim.Native.Nat.{ℕ}
 use lib.ListN.{length}
 use Rattle.layout.specs.Layout.{pick, Laid}
 use Rattle.orders.specs.Chains.{named}
-use Rattle.orders.specs.Numbers.{orderOf, numberOf}
+use Rattle.orders.specs.Numbers.{numberOf}
+use Rattle.orders.specs.Releases.{orderBy}
 use Rattle.orders.specs.Plans.{planOf}
 use Rattle.orders.specs.Needs.{chainNeed, planNeed}
 use Rattle.refusals.specs.FirstOf.{firstOf}
@@ -21,14 +22,14 @@ pub record ChainPromise (r : ℕ) (ds chain buffer₀ scratch₀ : List ℕ) (a 
   pub given : a .number ≡ 0 → a ≡ accepted (pick (named r chain) ds) (numberOf r (named r chain)) (length chain)
   pub refusal : (a .number ≡ 0 → ⊥) → a ≡ refused r (a .number) (refusedPlace r (a .number) chain)
 
--- the direct request for an order: the answer is a chain's, with the number asked for and the length of its plan
-pub record RequestPromise (r : ℕ) (ds : List ℕ) (order : ℕ) (buffer₀ scratch₀ : List ℕ) (a : Answer) (buffer scratch : List ℕ) : Type 0 where
-  pub block : Rearranged (requestChecks r ds buffer₀ scratch₀ order) (planNeed r ds order) (Laid ds (orderOf r order) buffer₀) buffer₀ scratch₀ (a .number) buffer scratch
-  pub given : a .number ≡ 0 → a ≡ accepted (pick (orderOf r order) ds) order (length (planOf (orderOf r order)))
+-- the direct request for the order that a number names by its release: the answer is a chain's, with the number asked for and the length of its plan
+pub record RequestPromise (r : ℕ) (ds : List ℕ) (release order : ℕ) (buffer₀ scratch₀ : List ℕ) (a : Answer) (buffer scratch : List ℕ) : Type 0 where
+  pub block : Rearranged (requestChecks r ds buffer₀ scratch₀ release order) (planNeed r ds release order) (Laid ds (orderBy r release order) buffer₀) buffer₀ scratch₀ (a .number) buffer scratch
+  pub given : a .number ≡ 0 → a ≡ accepted (pick (orderBy r release order) ds) order (length (planOf (orderBy r release order)))
   pub refusal : (a .number ≡ 0 → ⊥) → a ≡ refused r (a .number) 0
 
--- the plan for an order
+-- the plan for an order, whose number is read in release 1
 pub record PlanPromise (r order : ℕ) (p : Planned) : Type 0 where
   pub number-is : p .number ≡ firstOf (planChecks r order)
-  pub given : p .number ≡ 0 → p ≡ plannedAs r (planOf (orderOf r order))
+  pub given : p .number ≡ 0 → p ≡ plannedAs r (planOf (orderBy r 1 order))
   pub refusal : (p .number ≡ 0 → ⊥) → p ≡ noPlan r (p .number)

@@ -2,6 +2,7 @@
 ghost use mathlib.Core.Path.{_≡_};
 ghost use Rattle.orders.specs.Chains.{exchange};
 ghost use Rattle.axes.specs.Answers.{refused};
+ghost use Rattle.axes.specs.Asked.{askedFor};
 ghost use Rattle.axes.specs.Promises.{ChainPromise, RequestPromise, PlanPromise};
 
 mod chains;
@@ -80,6 +81,23 @@ fn refusal(number: u32, place: usize) -> Answer
     }
 }
 
+// The answer of a chain as that of the request for an order: the number that was asked for in the place of the one that the chain names.
+fn asked(done: Answer, order: usize) -> Answer
+    ensures { λ r. ⌜ r ≡ askedFor order done ⌝ }
+{
+    if done.number != 0 {
+        return done;
+    }
+    let lens = done.lens;
+    Answer {
+        number: 0,
+        place: done.place,
+        lens: lens,
+        order: order,
+        swaps: done.swaps,
+    }
+}
+
 // A chain of swaps on a block, through scratch as long as the longest axis that it exchanges: 0, or 1, 2, 3, 13, 5, 6, 4.
 pub fn chain(buf: &mut [u32], scratch: &mut [u32], shape: Shape, swaps: &[usize]) -> Answer
     ensures { λ r. ⌜ ChainPromise 4 (shape .lens) (now (swaps .entry)) (now (buf .entry)) (now (scratch .entry)) r (now (buf .exit)) (now (scratch .exit)) ⌝ }
@@ -96,20 +114,29 @@ pub fn chain(buf: &mut [u32], scratch: &mut [u32], shape: Shape, swaps: &[usize]
     chains::run(buf, scratch, shape, swaps)
 }
 
-// The direct request for an order by its number, which runs its plan and needs what its plan needs: 0, or 1, 2, 3, 13, 7, 4.
-pub fn request(buf: &mut [u32], scratch: &mut [u32], shape: Shape, order: usize) -> Answer
-    ensures { λ r. ⌜ RequestPromise 4 (shape .lens) order (now (buf .entry)) (now (scratch .entry)) r (now (buf .exit)) (now (scratch .exit)) ⌝ }
+// The direct request for the order that a number names by its release, which runs that order's plan and needs what the plan needs: 0, or 1, 2, 3, 13,
+// 14, 7, 4. It answers the number that it was given.
+pub fn request(
+    buf: &mut [u32],
+    scratch: &mut [u32],
+    shape: Shape,
+    release: usize,
+    order: usize,
+) -> Answer
+    ensures { λ r. ⌜ RequestPromise 4 (shape .lens) release order (now (buf .entry)) (now (scratch .entry)) r (now (buf .exit)) (now (scratch .exit)) ⌝ }
 {
     let lens = shape.lens;
     let number = checks::block_number(&lens, buf);
     if number != 0 {
         return refusal(number, 0);
     }
-    let planned = plan(order);
-    if planned.number != 0 {
-        return refusal(planned.number, 0);
+    let unnamed = checks::named_number(release, order);
+    if unnamed != 0 {
+        return refusal(unnamed, 0);
     }
+    let planned = plan(tables::number_by(release, order));
     let swaps = planned.swaps;
     let count = planned.len;
-    chain(buf, scratch, shape, &swaps[..count])
+    let done = chain(buf, scratch, shape, &swaps[..count]);
+    asked(done, order)
 }

@@ -1,9 +1,10 @@
-// The orders of four axes and their successors, as tables.
+// The orders of four axes, their successors and their inverses, as tables.
 use crate::plans::Order;
 ghost use mathlib.Core.Path.{_≡_};
 ghost use Prim.Native.Nat.{_<_};
 ghost use Rattle.orders.specs.Chains.{exchange};
 ghost use Rattle.orders.specs.Numbers.{orderOf, numberOf};
+ghost use Rattle.orders.specs.Releases.{numberBy};
 
 // The 24 orders in dictionary order: which axis stands at each place.
 const ORDERS: [[usize; 4]; 24] = [
@@ -61,6 +62,34 @@ const NEXT: [[usize; 3]; 24] = [
     [17, 21, 22],
 ];
 
+// For each order, the number of the order that undoes it.
+const INVERSE: [usize; 24] = [
+    0,
+    1,
+    2,
+    4,
+    3,
+    5,
+    6,
+    7,
+    12,
+    18,
+    13,
+    19,
+    8,
+    10,
+    14,
+    20,
+    16,
+    22,
+    9,
+    11,
+    15,
+    21,
+    17,
+    23,
+];
+
 // The order with a number.
 pub(crate) fn order_of(order: usize) -> Order
     requires { ⌜ order < 24 ⌝ }
@@ -76,4 +105,15 @@ pub(crate) fn next_order(order: usize, k: usize) -> usize
     ensures { λ r. ⌜ r ≡ numberOf 4 (exchange k (orderOf 4 order)) ⌝ }
 {
     NEXT[order][k]
+}
+
+// The release 1 number of the order that a number names by its release.
+pub(crate) fn number_by(release: usize, order: usize) -> usize
+    requires { ⌜ order < 24 ⌝ }
+    ensures { λ r. ⌜ (r ≡ numberBy 4 release order) × (r < 24) ⌝ }
+{
+    if release == 2 {
+        return INVERSE[order];
+    }
+    order
 }

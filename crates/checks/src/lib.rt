@@ -5,8 +5,8 @@ ghost use lib.Dec.{ltb};
 ghost use Rattle.layout.specs.Layout.{volume};
 ghost use Rattle.orders.specs.Needs.{exchanged, chainNeed};
 ghost use Rattle.refusals.specs.FirstOf.{firstOf};
-ghost use Rattle.refusals.specs.Conditions.{outOfRange, badLength, longest, firstPlace};
-ghost use Rattle.refusals.specs.Calls.{sizeChecks, blockChecks, passesChecks};
+ghost use Rattle.refusals.specs.Conditions.{outOfRange, badLength, longest, firstPlace, noRelease};
+ghost use Rattle.refusals.specs.Calls.{sizeChecks, blockChecks, passesChecks, namedChecks};
 ghost use Rattle.checks.specs.Words.{capped};
 
 // Whether no axis may have this length: 0 or above 4,096.
@@ -162,6 +162,29 @@ pub fn passes_number(lens: &[usize], buf: &[u32], scratch: &[u32]) -> u32
     let need = longest_of(lens);
     if scratch.len() < need {
         return 4;
+    }
+    0
+}
+
+// Whether a release is neither 1 nor 2.
+fn no_release(release: usize) -> bool
+    ensures { λ r. ⌜ r ≡ noRelease release ⌝ }
+{
+    if release == 1 {
+        return false;
+    }
+    release != 2
+}
+
+// The first of the checks 14 and 7 of an order number of four axes and its release that holds, else 0.
+pub fn named_number(release: usize, order: usize) -> u32
+    ensures { λ r. ⌜ r ≡ firstOf (namedChecks 4 release order) ⌝ }
+{
+    if no_release(release) {
+        return 14;
+    }
+    if 23 < order {
+        return 7;
     }
     0
 }

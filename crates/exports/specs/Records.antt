@@ -28,7 +28,7 @@ planned r = record { number = r .number; swaps = r .swaps; len = r .len }
 abbrev pub sheetRead : Sheet → Below-Sheet
 sheetRead r = record { number = r .number; place = r .place; lens = r .lens; swaps = r .swaps; count = r .count }
 
--- what the sheet writer answers
+-- what the sheet writers answer
 abbrev pub sheetWritten : Written → Below-Written
 sheetWritten r = record { number = r .number; count = r .count }
 
@@ -38,7 +38,7 @@ homeAfter r = record { number = r .number; count = r .count }
 
 -- what the reader of result sheets answers
 abbrev pub resultRead : ResultSheet → Below-ResultSheet
-resultRead r = record { number = r .number; place = r .place; lens = r .lens; order = r .order }
+resultRead r = record { number = r .number; place = r .place; lens = r .lens; release = r .release; order = r .order }
 
 -- what the count of a turn's lines answers
 abbrev pub linesCounted : Lines → Below-Lines

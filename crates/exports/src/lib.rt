@@ -4,7 +4,7 @@ ghost use Rattle.halves.specs.Promise.{TurnPromise as HalvesPromise};
 ghost use Rattle.axes.specs.Promises.{ChainPromise, RequestPromise, PlanPromise};
 ghost use Rattle.sheet.specs.Reader.{ReadAs};
 ghost use Rattle.sheet.specs.ResultReader.{ResultReadAs};
-ghost use Rattle.printer.specs.Writer.{WrittenAs};
+ghost use Rattle.printer.specs.Writer.{WrittenAs, ReleaseWrittenAs};
 ghost use Rattle.job.specs.Job.{Done};
 ghost use Rattle.home.specs.Promise.{RepeatsPromise};
 ghost use Rattle.cameras.specs.Promises.{RemovePromise, AddPromise};
@@ -70,6 +70,7 @@ pub struct ResultSheet {
     pub number: u32,
     pub place: usize,
     pub lens: [usize; 4],
+    pub release: usize,
     pub order: usize,
 }
 
@@ -133,18 +134,19 @@ pub extern "C" fn zib_chain(
     }
 }
 
-// The direct request for an order of four axes, by its number.
+// The direct request for the order of four axes that a number names by its release.
 #[no_mangle]
 pub extern "C" fn zib_request(
     buf: &mut [u32],
     scratch: &mut [u32],
     shape: Shape,
+    release: usize,
     order: usize,
 ) -> Answer
-    ensures { λ r. ⌜ RequestPromise 4 (shape .lens) order (now (buf .entry)) (now (scratch .entry)) (answered r) (now (buf .exit)) (now (scratch .exit)) ⌝ }
+    ensures { λ r. ⌜ RequestPromise 4 (shape .lens) release order (now (buf .entry)) (now (scratch .entry)) (answered r) (now (buf .exit)) (now (scratch .exit)) ⌝ }
 {
     let entry = shape.lens;
-    let a = axes::request(buf, scratch, axes::Shape { lens: entry }, order);
+    let a = axes::request(buf, scratch, axes::Shape { lens: entry }, release, order);
     let lens = a.lens;
     Answer {
         number: a.number,
@@ -297,7 +299,27 @@ pub extern "C" fn zib_read_result(bytes: &[u8], words: &mut [u32]) -> ResultShee
         number: s.number,
         place: s.place,
         lens: lens,
+        release: s.release,
         order: s.order,
+    }
+}
+
+// Writes the result sheet of a block, with the release of its order number, into a byte buffer.
+#[no_mangle]
+pub extern "C" fn zib_write_release(
+    shape: Shape,
+    release: usize,
+    order: usize,
+    words: &[u32],
+    out: &mut [u8],
+) -> Written
+    ensures { λ r. ⌜ ReleaseWrittenAs (shape .lens) release order (now (words .entry)) (now (out .entry)) (sheetWritten r) (now (out .exit)) ⌝ }
+{
+    let lens = shape.lens;
+    let w = printer::write_release(lens, release, order, words, out);
+    Written {
+        number: w.number,
+        count: w.count,
     }
 }
 

@@ -145,12 +145,12 @@ module _ {bytes words scratch out : List ℕ} {r : Sheet} {words₁ ws : List �
   text = resultText (pick order ds) (numberOf 4 order) words₂
 
   text-fits : length text ≤ 16384
-  text-fits = result-fits (pick order ds) (numberOf 4 order) words₂ (length-pick order ds ∙ length-named 4 (swapsOf r)) good-lengths few
+  text-fits = result-fits (pick order ds) 0 (numberOf 4 order) words₂ (length-pick order ds ∙ length-named 4 (swapsOf r)) good-lengths few
 
   -- the writer never refuses
   writes : writerNumber (pick order ds) (numberOf 4 order) words₂ out ≡ 0
   writes =
-      number-0 {words = words₂} (record { lengths = good-lengths; few = few; enough = omega (arith, few, as-many) }) (numberOf 4 order) out
+      number-0 (pick order ds) (numberOf 4 order) words₂ out (record { lengths = good-lengths; few = few; enough = omega (arith, few, as-many) })
       (omega (arith, number-below 4 (swapsOf r))) (omega (arith, text-fits))
 
   promised : WrittenAs (pick order ds) (numberOf 4 order) words₂ out w out′

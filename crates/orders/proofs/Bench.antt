@@ -1,10 +1,12 @@
--- What documents 01 and 02 say of single orders and chains of four axes: numbers, plans, orders that chains name, needs. Computed, each table
+-- What documents 01 and 02 say of single orders and chains of four axes: numbers by their release, plans, orders that chains name, needs. Computed, each table
 -- as one statement.
 use mathlib.Core.Path.{_≡_, refl}
 use mathlib.Core.List.{[], _∷_, map}
-use Rattle.layout.specs.Layout.{placeOf}
+use Rattle.lists.specs.Tab.{upto}
+use Rattle.layout.specs.Layout.{placeOf, places}
 use Rattle.orders.specs.Chains.{exchange, follow, named}
 use Rattle.orders.specs.Numbers.{arrangements, orders, orderOf, rank, numberOf}
+use Rattle.orders.specs.Releases.{numberBy}
 use Rattle.orders.specs.Plans.{under, falling, relabelled, firstBack, planned, planOf}
 use Rattle.orders.specs.Needs.{exchanged, chainNeed}
 
@@ -32,3 +34,9 @@ pub needs-4 : map (chainNeed (4096 ∷ 1 ∷ 2 ∷ 3 ∷ []))
     ≡ 3 ∷ 0 ∷ 2 ∷ 4096 ∷ 3 ∷ 3 ∷ 4096 ∷ []
 unfolding exchange exchanged chainNeed
 needs-4 = refl
+
+-- the release 1 numbers of the orders that the numbers 0 to 23 name in release 2: 18 for 9 and 9 for 18
+pub releases-4 : map (numberBy 4 2) (upto 24)
+    ≡ 0 ∷ 1 ∷ 2 ∷ 4 ∷ 3 ∷ 5 ∷ 6 ∷ 7 ∷ 12 ∷ 18 ∷ 13 ∷ 19 ∷ 8 ∷ 10 ∷ 14 ∷ 20 ∷ 16 ∷ 22 ∷ 9 ∷ 11 ∷ 15 ∷ 21 ∷ 17 ∷ 23 ∷ []
+unfolding arrangements orders orderOf rank numberOf placeOf places
+releases-4 = refl

@@ -26,3 +26,5 @@ pub mod Plans
 pub mod Needs
 -- the need of a plan is the longest axis that falls, no chain of its order needs less, and the inverse order needs the same
 pub mod PlanNeeds
+-- the order that a number names by its release: both releases describe the same words, the numbers determine each other, needs and plans are alike
+pub mod Releases

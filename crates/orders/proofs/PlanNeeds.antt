@@ -169,7 +169,7 @@ pair-counts ds a b (x ∷ l) h c =
     (eq-or-ne x a)
 
 -- chains that name one order, run backwards, name one order
-backwards-one : (r : ℕ) (c d : List ℕ) → named r c ≡ named r d → named r (reverse c) ≡ named r (reverse d)
+pub backwards-one : (r : ℕ) (c d : List ℕ) → named r c ≡ named r d → named r (reverse c) ≡ named r (reverse d)
 backwards-one r c d e = sym (places-undo (undoes r c)) ∙ ap places e ∙ places-undo (undoes r d)
 
 -- over any number of axes, on a shape with as many lengths
@@ -246,8 +246,8 @@ module _ {r : ℕ} where
 
 -- the same of orders by number
 module _ (r k : ℕ) (h : k < orderCount r) (ds : List ℕ) (e : length ds ≡ r) where
-  pub number-need : planNeed r ds k ≡ longestFalling ds (orderOf r k)
+  pub number-need : planNeed r ds 1 k ≡ longestFalling ds (orderOf r k)
   number-need = let (c, q) = order-named r k h in rw q at (plan-need ds c e)
 
-  pub number-least : (c : List ℕ) → named r c ≡ orderOf r k → planNeed r ds k ≤ chainNeed ds c
+  pub number-least : (c : List ℕ) → named r c ≡ orderOf r k → planNeed r ds 1 k ≤ chainNeed ds c
   number-least c q = rw q at (plan-least ds c e)

@@ -1,4 +1,5 @@
 pub mod Chains
 pub mod Numbers
+pub mod Releases
 pub mod Plans
 pub mod Needs

@@ -5,7 +5,7 @@ use Prim.Native.Nat.{ℕ, zero, suc, max}
 use lib.Dec.{ltb}
 use lib.ListN.{getD}
 use Rattle.orders.specs.Chains.{exchange}
-use Rattle.orders.specs.Numbers.{orderOf}
+use Rattle.orders.specs.Releases.{orderBy}
 use Rattle.orders.specs.Plans.{planOf}
 
 -- the longer of the two axes that swap k exchanges; 0 where the shape does not have these places
@@ -25,9 +25,9 @@ unfoldable pub entryNeed : List ℕ → List ℕ → ℕ
 entryNeed ds [] = 0
 entryNeed ds (k ∷ chain) = max (exchanged k ds) (entryNeed ds chain)
 
--- a direct request for an order of r axes needs what its plan needs
-abbrev pub planNeed : ℕ → List ℕ → ℕ → ℕ
-planNeed r ds order = chainNeed ds (planOf (orderOf r order))
+-- a direct request for the order of r axes that a number names by its release needs what its plan needs
+abbrev pub planNeed : ℕ → List ℕ → ℕ → ℕ → ℕ
+planNeed r ds release k = chainNeed ds (planOf (orderBy r release k))
 
 -- the longest axis among those that stand in falling order with axis a, which stands before them
 unfoldable pub longestUnder : List ℕ → ℕ → List ℕ → ℕ

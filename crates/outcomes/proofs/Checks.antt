@@ -13,7 +13,7 @@ use Rattle.orders.specs.Chains.{exchange}
 use Rattle.orders.specs.Needs.{exchanged, chainNeed}
 use Rattle.refusals.specs.FirstOf.{firstOf}
 use Rattle.refusals.specs.Conditions.{longest, firstPlace}
-use Rattle.refusals.specs.Calls.{sizeChecks, blockChecks, passesChecks}
+use Rattle.refusals.specs.Calls.{sizeChecks, blockChecks, passesChecks, namedChecks}
 use Rattle.checks.specs.Words.{capped}
 use Rattle.checks.proofs.bad_length.Kinds as bad-length-kinds
 use Rattle.checks.proofs.bad_length.Reads as bad-length
@@ -31,6 +31,8 @@ use Rattle.checks.proofs.block_number.Kinds as block-number-kinds
 use Rattle.checks.proofs.block_number.Reads as block-number
 use Rattle.checks.proofs.passes_number.Kinds as passes-number-kinds
 use Rattle.checks.proofs.passes_number.Reads as passes-number
+use Rattle.checks.proofs.named_number.Kinds as named-number-kinds
+use Rattle.checks.proofs.named_number.Reads as named-number
 use Rattle.outcomes.proofs.Wrong.{other-number, other-list}
 
 pub bad-length-once : (κs : Lfts 1) (a : Dens κs bad-length-kinds.ps) (r r′ : Bool) (s s′ : AtExit (endedOf 1 bad-length-kinds.ps bad-length-kinds.r) κs)
@@ -64,6 +66,10 @@ block-number-once κs a r r′ s s′ p q = p ∙ sym q
 pub passes-number-once : (κs : Lfts 3) (a : Dens κs passes-number-kinds.ps) (r r′ : ℕ) (s s′ : AtExit (endedOf 3 passes-number-kinds.ps passes-number-kinds.r) κs)
     → passes-number.Post κs a r s → passes-number.Post κs a r′ s′ → r ≡ r′
 passes-number-once κs a r r′ s s′ p q = p ∙ sym q
+
+pub named-number-once : (κs : Lfts 0) (a : Dens κs named-number-kinds.ps) (r r′ : ℕ) (s s′ : AtExit (endedOf 0 named-number-kinds.ps named-number-kinds.r) κs)
+    → named-number.Post κs a r s → named-number.Post κs a r′ s′ → r ≡ r′
+named-number-once κs a r r′ s s′ p q = p ∙ sym q
 
 -- 2 by 3 words counted as five; the longest of 1, 3, 2 taken for the last; 4,096 words of scratch for a chain that exchanges 2 and 3
 pub a-word-lost : capped (volume (2 ∷ 3 ∷ [])) ≡ 5 → ⊥
@@ -102,6 +108,13 @@ longer-buffer-accepted p = other-number p tt
 pub four-before-thirteen : firstOf (passesChecks (1 ∷ 2 ∷ []) (0 ∷ 1 ∷ 2 ∷ []) []) ≡ 4 → ⊥
 unfolding volume
 four-before-thirteen p = other-number p tt
+
+-- 7 before 14; release 0 accepted
+pub seven-before-fourteen : firstOf (namedChecks 4 3 24) ≡ 7 → ⊥
+seven-before-fourteen p = other-number p tt
+
+pub release-0-accepted : firstOf (namedChecks 4 0 9) ≡ 0 → ⊥
+release-0-accepted p = other-number p tt
 
 -- a shape that stays as it was
 pub swapped-moves-nothing : {lengths : List ℕ} → lengths ≡ exchange 0 (1 ∷ 2 ∷ 3 ∷ 4 ∷ []) → lengths ≡ 1 ∷ 2 ∷ 3 ∷ 4 ∷ [] → ⊥

@@ -62,6 +62,8 @@ use Rattle.exports.proofs.zib_lines.Kinds as lines-kinds
 use Rattle.exports.proofs.zib_lines.Reads as lines
 use Rattle.exports.proofs.zib_read_result.Kinds as read-result-kinds
 use Rattle.exports.proofs.zib_read_result.Reads as read-result
+use Rattle.exports.proofs.zib_write_release.Kinds as write-release-kinds
+use Rattle.exports.proofs.zib_write_release.Reads as write-release
 
 -- a record of the interface from that of the call below, field by field
 abbrev as-answer : Below-Answer → Answer
@@ -80,7 +82,7 @@ abbrev as-lines : Below-Lines → Lines
 as-lines r = record { number = r .number; count = r .count }
 
 abbrev as-result : Below-ResultSheet → ResultSheet
-as-result r = record { number = r .number; place = r .place; lens = r .lens; order = r .order }
+as-result r = record { number = r .number; place = r .place; lens = r .lens; release = r .release; order = r .order }
 
 abbrev as-wrote : Below-Written → Written
 as-wrote r = record { number = r .number; count = r .count }
@@ -148,3 +150,7 @@ from-tiles-once κs a r r′ s s′ p q = tiles.from-tiles-once (a .1 .1 .0) (a 
 pub read-result-once : (κs : Lfts 2) (a : Dens κs read-result-kinds.ps) (r r′ : ResultSheet) (s s′ : AtExit (endedOf 2 read-result-kinds.ps read-result-kinds.r) κs)
     → read-result.Post κs a r s → read-result.Post κs a r′ s′ → (r ≡ r′) × (s .1 .0 .now ≡ s′ .1 .0 .now)
 read-result-once κs a r r′ s s′ p q = let e = sheets.read-result-once p q in (ap as-result (e .0), e .1)
+
+pub write-release-once : (κs : Lfts 2) (a : Dens κs write-release-kinds.ps) (r r′ : Written) (s s′ : AtExit (endedOf 2 write-release-kinds.ps write-release-kinds.r) κs)
+    → write-release.Post κs a r s → write-release.Post κs a r′ s′ → (r ≡ r′) × (s .1 .1 .1 .1 .0 .now ≡ s′ .1 .1 .1 .1 .0 .now)
+write-release-once κs a r r′ s s′ p q = let e = prints.write-release-once p q in (ap as-wrote (e .0), e .1)

@@ -9,6 +9,8 @@ pub mod Checks
 pub mod Methods
 -- demand 3 about the contract of the chain as the checker reads it
 pub mod Demand3
+-- both releases about the contract of the direct request as the checker reads it
+pub mod Releases
 -- result sheets come back: what is written reads back the same, and what is read is what would be written
 pub mod ResultSheets
 -- what a wrong outcome runs into
@@ -25,6 +27,8 @@ pub mod RefutedRead
 pub mod RefutedResult
 pub mod RefutedWrite
 pub mod RefutedJob
+-- the release of an order number: wrong outcomes of the direct request and of the writer
+pub mod RefutedRelease
 -- the count of repeats: one outcome, and wrong ones refuted
 pub mod Repeats
 -- one line a tick and the count of lines: one outcome, and wrong ones refuted

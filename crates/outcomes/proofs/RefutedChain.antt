@@ -114,7 +114,7 @@ zeroed-by-the-first-swap p = other-list (p .block .zeroed (p .block .number-is))
 -- what no demand says: chains that name one order need not leave scratch the same, nor do as many swaps. 2, 2 names order 0 and zeroes three words,
 -- and the request for order 0 none
 pub one-order-other-scratch : {a a′ : Answer} {b b′ s s′ : List ℕ} → ChainPromise 4 lengths (2 ∷ 2 ∷ []) block scratch a b s
-    → RequestPromise 4 lengths 0 block scratch a′ b′ s′ → s ≡ s′ → ⊥
+    → RequestPromise 4 lengths 1 0 block scratch a′ b′ s′ → s ≡ s′ → ⊥
 unfolding volume exchange exchanged chainNeed arrangements orders orderOf under falling planned planOf
 one-order-other-scratch p q e = other-list (sym (p .block .zeroed (p .block .number-is)) ∙ e ∙ q .block .zeroed (q .block .number-is)) tt
 

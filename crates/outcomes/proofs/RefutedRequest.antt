@@ -1,4 +1,4 @@
--- Wrong outcomes of a direct request: each breaks the promise. The case is order 9 (1230) of 2 by 3 by 1 by 1 holding 0 to 5 and
+-- Wrong outcomes of a direct request in release 1: each breaks the promise. The case is order 9 (1230) of 2 by 3 by 1 by 1 holding 0 to 5 and
 -- four words of scratch of which three are needed; the right outcome is 0 3 1 4 2 5, scratch 0 0 0 9, lengths 3 1 1 2, order 9 and three
 -- swaps.
 use mathlib.Core.Path.{_≡_, refl, sym, ap, _∙_}
@@ -17,29 +17,29 @@ use Rattle.axes.specs.declared.Answer.{Answer}
 use Rattle.axes.specs.Promises.{RequestPromise}
 use Rattle.outcomes.proofs.Wrong.{other-number, other-list, misplaced, refuses, Broken, broken}
 
-abbrev lengths : List ℕ
+abbrev pub lengths : List ℕ
 lengths = 2 ∷ 3 ∷ 1 ∷ 1 ∷ []
 
-abbrev block : List ℕ
+abbrev pub block : List ℕ
 block = 0 ∷ 1 ∷ 2 ∷ 3 ∷ 4 ∷ 5 ∷ []
 
-abbrev scratch : List ℕ
+abbrev pub scratch : List ℕ
 scratch = replicate 4 9
 
 abbrev Leaves : Answer → List ℕ → List ℕ → Type 0
-Leaves a buffer scratch′ = RequestPromise 4 lengths 9 block scratch a buffer scratch′
+Leaves a buffer scratch′ = RequestPromise 4 lengths 1 9 block scratch a buffer scratch′
 
 accepts : {a : Answer} {b s : List ℕ} → Leaves a b s → a .number ≡ 0
 unfolding volume exchange exchanged chainNeed arrangements orders orderOf under falling relabelled firstBack planned planOf placeOf
 accepts p = p .block .number-is
 
 -- one that refuses always: wherever no condition holds
-pub refuses-always : {r order : ℕ} {ds b₀ s₀ b s : List ℕ} {a : Answer} → RequestPromise r ds order b₀ s₀ a b s
-    → firstOf (requestChecks r ds b₀ s₀ order) ≡ 0 → (a .number ≡ 0 → ⊥) → ⊥
+pub refuses-always : {r release order : ℕ} {ds b₀ s₀ b s : List ℕ} {a : Answer} → RequestPromise r ds release order b₀ s₀ a b s
+    → firstOf (requestChecks r ds b₀ s₀ release order) ≡ 0 → (a .number ≡ 0 → ⊥) → ⊥
 refuses-always p = refuses (p .block)
 
 -- one that gives a fixed answer: right for the case, it is wrong for order 24
-pub fixed-answer : {a : Answer} {b s b′ s′ : List ℕ} → Leaves a b s → RequestPromise 4 lengths 24 block scratch a b′ s′ → ⊥
+pub fixed-answer : {a : Answer} {b s b′ s′ : List ℕ} → Leaves a b s → RequestPromise 4 lengths 1 24 block scratch a b′ s′ → ⊥
 unfolding volume
 fixed-answer p q = other-number (sym (accepts p) ∙ q .block .number-is) tt
 
@@ -70,17 +70,17 @@ unfolding exchange exchanged chainNeed arrangements orders orderOf under falling
 scratch-too-far p = other-list (p .block .zeroed (accepts p)) tt
 
 -- scratch cleared as far as the longest axis by order 1, which exchanges two axes of length 1, and by order 0, which exchanges none
-pub zeroed-by-the-longest-axis : {a : Answer} {b : List ℕ} → RequestPromise 4 lengths 1 block scratch a b (0 ∷ 0 ∷ 0 ∷ 9 ∷ []) → ⊥
+pub zeroed-by-the-longest-axis : {a : Answer} {b : List ℕ} → RequestPromise 4 lengths 1 1 block scratch a b (0 ∷ 0 ∷ 0 ∷ 9 ∷ []) → ⊥
 unfolding volume exchange exchanged chainNeed arrangements orders orderOf under falling relabelled firstBack planned planOf placeOf
 zeroed-by-the-longest-axis p = other-list (p .block .zeroed (p .block .number-is)) tt
 
-pub order-0-clears-scratch : {a : Answer} {b : List ℕ} → RequestPromise 4 lengths 0 block scratch a b (0 ∷ 0 ∷ 0 ∷ 9 ∷ []) → ⊥
+pub order-0-clears-scratch : {a : Answer} {b : List ℕ} → RequestPromise 4 lengths 1 0 block scratch a b (0 ∷ 0 ∷ 0 ∷ 9 ∷ []) → ⊥
 unfolding volume exchange exchanged chainNeed arrangements orders orderOf under falling relabelled firstBack planned planOf placeOf
 order-0-clears-scratch p = other-list (p .block .zeroed (p .block .number-is)) tt
 
 -- order 24: a refusal that touches a word, and one that answers the number that was asked
 abbrev Refused : Answer → List ℕ → Type 0
-Refused a b = RequestPromise 4 lengths 24 block scratch a b scratch
+Refused a b = RequestPromise 4 lengths 1 24 block scratch a b scratch
 
 seven : {a : Answer} {b : List ℕ} → Refused a b → a .number ≡ 7
 unfolding volume
@@ -93,46 +93,46 @@ pub refusal-answers-the-order : {a : Answer} {b : List ℕ} → Refused a b → 
 refusal-answers-the-order p e = other-number (sym e ∙ ap (λ (r : Answer). r .order) (p .refusal (λ y. omega (arith, seven p)))) tt
 
 -- the order of checks: of two conditions that hold the later is answered
-pub two-before-one : (b s : List ℕ) (order : ℕ) → Broken (requestChecks 4 (4097 ∷ 4096 ∷ 1 ∷ 1 ∷ []) b s order) 2
-two-before-one b s order = broken (requestChecks 4 (4097 ∷ 4096 ∷ 1 ∷ 1 ∷ []) b s order) 2 tt
+pub two-before-one : (b s : List ℕ) (order : ℕ) → Broken (requestChecks 4 (4097 ∷ 4096 ∷ 1 ∷ 1 ∷ []) b s 1 order) 2
+two-before-one b s order = broken (requestChecks 4 (4097 ∷ 4096 ∷ 1 ∷ 1 ∷ []) b s 1 order) 2 tt
 
-pub three-before-two : (s : List ℕ) (order : ℕ) → Broken (requestChecks 4 (4096 ∷ 257 ∷ 1 ∷ 1 ∷ []) [] s order) 3
+pub three-before-two : (s : List ℕ) (order : ℕ) → Broken (requestChecks 4 (4096 ∷ 257 ∷ 1 ∷ 1 ∷ []) [] s 1 order) 3
 unfolding volume
-three-before-two s order = broken (requestChecks 4 (4096 ∷ 257 ∷ 1 ∷ 1 ∷ []) [] s order) 3 tt
+three-before-two s order = broken (requestChecks 4 (4096 ∷ 257 ∷ 1 ∷ 1 ∷ []) [] s 1 order) 3 tt
 
-pub four-before-three : (order : ℕ) → Broken (requestChecks 4 lengths [] [] order) 4
+pub four-before-three : (order : ℕ) → Broken (requestChecks 4 lengths [] [] 1 order) 4
 unfolding volume
-four-before-three order = broken (requestChecks 4 lengths [] [] order) 4 tt
+four-before-three order = broken (requestChecks 4 lengths [] [] 1 order) 4 tt
 
-pub four-before-seven : Broken (requestChecks 4 lengths block [] 24) 4
+pub four-before-seven : Broken (requestChecks 4 lengths block [] 1 24) 4
 unfolding volume
-four-before-seven = broken (requestChecks 4 lengths block [] 24) 4 tt
+four-before-seven = broken (requestChecks 4 lengths block [] 1 24) 4 tt
 
 -- the need of scratch: order 0 asks for some, order 1 asks for as much as the longest axis, order 9 for none
-pub order-0-asks-for-scratch : Broken (requestChecks 4 lengths block [] 0) 4
+pub order-0-asks-for-scratch : Broken (requestChecks 4 lengths block [] 1 0) 4
 unfolding volume exchange exchanged chainNeed arrangements orders orderOf under falling relabelled firstBack planned planOf placeOf
-order-0-asks-for-scratch = broken (requestChecks 4 lengths block [] 0) 4 tt
+order-0-asks-for-scratch = broken (requestChecks 4 lengths block [] 1 0) 4 tt
 
-pub longest-axis-asked-for : Broken (requestChecks 4 lengths block (9 ∷ []) 1) 4
+pub longest-axis-asked-for : Broken (requestChecks 4 lengths block (9 ∷ []) 1 1) 4
 unfolding volume exchange exchanged chainNeed arrangements orders orderOf under falling relabelled firstBack planned planOf placeOf
-longest-axis-asked-for = broken (requestChecks 4 lengths block (9 ∷ []) 1) 4 tt
+longest-axis-asked-for = broken (requestChecks 4 lengths block (9 ∷ []) 1 1) 4 tt
 
-pub asks-for-no-scratch : Broken (requestChecks 4 lengths block [] 9) 0
+pub asks-for-no-scratch : Broken (requestChecks 4 lengths block [] 1 9) 0
 unfolding volume exchange exchanged chainNeed arrangements orders orderOf under falling relabelled firstBack planned planOf placeOf
-asks-for-no-scratch = broken (requestChecks 4 lengths block [] 9) 0 tt
+asks-for-no-scratch = broken (requestChecks 4 lengths block [] 1 9) 0 tt
 
 -- a longer buffer accepted; 7 before 13; 13 before 1, where a length is 0; 13 for a buffer of exactly the block's size
-pub longer-buffer-accepted : Broken (requestChecks 4 lengths (0 ∷ block) scratch 9) 0
+pub longer-buffer-accepted : Broken (requestChecks 4 lengths (0 ∷ block) scratch 1 9) 0
 unfolding volume
-longer-buffer-accepted = broken (requestChecks 4 lengths (0 ∷ block) scratch 9) 0 tt
+longer-buffer-accepted = broken (requestChecks 4 lengths (0 ∷ block) scratch 1 9) 0 tt
 
-pub seven-before-thirteen : Broken (requestChecks 4 lengths (0 ∷ block) scratch 24) 7
+pub seven-before-thirteen : Broken (requestChecks 4 lengths (0 ∷ block) scratch 1 24) 7
 unfolding volume
-seven-before-thirteen = broken (requestChecks 4 lengths (0 ∷ block) scratch 24) 7 tt
+seven-before-thirteen = broken (requestChecks 4 lengths (0 ∷ block) scratch 1 24) 7 tt
 
-pub thirteen-before-one : (s : List ℕ) (order : ℕ) → Broken (requestChecks 4 (0 ∷ 1 ∷ 1 ∷ 1 ∷ []) block s order) 13
-thirteen-before-one s order = broken (requestChecks 4 (0 ∷ 1 ∷ 1 ∷ 1 ∷ []) block s order) 13 tt
+pub thirteen-before-one : (s : List ℕ) (order : ℕ) → Broken (requestChecks 4 (0 ∷ 1 ∷ 1 ∷ 1 ∷ []) block s 1 order) 13
+thirteen-before-one s order = broken (requestChecks 4 (0 ∷ 1 ∷ 1 ∷ 1 ∷ []) block s 1 order) 13 tt
 
-pub exact-buffer-refused : Broken (requestChecks 4 lengths block scratch 9) 13
+pub exact-buffer-refused : Broken (requestChecks 4 lengths block scratch 1 9) 13
 unfolding volume exchange exchanged chainNeed arrangements orders orderOf under falling relabelled firstBack planned planOf placeOf
-exact-buffer-refused = broken (requestChecks 4 lengths block scratch 9) 13 tt
+exact-buffer-refused = broken (requestChecks 4 lengths block scratch 1 9) 13 tt

@@ -8,8 +8,8 @@ use lib.Dec.{T}
 use Rattle.lists.proofs.Test.{every, at-entry}
 use Rattle.layout.specs.Layout.{volume}
 use Rattle.text.specs.Print.{digits, decimal, field, fields, line}
-use Rattle.text.specs.Read.{readMore, readNumber, readField, readFields, closed, readLine}
-use Rattle.text.specs.Sheet.{shapeWord, chainWord, orderWord, rowWord, rowCount, rowWidth, rowsText, resultText}
+use Rattle.text.specs.Read.{readMore, readNumber, readField, readFields, closed, readLine, tabs}
+use Rattle.text.specs.Sheet.{shapeWord, chainWord, orderWord, rowWord, rowCount, rowWidth, rowsText, resultText, resultBy}
 use Rattle.text.specs.Meaning.{Outcome, longSheet, shapeLine, orderLine, rowLines, ended, resultMeaning, meaningBy}
 use Rattle.sheet.specs.declared.ResultSheet.{ResultSheet}
 use Rattle.sheet.specs.ResultReader.{resultAnswer, ResultReadAs}
@@ -21,7 +21,7 @@ abbrev right : List ℕ
 right = resultText (1 ∷ 1 ∷ 3 ∷ 2 ∷ []) 1 (1 ∷ 4 ∷ 2 ∷ 5 ∷ 3 ∷ 6 ∷ [])
 
 right-means : resultMeaning buffer right ≡ Outcome.accepted (1 ∷ 1 ∷ 3 ∷ 2 ∷ []) (1 ∷ []) (1 ∷ 4 ∷ 2 ∷ 5 ∷ 3 ∷ 6 ∷ [])
-unfolding resultText rowsText rowCount rowWidth volume line fields field decimal digits readMore readNumber readField readFields closed readLine shapeLine orderLine rowLines ended meaningBy
+unfolding resultBy rowsText rowCount rowWidth volume line fields field decimal digits readMore readNumber readField readFields closed readLine tabs shapeLine orderLine rowLines ended meaningBy
 right-means = refl
 
 module _ {buffer bytes buffer′ : List ℕ} {a : ResultSheet} {o : Outcome} (p : ResultReadAs buffer bytes a buffer′) (e : resultMeaning buffer bytes ≡ o) where
@@ -48,6 +48,27 @@ order-as-place p e = other-number (sym e ∙ place p right-means) tt
 pub order-lost : {a : ResultSheet} {b : List ℕ} → ResultReadAs buffer right a b → a .order ≡ 0 → ⊥
 order-lost p e = other-number (sym e ∙ ap (λ (s : ResultSheet). s .order) (answered p right-means)) tt
 
+-- release 1 said of a sheet that names none
+pub release-invented : {a : ResultSheet} {b : List ℕ} → ResultReadAs buffer right a b → a .release ≡ 1 → ⊥
+release-invented p e = other-number (sym e ∙ ap (λ (s : ResultSheet). s .release) (answered p right-means)) tt
+
+-- of a sheet that names release 2 and order 9: the release lost, the order read as 18, the release taken for the order
+abbrev released : List ℕ
+released = resultBy (1 ∷ 1 ∷ 1 ∷ 1 ∷ []) 2 9 (7 ∷ [])
+
+released-means : resultMeaning buffer released ≡ Outcome.accepted (1 ∷ 1 ∷ 1 ∷ 1 ∷ []) (2 ∷ 9 ∷ []) (7 ∷ [])
+unfolding resultBy rowsText rowCount rowWidth volume line fields field decimal digits readMore readNumber readField readFields closed readLine tabs shapeLine orderLine rowLines ended meaningBy
+released-means = refl
+
+pub release-lost : {a : ResultSheet} {b : List ℕ} → ResultReadAs buffer released a b → a .release ≡ 0 → ⊥
+release-lost p e = other-number (sym e ∙ ap (λ (s : ResultSheet). s .release) (answered p released-means)) tt
+
+pub inverse-read : {a : ResultSheet} {b : List ℕ} → ResultReadAs buffer released a b → a .order ≡ 18 → ⊥
+inverse-read p e = other-number (sym e ∙ ap (λ (s : ResultSheet). s .order) (answered p released-means)) tt
+
+pub release-as-order : {a : ResultSheet} {b : List ℕ} → ResultReadAs buffer released a b → a .order ≡ 2 → ⊥
+release-as-order p e = other-number (sym e ∙ ap (λ (s : ResultSheet). s .order) (answered p released-means)) tt
+
 pub other-lengths : {a : ResultSheet} {b : List ℕ} → ResultReadAs buffer right a b → a .lens ≡ 1 ∷ 1 ∷ 2 ∷ 3 ∷ [] → ⊥
 other-lengths p e = other-list (sym e ∙ ap (λ (s : ResultSheet). s .lens) (answered p right-means)) tt
 
@@ -67,23 +88,26 @@ abbrev cut : List ℕ
 cut = shape (1 ∷ 1 ∷ 2 ∷ 1 ∷ []) ++ line orderWord (0 ∷ []) ++ line rowWord (5 ∷ []) ++ rowWord ++ (9 ∷ 6 ∷ [])
 
 cut-means : resultMeaning buffer cut ≡ Outcome.refused 10 4
-unfolding rowCount rowWidth volume line fields field decimal digits readMore readNumber readField readFields closed readLine shapeLine orderLine rowLines ended meaningBy
+unfolding rowCount rowWidth volume line fields field decimal digits readMore readNumber readField readFields closed readLine tabs shapeLine orderLine rowLines ended meaningBy
 cut-means = refl
 
 pub stored-before-the-last-row : {a : ResultSheet} → ResultReadAs buffer cut a (5 ∷ 9 ∷ 9 ∷ 9 ∷ 9 ∷ 9 ∷ 9 ∷ []) → ⊥
 stored-before-the-last-row p = other-list (stored p cut-means) tt
 
--- a tail after the last row: a byte, an LF, the row again; two order numbers, the first or the second of them above 23 or neither (7 before
--- the form of line 2), none, a chain; order 24, also where a row is wrong; 007 as order number and in a row; of each two neighbours of
+-- a tail after the last row: a byte, an LF, the row again; a release that is not known, also where the order number is above 23 and where it is 0; a
+-- known one before order 24; three numbers, none, a chain; order 24, also where a row is wrong; 007 as order number and in a row; of each two neighbours of
 -- the reading order that can both hold, a sheet in which both do
 abbrev cases : List Case
 cases =
     case (titled (0 ∷ []) (line rowWord (7 ∷ []) ++ (48 ∷ []))) 10 4
     ∷ case (titled (0 ∷ []) (line rowWord (7 ∷ []) ++ (10 ∷ []))) 10 4
     ∷ case (titled (0 ∷ []) (line rowWord (7 ∷ []) ++ line rowWord (7 ∷ []))) 10 4
-    ∷ case (titled (24 ∷ 1 ∷ []) (line rowWord (7 ∷ []))) 10 2
-    ∷ case (titled (1 ∷ 24 ∷ []) (line rowWord (7 ∷ []))) 10 2
-    ∷ case (titled (1 ∷ 2 ∷ []) (line rowWord (7 ∷ []))) 10 2
+    ∷ case (titled (24 ∷ 1 ∷ []) (line rowWord (7 ∷ []))) 14 0
+    ∷ case (titled (3 ∷ 24 ∷ []) (line rowWord (7 ∷ []))) 14 0
+    ∷ case (titled (0 ∷ 5 ∷ []) (line rowWord (7 ∷ []))) 14 0
+    ∷ case (titled (1 ∷ 24 ∷ []) (line rowWord (7 ∷ []))) 7 0
+    ∷ case (titled (1 ∷ 2 ∷ 3 ∷ []) (line rowWord (7 ∷ []))) 10 2
+    ∷ case (titled (2 ∷ 9 ∷ []) (line rowWord [])) 10 3
     ∷ case (titled [] (line rowWord (7 ∷ []))) 10 2
     ∷ case (good ++ line chainWord (0 ∷ []) ++ line rowWord (7 ∷ [])) 10 2
     ∷ case (titled (24 ∷ []) (line rowWord (7 ∷ []))) 7 0
@@ -101,7 +125,7 @@ abbrev holds : Case → Bool
 holds c = refusedAs (c .number) (c .place) (resultMeaning buffer (c .bytes))
 
 all-hold : T (every holds cases)
-unfolding rowCount rowWidth volume line fields field decimal digits readMore readNumber readField readFields closed readLine shapeLine orderLine rowLines ended meaningBy
+unfolding rowCount rowWidth volume line fields field decimal digits readMore readNumber readField readFields closed readLine tabs shapeLine orderLine rowLines ended meaningBy
 all-hold = tt
 
 case-means : (c : Case) → List·Memᴰ c cases → resultMeaning buffer (c .bytes) ≡ Outcome.refused (c .number) (c .place)

@@ -7,7 +7,7 @@ use lib.ListN.{replicate}
 use Rattle.layout.specs.Layout.{volume}
 use Rattle.refusals.specs.FirstOf.{firstOf}
 use Rattle.text.specs.Print.{digits, decimal, field, fields, line}
-use Rattle.text.specs.Sheet.{rowCount, rowWidth, rowsText, resultText, refusalText}
+use Rattle.text.specs.Sheet.{rowCount, rowWidth, rowsText, resultText, resultBy, refusalText}
 use Rattle.printer.specs.declared.Written.{Written}
 use Rattle.printer.specs.Writer.{writerChecks, writerNumber, WrittenAs}
 use Rattle.printer.specs.RefusalWriter.{refusalNumber, RefusalWrittenAs}
@@ -40,42 +40,42 @@ refuses-always p e n = n (ap (λ (w : Written). w .number) (p .answers) ∙ e)
 
 -- one that gives a fixed answer: right for the case, it is wrong where a length is 0
 pub fixed-answer : {a : Written} {out₀ out₁ out₂ : List ℕ} → Writes a out₁ → WrittenAs (0 ∷ 1 ∷ 1 ∷ 1 ∷ []) 1 words out₀ a out₂ → ⊥
-unfolding volume resultText rowsText rowCount rowWidth line fields field decimal digits
+unfolding volume resultBy rowsText rowCount rowWidth line fields field decimal digits
 fixed-answer p q = other-number (ap (λ (w : Written). w .number) (sym (p .answers) ∙ q .answers)) tt
 
 -- one that writes nothing, one byte late, the order number 0, the lengths before the swap, or past the sheet
 pub writes-nothing : {a : Written} → Writes a out → ⊥
-unfolding volume resultText rowsText rowCount rowWidth line fields field decimal digits
+unfolding volume resultBy rowsText rowCount rowWidth line fields field decimal digits
 writes-nothing p = other-list (p .bytes) tt
 
 pub writes-one-place-later : {a : Written} → Writes a (1 ∷ text ++ (1 ∷ [])) → ⊥
-unfolding volume resultText rowsText rowCount rowWidth line fields field decimal digits
+unfolding volume resultBy rowsText rowCount rowWidth line fields field decimal digits
 writes-one-place-later p = other-list (p .bytes) tt
 
 pub order-number-always-0 : {a : Written} → Writes a (resultText lengths 0 words ++ replicate 2 1) → ⊥
-unfolding volume resultText rowsText rowCount rowWidth line fields field decimal digits
+unfolding volume resultBy rowsText rowCount rowWidth line fields field decimal digits
 order-number-always-0 p = other-list (p .bytes) tt
 
 pub other-lengths : {a : Written} → Writes a (resultText (1 ∷ 1 ∷ 2 ∷ 1 ∷ []) 1 words) → ⊥
-unfolding volume resultText rowsText rowCount rowWidth line fields field decimal digits
+unfolding volume resultBy rowsText rowCount rowWidth line fields field decimal digits
 other-lengths p = other-list (p .bytes) tt
 
 pub later-byte-changed : {a : Written} → Writes a (text ++ (0 ∷ 1 ∷ [])) → ⊥
-unfolding volume resultText rowsText rowCount rowWidth line fields field decimal digits
+unfolding volume resultBy rowsText rowCount rowWidth line fields field decimal digits
 later-byte-changed p = other-list (p .bytes) tt
 
 -- one byte more counted than written
 pub one-byte-more : {a : Written} {out′ : List ℕ} → Writes a out′ → a .count ≡ 31 → ⊥
-unfolding volume resultText rowsText rowCount rowWidth line fields field decimal digits
+unfolding volume resultBy rowsText rowCount rowWidth line fields field decimal digits
 one-byte-more p e = other-number (sym e ∙ ap (λ (w : Written). w .count) (p .answers)) tt
 
 -- a buffer one byte short: written before it was measured, or accepted
 pub written-before-measured : {a : Written} → WrittenAs lengths 1 words (replicate 29 1) a (115 ∷ replicate 28 1) → ⊥
-unfolding volume resultText rowsText rowCount rowWidth line fields field decimal digits
+unfolding volume resultBy rowsText rowCount rowWidth line fields field decimal digits
 written-before-measured p = other-list (p .bytes) tt
 
 pub short-buffer-accepted : {a : Written} {out′ : List ℕ} → WrittenAs lengths 1 words (replicate 29 1) a out′ → a .number ≡ 0 → ⊥
-unfolding volume resultText rowsText rowCount rowWidth line fields field decimal digits
+unfolding volume resultBy rowsText rowCount rowWidth line fields field decimal digits
 short-buffer-accepted p e = other-number (answers p e) tt
 
 -- the order of checks: of two conditions that hold the later is answered

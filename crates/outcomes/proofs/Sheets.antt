@@ -23,6 +23,8 @@ use Rattle.sheet.proofs.read_result.Kinds as read-result-kinds
 use Rattle.sheet.proofs.read_result.Reads as read-result
 use Rattle.printer.proofs.write.Kinds as write-kinds
 use Rattle.printer.proofs.write.Reads as write
+use Rattle.printer.proofs.write_release.Kinds as write-release-kinds
+use Rattle.printer.proofs.write_release.Reads as write-release
 use Rattle.printer.proofs.write_refusal.Kinds as write-refusal-kinds
 use Rattle.printer.proofs.write_refusal.Reads as write-refusal
 use Rattle.job.proofs.job.Kinds as job-kinds
@@ -54,6 +56,11 @@ read-result-once κs a r r′ s s′ p q = sheets.read-result-once p q
 pub write-once : (κs : Lfts 2) (a : Dens κs write-kinds.ps) (r r′ : Written) (s s′ : AtExit (endedOf 2 write-kinds.ps write-kinds.r) κs)
     → write.Post κs a r s → write.Post κs a r′ s′ → (r ≡ r′) × (s .1 .1 .1 .0 .now ≡ s′ .1 .1 .1 .0 .now)
 write-once κs a r r′ s s′ p q = prints.write-once p q
+
+pub write-release-once : (κs : Lfts 2) (a : Dens κs write-release-kinds.ps) (r r′ : Written)
+    (s s′ : AtExit (endedOf 2 write-release-kinds.ps write-release-kinds.r) κs)
+    → write-release.Post κs a r s → write-release.Post κs a r′ s′ → (r ≡ r′) × (s .1 .1 .1 .1 .0 .now ≡ s′ .1 .1 .1 .1 .0 .now)
+write-release-once κs a r r′ s s′ p q = prints.write-release-once p q
 
 pub write-refusal-once : (κs : Lfts 1) (a : Dens κs write-refusal-kinds.ps) (r r′ : Written)
     (s s′ : AtExit (endedOf 1 write-refusal-kinds.ps write-refusal-kinds.r) κs)

@@ -12,7 +12,7 @@ pub mod Puts
 pub mod Pages
 -- a text written or not: the answer and the bytes
 pub mod InFull
--- what the writer promises on each way out
+-- what the writers promise on each way out
 pub mod Writes
 -- the line of a refusal, and what its writer promises
 pub mod RefusalLine

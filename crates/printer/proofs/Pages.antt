@@ -1,13 +1,15 @@
 -- The lines of a result sheet one behind the other, and their lengths added. By induction on the rows and on the numbers.
 use mathlib.Core.Path.{_≡_, refl, sym, ap, _∙_}
+use mathlib.Core.Bool.{Bool, true, false, cond}
 use mathlib.Core.List.{List, [], _∷_, _++_, append-assoc}
 use Prim.Native.Nat.{ℕ, zero, suc, _+_, _-_, _*_, _<_, _≤_}
 use native.Mathlib.Omega.{arith}
+use lib.Dec.{eqb}
 use lib.ListN.{length, take, drop, getD, length-append}
 use lib.Seq.{drop-drop, take-add, take-all}
 use Rattle.layout.specs.Layout.{volume}
 use Rattle.text.specs.Print.{lineFeed, decimal, field, fields, line}
-use Rattle.text.specs.Sheet.{shapeWord, orderWord, rowWord, rowCount, rowWidth, rowsText, resultText}
+use Rattle.text.specs.Sheet.{shapeWord, orderWord, rowWord, rowCount, rowWidth, rowsText, orderNumbers, resultBy}
 use Rattle.text.proofs.Rows.{rows-volume}
 use Rattle.text.proofs.Length.{length-line}
 use Rattle.printer.specs.Put.{Room, Put}
@@ -92,29 +94,48 @@ length-rows (suc count) n words =
     )
     (omega arith)
 
--- a result sheet is its two lines, by value, and the rows: what the thin writer needs for it, and what it puts
-module _ (ds : List ℕ) (order : ℕ) (words : List ℕ) {shape line : Line} {rows : ℕ} (four : length ds ≡ 4) (s : shape ≡ shapeLineOf ds)
-    (l : line ≡ orderLineOf order) (r : rows ≡ rowCount ds) where
-  page : pageOf shape line words rows (getD ds 3 0) ≡ resultText ds order words
-  unfolding resultText rowWidth
-  page = rw (s, l, take-all 4 ds (omega arith), r, four)
+-- line 2 by value: its text, and that it has two numbers at most
+pub order-text : (release order : ℕ) → lineOf (orderLineOf release order) ≡ line orderWord (orderNumbers release order)
+order-text release order = by (eqb release 0)
+  where
+    by : (t : Bool) → lineOf (cond t (record { word = orderWord; numbers = order ∷ 0 ∷ 0 ∷ 0 ∷ []; count = 1 })
+        (record { word = orderWord; numbers = release ∷ order ∷ 0 ∷ 0 ∷ []; count = 2 }))
+        ≡ line orderWord (cond t (order ∷ []) (release ∷ order ∷ []))
+    by true = refl
+    by false = refl
 
-  pub page-ready : {out : List ℕ} → rows * getD ds 3 0 ≤ length words → length (resultText ds order words) ≤ length out
+pub order-count : (release order : ℕ) → orderLineOf release order .count ≤ 4
+order-count release order = by (eqb release 0)
+  where
+    by : (t : Bool) → cond {A = Line} t (record { word = orderWord; numbers = order ∷ 0 ∷ 0 ∷ 0 ∷ []; count = 1 })
+        (record { word = orderWord; numbers = release ∷ order ∷ 0 ∷ 0 ∷ []; count = 2 }) .count ≤ 4
+    by true = omega arith
+    by false = omega arith
+
+-- a result sheet is its two lines, by value, and the rows: what the thin writer needs for it, and what it puts
+module _ (ds : List ℕ) (release order : ℕ) (words : List ℕ) {shape line : Line} {rows : ℕ} (four : length ds ≡ 4) (s : shape ≡ shapeLineOf ds)
+    (l : line ≡ orderLineOf release order) (r : rows ≡ rowCount ds) where
+  page : pageOf shape line words rows (getD ds 3 0) ≡ resultBy ds release order words
+  unfolding resultBy rowWidth
+  page = rw (s, l, order-text release order, take-all 4 ds (omega arith), r, four)
+
+  pub page-ready : {out : List ℕ} → rows * getD ds 3 0 ≤ length words → length (resultBy ds release order words) ≤ length out
       → Ready out shape line words rows (getD ds 3 0)
-  page-ready h k = record { first = rw s (omega arith); second = rw l (omega arith); enough = h; room = record { fits = rw page (omega arith) } }
+  page-ready h k = record { first = rw s (omega arith); second = rw l (order-count release order); enough = h; room = record { fits = rw page (omega arith) } }
 
   pub page-put : {out : List ℕ} {next : ℕ} {out′ : List ℕ} → Put out 0 (pageOf shape line words rows (getD ds 3 0)) next out′
-      → Put out 0 (resultText ds order words) next out′
+      → Put out 0 (resultBy ds release order words) next out′
   page-put q = rw page at q
 
 -- the length of a result sheet from its parts
-pub length-result : (ds : List ℕ) (order : ℕ) (words : List ℕ)
-    → length (resultText ds order words)
-    ≡ length (line shapeWord ds ++ line orderWord (order ∷ [])) + length (rowsText (rowCount ds) (rowWidth ds) words)
-unfolding resultText
-length-result ds order words =
-    ap length (sym (append-assoc (line shapeWord ds) (line orderWord (order ∷ [])) (rowsText (rowCount ds) (rowWidth ds) words)))
-    ∙ length-append (line shapeWord ds ++ line orderWord (order ∷ [])) (rowsText (rowCount ds) (rowWidth ds) words)
+pub length-result : (ds : List ℕ) (release order : ℕ) (words : List ℕ)
+    → length (resultBy ds release order words)
+    ≡ length (line shapeWord ds ++ line orderWord (orderNumbers release order)) + length (rowsText (rowCount ds) (rowWidth ds) words)
+unfolding resultBy
+length-result ds release order words =
+    let second = line orderWord (orderNumbers release order) in
+    ap length (sym (append-assoc (line shapeWord ds) second (rowsText (rowCount ds) (rowWidth ds) words)))
+    ∙ length-append (line shapeWord ds ++ second) (rowsText (rowCount ds) (rowWidth ds) words)
 
 -- the field of the next number measured, then the others
 pub measure-next : (vs : List ℕ) (i : ℕ) → i < length vs
@@ -128,13 +149,14 @@ pub measure-all : (vs : List ℕ) (i : ℕ) → length vs ≤ i → length (fiel
 measure-all vs i h = ap length (no-fields vs i h)
 
 -- the length of a result sheet, measured: its two lines, and four bytes a row beside the fields
-pub length-measured : (ds : List ℕ) (order : ℕ) (words : List ℕ) → length ds ≡ 4
-    → length (resultText ds order words)
-    ≡ length (lineOf (shapeLineOf ds)) + length (lineOf (orderLineOf order)) + 4 * rowCount ds + length (fields (take (volume ds) words))
-length-measured ds order words four =
-    length-result ds order words
+pub length-measured : (ds : List ℕ) (release order : ℕ) (words : List ℕ) → length ds ≡ 4
+    → length (resultBy ds release order words)
+    ≡ length (lineOf (shapeLineOf ds)) + length (lineOf (orderLineOf release order)) + 4 * rowCount ds + length (fields (take (volume ds) words))
+length-measured ds release order words four =
+    length-result ds release order words
     ∙ rw (
-      length-append (line shapeWord ds) (line orderWord (order ∷ [])),
+      order-text release order,
+      length-append (line shapeWord ds) (line orderWord (orderNumbers release order)),
       length-rows (rowCount ds) (rowWidth ds) words,
       rows-volume ds (omega arith),
       take-all 4 ds (omega arith),

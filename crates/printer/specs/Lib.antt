@@ -1,4 +1,4 @@
--- the promise of the writer
+-- the promises of the writers
 pub mod Writer
 -- the promise of the writer of a refusal
 pub mod RefusalWriter

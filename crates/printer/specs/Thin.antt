@@ -1,7 +1,9 @@
 -- These definitions serve only the contracts of private functions: a reader of the promises can pass over them.
 -- What a thin writer is once a text is put, and what a page needs. Assumes nothing.
+use mathlib.Core.Bool.{cond}
 use mathlib.Core.List.{List, [], _∷_, _++_}
 use Prim.Native.Nat.{ℕ, _+_, _*_, _≤_}
+use lib.Dec.{eqb}
 use lib.ListN.{length, take}
 use lib.Seq.{sets}
 use denote.Ref.{now, at-last}
@@ -23,9 +25,11 @@ lineOf l = line (l .word) (numbersIn l)
 abbrev pub shapeLineOf : List ℕ → Line
 shapeLineOf ds = record { word = shapeWord; numbers = ds; count = 4 }
 
--- line 2 of a result sheet: `order` and the order number
-abbrev pub orderLineOf : ℕ → Line
-orderLineOf order = record { word = orderWord; numbers = order ∷ 0 ∷ 0 ∷ 0 ∷ []; count = 1 }
+-- line 2 of a result sheet: `order`, the release where one is named (0 stands for none), and the order number
+abbrev pub orderLineOf : ℕ → ℕ → Line
+orderLineOf release order =
+    cond (eqb release 0) (record { word = orderWord; numbers = order ∷ 0 ∷ 0 ∷ 0 ∷ []; count = 1 })
+    (record { word = orderWord; numbers = release ∷ order ∷ 0 ∷ 0 ∷ []; count = 2 })
 
 -- the same borrow with the text at the writer's place, and the place after it
 abbrev pub stored : Writer → List ℕ → Writer

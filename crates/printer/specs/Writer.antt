@@ -7,7 +7,8 @@ use lib.Dec.{ltb, eqb}
 use lib.ListN.{length, drop}
 use Rattle.refusals.specs.FirstOf.{Check, check, firstOf}
 use Rattle.refusals.specs.Conditions.{noOrder}
-use Rattle.text.specs.Sheet.{resultText}
+use Rattle.refusals.specs.Calls.{namedChecks}
+use Rattle.text.specs.Sheet.{resultText, resultBy}
 use Rattle.blocks.specs.Checks.{sheetChecks}
 use Rattle.printer.specs.declared.Written.{Written}
 
@@ -20,9 +21,18 @@ abbrev pub writerChecks : List ℕ → ℕ → List ℕ → List ℕ → List Ch
 writerChecks ds order words out =
     sheetChecks ds words ++ (check 7 (noOrder 4 order) ∷ check 24 (shortBytes (resultText ds order words) out) ∷ [])
 
+-- sheet writer that names a release: 1, 11, 3, 14, 7, 24
+abbrev pub releaseChecks : List ℕ → ℕ → ℕ → List ℕ → List ℕ → List Check
+releaseChecks ds release order words out =
+    sheetChecks ds words ++ (namedChecks 4 release order ++ (check 24 (shortBytes (resultBy ds release order words) out) ∷ []))
+
 -- the number that the writer answers
 abbrev pub writerNumber : List ℕ → ℕ → List ℕ → List ℕ → ℕ
 writerNumber ds order words out = firstOf (writerChecks ds order words out)
+
+-- the number that the writer that names a release answers
+abbrev pub releaseNumber : List ℕ → ℕ → ℕ → List ℕ → List ℕ → ℕ
+releaseNumber ds release order words out = firstOf (releaseChecks ds release order words out)
 
 -- a refusal's count is 0
 abbrev pub nothingWritten : ℕ → Written
@@ -40,3 +50,8 @@ writtenTo number text out = cond (eqb number 0) (text ++ drop (length text) out)
 pub record WrittenAs (ds : List ℕ) (order : ℕ) (words out : List ℕ) (answered : Written) (out′ : List ℕ) : Type 0 where
   pub answers : answered ≡ written (writerNumber ds order words out) (resultText ds order words)
   pub bytes : out′ ≡ writtenTo (writerNumber ds order words out) (resultText ds order words) out
+
+-- the promise of the writer that names a release
+pub record ReleaseWrittenAs (ds : List ℕ) (release order : ℕ) (words out : List ℕ) (answered : Written) (out′ : List ℕ) : Type 0 where
+  pub answers : answered ≡ written (releaseNumber ds release order words out) (resultBy ds release order words)
+  pub bytes : out′ ≡ writtenTo (releaseNumber ds release order words out) (resultBy ds release order words) out

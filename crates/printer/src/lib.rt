@@ -5,9 +5,10 @@ mod writer;
 ghost use mathlib.Core.Path.{_≡_};
 ghost use Prim.Native.Nat.{_≤_};
 ghost use lib.ListN.{length};
-ghost use Rattle.text.specs.Sheet.{resultText};
+ghost use Rattle.text.specs.Sheet.{resultBy};
 ghost use Rattle.blocks.specs.OnSheet.{OnSheet};
-ghost use Rattle.printer.specs.Writer.{nothingWritten, WrittenAs};
+ghost use Rattle.printer.specs.Put.{TextWritten};
+ghost use Rattle.printer.specs.Writer.{nothingWritten, WrittenAs, ReleaseWrittenAs};
 ghost use Rattle.printer.specs.RefusalWriter.{RefusalWrittenAs};
 
 // What the writer did: its number, and the count of bytes written.
@@ -23,28 +24,35 @@ fn nothing_written(number: u32) -> Written
     Written { number, count: 0 }
 }
 
-// How many bytes the result sheet has.
-fn result_len(lens: [usize; 4], order: usize, words: &[u32]) -> usize
-    requires { ⌜ OnSheet lens (now words) × (order ≤ 23) ⌝ }
-    ensures { λ r. ⌜ r ≡ length (resultText lens order (now (words .entry))) ⌝ }
+// How many bytes the result sheet has; release 0 stands for none.
+fn result_len(lens: [usize; 4], release: usize, order: usize, words: &[u32]) -> usize
+    requires { ⌜ OnSheet lens (now words) × (release ≤ 2) × (order ≤ 23) ⌝ }
+    ensures { λ r. ⌜ r ≡ length (resultBy lens release order (now (words .entry))) ⌝ }
 {
     let size = checks::words_of(&lens);
     let rows = checks::words_of(&lens[..3]);
-    let head = page::head_len(page::shape_line(lens)) + page::head_len(page::order_line(order));
+    let head = page::head_len(page::shape_line(lens))
+        + page::head_len(page::order_line(release, order));
     head + 4 * rows + page::words_len(&words[..size])
 }
 
-// The result sheet of a block that was checked: measured, then put at the start of `out`.
-fn put_result(lens: [usize; 4], order: usize, words: &[u32], out: &mut [u8]) -> Written
-    requires { ⌜ OnSheet lens (now words) × (order ≤ 23) ⌝ }
-    ensures { λ r. ⌜ WrittenAs lens order (now (words .entry)) (now (out .entry)) r (now (out .exit)) ⌝ }
+// The result sheet of a block that was checked, with its release or, for 0, with none: measured, then put at the start of `out`.
+fn put_result(
+    lens: [usize; 4],
+    release: usize,
+    order: usize,
+    words: &[u32],
+    out: &mut [u8],
+) -> Written
+    requires { ⌜ OnSheet lens (now words) × (release ≤ 2) × (order ≤ 23) ⌝ }
+    ensures { λ r. ⌜ TextWritten (resultBy lens release order (now (words .entry))) (now (out .entry)) r (now (out .exit)) ⌝ }
 {
-    let need = result_len(lens, order, words);
+    let need = result_len(lens, release, order, words);
     if out.len() < need {
         return nothing_written(24);
     }
     let shape = page::shape_line(lens);
-    let line = page::order_line(order);
+    let line = page::order_line(release, order);
     let rows = checks::words_of(&lens[..3]);
     let end = writer::result(out, shape, line, words, rows, lens[3]);
     Written {
@@ -64,7 +72,28 @@ pub fn write(lens: [usize; 4], order: usize, words: &[u32], out: &mut [u8]) -> W
     if 23 < order {
         return nothing_written(7);
     }
-    put_result(lens, order, words, out)
+    put_result(lens, 0, order, words, out)
+}
+
+// Writes the result sheet that names its release at the start of `out`.
+pub fn write_release(
+    lens: [usize; 4],
+    release: usize,
+    order: usize,
+    words: &[u32],
+    out: &mut [u8],
+) -> Written
+    ensures { λ r. ⌜ ReleaseWrittenAs lens release order (now (words .entry)) (now (out .entry)) r (now (out .exit)) ⌝ }
+{
+    let number = blocks::sheet_number(&lens, words);
+    if number != 0 {
+        return nothing_written(number);
+    }
+    let unnamed = checks::named_number(release, order);
+    if unnamed != 0 {
+        return nothing_written(unnamed);
+    }
+    put_result(lens, release, order, words, out)
 }
 
 // Writes the line of a refusal: measures it, then puts it at the start of `out`.

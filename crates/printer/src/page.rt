@@ -46,15 +46,22 @@ pub(crate) fn shape_line(lens: [usize; 4]) -> Line
     }
 }
 
-// Line 2 of a result sheet: `order` and the order number.
-pub(crate) fn order_line(order: usize) -> Line
-    requires { ⌜ order ≤ 23 ⌝ }
-    ensures { λ r. ⌜ r ≡ orderLineOf order ⌝ }
+// Line 2 of a result sheet: `order`, the release where one is named (0 stands for none), and the order number.
+pub(crate) fn order_line(release: usize, order: usize) -> Line
+    requires { ⌜ (release ≤ 2) × (order ≤ 23) ⌝ }
+    ensures { λ r. ⌜ r ≡ orderLineOf release order ⌝ }
 {
+    if release == 0 {
+        return Line {
+            word: *b"order",
+            numbers: [order as u32, 0, 0, 0],
+            count: 1,
+        };
+    }
     Line {
         word: *b"order",
-        numbers: [order as u32, 0, 0, 0],
-        count: 1,
+        numbers: [release as u32, order as u32, 0, 0],
+        count: 2,
     }
 }
 

@@ -10,7 +10,7 @@ use borrow.Author.Tests.{lt-ltb, le-ltb}
 use Rattle.lists.proofs.Decide.{eq-or-ne}
 use Rattle.refusals.specs.FirstOf.{Check, check, firstOf}
 use Rattle.refusals.specs.Conditions.{shortScratch}
-use Rattle.refusals.specs.Calls.{sizeChecks, blockChecks, passesChecks, recursionChecks, chainChecks, requestChecks, planChecks}
+use Rattle.refusals.specs.Calls.{sizeChecks, blockChecks, passesChecks, recursionChecks, chainChecks, requestChecks, planChecks, namedChecks}
 use Rattle.refusals.specs.Scratch.{need}
 use Rattle.refusals.proofs.FirstOf.{Refusing, Silent, accepted-exactly, refused-first, accepted-so-far}
 use Rattle.refusals.proofs.FirstOf.Refusing.{none, more}
@@ -28,11 +28,16 @@ pub chain-accepted : (r : ℕ) (ds b s chain : List ℕ) → (firstOf (chainChec
 chain-accepted r ds b s chain =
     accepted-exactly (more (lit< tt) (more (lit< tt) (more (lit< tt) (more (lit< tt) (more (lit< tt) (more (lit< tt) (more (lit< tt) none)))))))
 
-pub request-accepted : (r : ℕ) (ds b s : List ℕ) (order : ℕ) → (firstOf (requestChecks r ds b s order) ≡ 0) ↔ Silent (requestChecks r ds b s order)
-request-accepted r ds b s order = accepted-exactly (more (lit< tt) (more (lit< tt) (more (lit< tt) (more (lit< tt) (more (lit< tt) (more (lit< tt) none))))))
+pub request-accepted : (r : ℕ) (ds b s : List ℕ) (release order : ℕ)
+    → (firstOf (requestChecks r ds b s release order) ≡ 0) ↔ Silent (requestChecks r ds b s release order)
+request-accepted r ds b s release order =
+    accepted-exactly (more (lit< tt) (more (lit< tt) (more (lit< tt) (more (lit< tt) (more (lit< tt) (more (lit< tt) (more (lit< tt) none)))))))
 
 pub plan-accepted : (r order : ℕ) → (firstOf (planChecks r order) ≡ 0) ↔ Silent (planChecks r order)
 plan-accepted r order = accepted-exactly (more (lit< tt) none)
+
+pub named-accepted : (r release order : ℕ) → (firstOf (namedChecks r release order) ≡ 0) ↔ Silent (namedChecks r release order)
+named-accepted r release order = accepted-exactly (more (lit< tt) (more (lit< tt) none))
 
 -- the checks of a block, then the room in scratch
 module _ (ds buffer scratch : List ℕ) where

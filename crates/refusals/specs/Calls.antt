@@ -3,7 +3,7 @@ use mathlib.Core.List.{List, [], _∷_, _++_}
 use Prim.Native.Nat.{ℕ}
 use Rattle.orders.specs.Needs.{chainNeed, planNeed}
 use Rattle.refusals.specs.FirstOf.{Check, check}
-use Rattle.refusals.specs.Conditions.{badLength, tooManyWords, shortBuffer, longBuffer, shortScratch, longChain, badSwap, noOrder}
+use Rattle.refusals.specs.Conditions.{badLength, tooManyWords, shortBuffer, longBuffer, shortScratch, longChain, badSwap, noOrder, noRelease}
 use Rattle.refusals.specs.Scratch.{need}
 
 -- the size of a block: 1, 2
@@ -35,6 +35,11 @@ chainChecks r ds buffer scratch chain =
 abbrev pub planChecks : ℕ → ℕ → List Check
 planChecks r order = check 7 (noOrder r order) ∷ []
 
--- direct request for an order of r axes: 1, 2, 3, 13, 7, 4
-abbrev pub requestChecks : ℕ → List ℕ → List ℕ → List ℕ → ℕ → List Check
-requestChecks r ds buffer scratch order = blockChecks ds buffer ++ (planChecks r order ++ (check 4 (shortScratch (planNeed r ds order) scratch) ∷ []))
+-- an order number by its release: 14, 7
+abbrev pub namedChecks : ℕ → ℕ → ℕ → List Check
+namedChecks r release order = check 14 (noRelease release) ∷ planChecks r order
+
+-- direct request for an order of r axes: 1, 2, 3, 13, 14, 7, 4
+abbrev pub requestChecks : ℕ → List ℕ → List ℕ → List ℕ → ℕ → ℕ → List Check
+requestChecks r ds buffer scratch release order =
+    blockChecks ds buffer ++ (namedChecks r release order ++ (check 4 (shortScratch (planNeed r ds release order) scratch) ∷ []))

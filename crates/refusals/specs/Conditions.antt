@@ -1,5 +1,5 @@
 -- The condition of each number. Assumes nothing: these are definitions.
-use mathlib.Core.Bool.{Bool, false, cond, _||_}
+use mathlib.Core.Bool.{Bool, false, cond, not, _||_}
 use mathlib.Core.List.{List, [], _∷_}
 use Prim.Native.Nat.{ℕ, suc, _-_, max}
 use lib.Dec.{ltb, eqb}
@@ -61,3 +61,7 @@ firstPlace f (x ∷ xs) = cond (f x) 0 (suc (firstPlace f xs))
 -- 7: the order number is above the last, for four axes above 23
 abbrev pub noOrder : ℕ → ℕ → Bool
 noOrder r k = ltb (orderCount r - 1) k
+
+-- 14: the release is neither 1 nor 2
+abbrev pub noRelease : ℕ → Bool
+noRelease release = not (eqb release 1 || eqb release 2)

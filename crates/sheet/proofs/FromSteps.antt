@@ -1,8 +1,8 @@
 -- The whole sheet from its steps, whatever its second line is: the first step that refuses is the outcome, and where none does the
 -- sheet is accepted; what the function that both readers call then promises; and what each of the readers makes of it. From the definitions.
 use mathlib.Core.Path.{_≡_, refl, sym, ap, _∙_}
-use mathlib.Core.List.{List, _++_}
-use Prim.Native.Nat.{ℕ, _+_, _-_, _≤_}
+use mathlib.Core.List.{List, [], _∷_, _++_}
+use Prim.Native.Nat.{ℕ, _+_, _<_, _≤_}
 use native.Mathlib.Omega.{arith}
 use lib.ListN.{length, drop, getD}
 use lib.Seq.{sets, sets-eq}
@@ -17,7 +17,6 @@ use Rattle.sheet.specs.declared.whole.Page.{Page}
 use Rattle.sheet.specs.Place.{VerdictAt, SecondAt, RowsTaken, wordsOf, noPage, pageOf, PageAs}
 use Rattle.sheet.specs.Reader.{answer, kept, ReadAs}
 use Rattle.sheet.specs.ResultReader.{resultAnswer, ResultReadAs}
-use Rattle.sheet.proofs.HeadLines.{first-padded}
 
 page-refused : {second : List ℕ → Verdict} {buffer bytes : List ℕ} {number place : ℕ} {answered : Page}
     → meaningBy second buffer bytes ≡ Outcome.refused number place → answered ≡ noPage number place → PageAs second buffer bytes answered buffer
@@ -88,14 +87,33 @@ module _ {buffer bytes buffer′ : List ℕ} {p : Page} where
       same (Outcome.refused number place) = refl
       same (Outcome.accepted ds ns words) = refl
 
-  pub as-result : PageAs orderLine buffer bytes p buffer′
-      → ResultReadAs buffer bytes (record { number = p .number; place = p .place; lens = p .lens; order = getD (p .numbers) 0 0 }) buffer′
-  as-result h = record { answers = ap resultOf (h .answers) ∙ same (meaningBy orderLine buffer bytes); words = h .words }
+  -- a page with two numbers names a release, one with fewer names none
+  pub as-released : PageAs orderLine buffer bytes p buffer′ → 1 < p .count
+      → ResultReadAs buffer bytes
+      (record { number = p .number; place = p .place; lens = p .lens; release = getD (p .numbers) 0 0; order = getD (p .numbers) 1 0 }) buffer′
+  as-released h two =
+      record { answers = ap resultOf (h .answers) ∙ same (meaningBy orderLine buffer bytes) (rw (h .answers) at two); words = h .words }
     where
       resultOf : Page → ResultSheet
-      resultOf q = record { number = q .number; place = q .place; lens = q .lens; order = getD (q .numbers) 0 0 }
+      resultOf q = record { number = q .number; place = q .place; lens = q .lens; release = getD (q .numbers) 0 0; order = getD (q .numbers) 1 0 }
 
-      same : (o : Outcome) → resultOf (pageOf o) ≡ resultAnswer o
-      same (Outcome.refused number place) = refl
-      same (Outcome.accepted ds ns words) =
-          ap (λ (k : ℕ). record { number = 0; place = 0; lens = ds; order = k }) (first-padded ns (32 - length ns))
+      same : (o : Outcome) → 1 < pageOf o .count → resultOf (pageOf o) ≡ resultAnswer o
+      same (Outcome.refused number place) k = absurd (omega arith)
+      same (Outcome.accepted ds [] words) k = absurd (omega arith)
+      same (Outcome.accepted ds (v ∷ []) words) k = absurd (omega arith)
+      same (Outcome.accepted ds (release ∷ v ∷ ns) words) k = refl
+
+  pub as-result : PageAs orderLine buffer bytes p buffer′ → p .count ≤ 1
+      → ResultReadAs buffer bytes
+      (record { number = p .number; place = p .place; lens = p .lens; release = 0; order = getD (p .numbers) 0 0 }) buffer′
+  as-result h one =
+      record { answers = ap resultOf (h .answers) ∙ same (meaningBy orderLine buffer bytes) (rw (h .answers) at one); words = h .words }
+    where
+      resultOf : Page → ResultSheet
+      resultOf q = record { number = q .number; place = q .place; lens = q .lens; release = 0; order = getD (q .numbers) 0 0 }
+
+      same : (o : Outcome) → pageOf o .count ≤ 1 → resultOf (pageOf o) ≡ resultAnswer o
+      same (Outcome.refused number place) k = refl
+      same (Outcome.accepted ds [] words) k = refl
+      same (Outcome.accepted ds (v ∷ []) words) k = refl
+      same (Outcome.accepted ds (release ∷ v ∷ ns) words) k = absurd (omega arith)

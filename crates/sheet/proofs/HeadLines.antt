@@ -1,22 +1,22 @@
 -- Lines 1 and 2, way out by way out: what each condition that holds, and none before it, makes of the step. From the definitions.
-use mathlib.Core.Path.{_≡_, refl, sym, ap, _∙_}
-use mathlib.Core.Bool.{Bool, true, false, not}
+use mathlib.Core.Path.{_≡_, refl, sym, ap, ap₂, _∙_}
+use mathlib.Core.Bool.{Bool, true, false, cond, not}
 use mathlib.Core.List.{List, [], _∷_, _++_}
 use Prim.Native.Nat.{ℕ, zero, suc, _+_, _-_, _<_, _≤_}
 use native.Mathlib.Omega.{arith}
-use lib.Dec.{ltb}
+use lib.Dec.{ltb, eqb}
 use lib.ListN.{length, take, drop, getD, replicate}
 use lib.Seq.{take-at}
 use borrow.Author.Tests.{not-true, not-false, lt-ltb, le-ltb}
 use Rattle.refusals.specs.FirstOf.{check, firstOf}
-use Rattle.refusals.specs.Conditions.{badLength, shortBuffer, noSwap, badSwap, firstPlace}
+use Rattle.refusals.specs.Conditions.{badLength, shortBuffer, noSwap, badSwap, noOrder, firstPlace}
 use Rattle.refusals.proofs.Some.{found-place, no-place}
 use Rattle.text.specs.Print.{lineFeed}
 use Rattle.text.specs.Read.{Reading, readFields, readLine, tabs}
 use Rattle.text.specs.Sheet.{shapeWord, chainWord, orderWord}
-use Rattle.text.specs.Meaning.{Verdict, bigSheet, refuseIf, shapeLine, chainLine, orderLine}
+use Rattle.text.specs.Meaning.{Verdict, bigSheet, refuseIf, shapeLine, chainLine, lineOrder, wrongRelease, orderFields, orderLine}
 use Rattle.text.proofs.Lines.{line-text}
-use Rattle.sheet.specs.Place.{At, There, RefusedWith, VerdictAt, SecondAt, numbersOf, wordsOf, secondLine}
+use Rattle.sheet.specs.Place.{At, There, RefusedWith, VerdictAt, SecondAt, numbersOf, wordsOf, lineNumber, secondLine}
 use Rattle.blocks.specs.Checks.{sheetChecks}
 use Rattle.blocks.proofs.Block.{firstFour, first-four}
 use Rattle.sheet.proofs.LinesAt.{line-fields}
@@ -188,42 +188,71 @@ module _ {bytes : List ℕ} (at : ℕ) {count : ℕ} (t : count ≡ tabs (drop a
           let none = no-place (noSwap 4) chain (omega (arith, first, count-of)) in
           second-go {vs = chain} (chain-formed ∙ rw (le-ltb 32 (length chain) (omega (arith, count-of)), none)) (l .inside) swaps-are count-of
 
--- the first of numbers that are followed by zeros
-pub first-padded : (vs : List ℕ) (k : ℕ) → getD (vs ++ replicate k 0) 0 0 ≡ getD vs 0 0
-first-padded [] zero = refl
-first-padded [] (suc k) = refl
-first-padded (v ∷ vs) k = refl
+-- two conditions refuse with the number of the first that holds
+two-go : (a b : Bool) (s : Verdict) → firstOf (check 14 a ∷ check 7 b ∷ []) ≡ 0 → refuseIf a 14 0 (refuseIf b 7 0 s) ≡ s
+two-go true b s e = absurd (omega arith)
+two-go false true s e = absurd (omega arith)
+two-go false false s e = refl
 
--- an order number
-module _ {bytes : List ℕ} (at : ℕ) {ok : Bool} {end : ℕ}
-    (l : At bytes (readLine orderWord 1 (drop at bytes)) ok (numbersOf (readLine orderWord 1 (drop at bytes))) end) where
+two-no : (a b : Bool) (s : Verdict) → (firstOf (check 14 a ∷ check 7 b ∷ []) ≡ 0 → ⊥)
+    → refuseIf a 14 0 (refuseIf b 7 0 s) ≡ Verdict.refuse (firstOf (check 14 a ∷ check 7 b ∷ [])) 0
+two-no true b s n = refl
+two-no false true s n = refl
+two-no false false s n = absurd (n refl)
+
+-- what refuses the numbers of line 2, of which one or two stand before zeros
+line-number : (vs : List ℕ) (k : ℕ)
+    → lineNumber (length vs) (vs ++ replicate k 0) ≡ firstOf (check 14 (wrongRelease vs) ∷ check 7 (noOrder 4 (lineOrder vs)) ∷ [])
+line-number [] zero = refl
+line-number [] (suc k) = refl
+line-number (v ∷ []) k = refl
+line-number (release ∷ v ∷ vs) k = rw (lt-ltb 1 (length (release ∷ v ∷ vs)) (omega arith))
+
+-- how many numbers the line must have
+pub order-few : (bytes : List ℕ) → orderFields bytes ≤ 2
+order-few bytes = by (eqb (tabs bytes) 2)
+  where
+    by : (t : Bool) → cond t 2 1 ≤ 2
+    by true = omega arith
+    by false = omega arith
+
+-- a release, where one is named, and an order number
+module _ {bytes : List ℕ} (at : ℕ) {count : ℕ} (t : count ≡ orderFields (drop at bytes)) {ok : Bool} {end : ℕ}
+    (l : At bytes (readLine orderWord count (drop at bytes)) ok (numbersOf (readLine orderWord count (drop at bytes))) end) where
   pub order-form : {numbers : List ℕ} {number place n next : ℕ} → not ok ≡ true → RefusedWith 10 2 number place next
       → SecondAt bytes (orderLine (drop at bytes)) number place numbers n next
   unfolding orderLine
-  order-form o r = second-no r (λ z. omega arith) (rw (l .wrong (not-true ok o)))
+  order-form o r = second-no r (λ z. omega arith) (rw (← t, l .wrong (not-true ok o)))
 
   module _ (o : not ok ≡ false) (inside : at ≤ length bytes) {numbers : List ℕ}
-      (e : numbers ≡ numbersOf (readFields 1 (drop (at + 5) bytes)) ++ replicate 31 0) where
+      (e : numbers ≡ numbersOf (readFields count (drop (at + 5) bytes)) ++ replicate (32 - count) 0) {k : ℕ} (j : k ≡ lineNumber count numbers) where
     abbrev order : List ℕ
-    order = numbersOf (readLine orderWord 1 (drop at bytes))
+    order = numbersOf (readLine orderWord count (drop at bytes))
 
-    numbers-are : numbers ≡ order ++ replicate 31 0
-    numbers-are = fetched at orderWord 1 l o inside e
+    numbers-are : numbers ≡ order ++ replicate (32 - count) 0
+    numbers-are = fetched at orderWord count l o inside e
 
-    said : getD numbers 0 0 ≡ getD order 0 0
-    said = ap (λ (vs : List ℕ). getD vs 0 0) numbers-are ∙ first-padded order 31
-
-    order-formed : orderLine (drop at bytes) ≡ refuseIf (ltb 23 (getD order 0 0)) 7 0 (Verdict.go order (drop end bytes))
+    order-formed : orderLine (drop at bytes)
+        ≡ refuseIf (wrongRelease order) 14 0 (refuseIf (noOrder 4 (lineOrder order)) 7 0 (Verdict.go order (drop end bytes)))
     unfolding orderLine
-    order-formed = rw (l .right (not-false ok o))
+    order-formed = rw (← t, l .right (not-false ok o))
 
-    pub order-no : {values : List ℕ} {number place n next : ℕ} → 23 < getD numbers 0 0 → RefusedWith 7 0 number place next
+    numbered : k ≡ firstOf (check 14 (wrongRelease order) ∷ check 7 (noOrder 4 (lineOrder order)) ∷ [])
+    numbered = j ∙ ap₂ lineNumber (sym (long at orderWord count l o)) numbers-are ∙ line-number order (32 - count)
+
+    pub order-no : {values : List ℕ} {number place n next : ℕ} → (k ≡ 0 → ⊥) → RefusedWith k 0 number place next
         → SecondAt bytes (orderLine (drop at bytes)) number place values n next
-    order-no h r = second-no r (λ z. omega arith) (order-formed ∙ rw (lt-ltb 23 (getD order 0 0) (omega (arith, said))))
+    order-no z r =
+        second-no r z
+        (order-formed
+        ∙ two-no (wrongRelease order) (noOrder 4 (lineOrder order)) (Verdict.go order (drop end bytes)) (λ y. z (numbered ∙ y))
+        ∙ ap (λ (n : ℕ). Verdict.refuse n 0) (sym numbered))
 
-    pub order-go : getD numbers 0 0 ≤ 23 → SecondAt bytes (orderLine (drop at bytes)) 0 0 numbers 1 end
-    order-go h =
-        second-go {vs = order} (order-formed ∙ rw (le-ltb 23 (getD order 0 0) (omega (arith, said)))) (l .inside) numbers-are (long at orderWord 1 l o)
+    pub order-go : k ≡ 0 → SecondAt bytes (orderLine (drop at bytes)) 0 0 numbers count end
+    order-go z =
+        second-go {vs = order}
+        (order-formed ∙ two-go (wrongRelease order) (noOrder 4 (lineOrder order)) (Verdict.go order (drop end bytes)) (sym numbered ∙ z))
+        (l .inside) numbers-are (long at orderWord count l o)
 
 -- line 2 by its reader
 module _ {bytes : List ℕ} (at : ℕ) (result : Bool) {numbers : List ℕ} {number place n next : ℕ} where

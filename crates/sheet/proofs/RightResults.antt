@@ -1,13 +1,17 @@
 -- The number of the reader of result sheets is 0 exactly when the bytes are the text of what it answers and stores; where it is not, the
 -- place is the first line at fault. From the laws of accepted and of refused result sheets.
-use mathlib.Core.Path.{_≡_, refl, ap, _∙_}
+use mathlib.Core.Path.{_≡_, refl, sym, ap, ap₂, subst, _∙_}
+use mathlib.Core.Bool.{Bool, true, false, cond}
 use mathlib.Core.List.{List, [], _∷_, _++_}
-use Prim.Native.Nat.{ℕ}
+use Prim.Native.Nat.{ℕ, _≤_}
 use native.Mathlib.Omega.{arith}
-use lib.ListN.{length, take, drop, getD}
+use lib.Dec.{eqb}
+use lib.ListN.{length, take, drop}
 use lib.Seq.{take-at}
+use borrow.Author.Tests.{eqb-true}
 use Rattle.layout.specs.Layout.{volume}
-use Rattle.text.specs.Meaning.{Outcome, resultMeaning}
+use Rattle.text.specs.Sheet.{orderNumbers}
+use Rattle.text.specs.Meaning.{Outcome, lineRelease, lineOrder, resultMeaning}
 use Rattle.text.proofs.SecondLines.{RightResult, result-exactly}
 use Rattle.text.proofs.Bounds.{Within, result-within}
 use Rattle.text.proofs.Faults.{ResultFault, result-fault}
@@ -16,8 +20,8 @@ use Rattle.sheet.specs.Reader.{kept}
 use Rattle.sheet.specs.ResultReader.{resultAnswer, ResultReadAs}
 
 -- the answer to a result sheet that is right
-abbrev pub found : List ℕ → ℕ → ResultSheet
-found ds order = record { number = 0; place = 0; lens = ds; order = order }
+abbrev pub found : List ℕ → ℕ → ℕ → ResultSheet
+found ds release order = record { number = 0; place = 0; lens = ds; release = release; order = order }
 
 -- what is answered and stored once the meaning is known
 module _ {buffer bytes : List ℕ} {r : ResultSheet} {w : List ℕ} {o : Outcome} (p : ResultReadAs buffer bytes r w) (m : resultMeaning buffer bytes ≡ o) where
@@ -28,24 +32,36 @@ module _ {buffer bytes : List ℕ} {r : ResultSheet} {w : List ℕ} {o : Outcome
   stored = p .words ∙ ap (λ (o : Outcome). kept o buffer) m
 
 -- a result sheet that is right is accepted, and answered with what it is the text of
-pub right-is-read : {buffer bytes : List ℕ} {r : ResultSheet} {w ds : List ℕ} {order : ℕ} {words : List ℕ} → ResultReadAs buffer bytes r w
-    → RightResult buffer bytes ds (order ∷ []) words → (r ≡ found ds order) × (w ≡ words ++ drop (length words) buffer)
-right-is-read {buffer} {bytes} {ds = ds} {order = order} {words = words} p h =
-    let m = result-exactly buffer bytes ds (order ∷ []) words .1 h in
-    (answered p m, stored p m)
+numbers-said : (release order : ℕ) → (lineRelease (orderNumbers release order) ≡ release) × (lineOrder (orderNumbers release order) ≡ order)
+numbers-said release order = by (eqb release 0) refl
+  where
+    by : (t : Bool) → eqb release 0 ≡ t
+        → (lineRelease (cond t (order ∷ []) (release ∷ order ∷ [])) ≡ release) × (lineOrder (cond t (order ∷ []) (release ∷ order ∷ [])) ≡ order)
+    by true e = (sym (eqb-true release 0 e), refl)
+    by false e = (refl, refl)
+
+pub right-is-read : {buffer bytes : List ℕ} {r : ResultSheet} {w ds : List ℕ} (release order : ℕ) {words : List ℕ} → ResultReadAs buffer bytes r w
+    → RightResult buffer bytes ds (orderNumbers release order) words → (r ≡ found ds release order) × (w ≡ words ++ drop (length words) buffer)
+right-is-read {buffer} {bytes} {ds = ds} release order {words} p h =
+    let m = result-exactly buffer bytes ds (orderNumbers release order) words .1 h in
+    let said = numbers-said release order in
+    (answered p m ∙ ap₂ (found ds) (said .0) (said .1), stored p m)
 
 -- one that is accepted is right
 pub record ReadRight (buffer bytes : List ℕ) (r : ResultSheet) (w : List ℕ) : Type 0 where
-  pub right : RightResult buffer bytes (r .lens) (r .order ∷ []) (take (volume (r .lens)) w)
+  pub right : RightResult buffer bytes (r .lens) (orderNumbers (r .release) (r .order)) (take (volume (r .lens)) w)
+  pub release : r .release ≤ 2
+  pub known : r .order ≤ 23
   pub words : w ≡ take (volume (r .lens)) w ++ drop (volume (r .lens)) buffer
 
 -- with the answer that it is given
 accepted-right : {buffer bytes : List ℕ} {r : ResultSheet} {w ds ns words : List ℕ} → RightResult buffer bytes ds ns words
-    → r ≡ found ds (getD ns 0 0) → w ≡ words ++ drop (length words) buffer → ReadRight buffer bytes r w
+    → r ≡ found ds (lineRelease ns) (lineOrder ns) → w ≡ words ++ drop (length words) buffer → ReadRight buffer bytes r w
 accepted-right {buffer} {bytes} {ds = ds} {ns = ns} {words = words} h a e =
     let front : take (volume ds) (words ++ drop (length words) buffer) ≡ words = take-at words (drop (length words) buffer) (volume ds) (h .block) in
-    let right : RightResult buffer bytes ds (getD ns 0 0 ∷ []) words = rw (h .second .one) at h in
-    rw (a, e) (record { right = rw front right; words = rw (front, h .block) })
+    let right : RightResult buffer bytes ds (orderNumbers (lineRelease ns) (lineOrder ns)) words =
+    subst (λ (l : List ℕ). RightResult buffer bytes ds l words) (h .second .named) h in
+    rw (a, e) (record { right = rw front right; release = h .second .release; known = h .second .known; words = rw (front, h .block) })
 
 pub read-is-right : {buffer bytes : List ℕ} {r : ResultSheet} {w : List ℕ} → ResultReadAs buffer bytes r w → r .number ≡ 0 → ReadRight buffer bytes r w
 read-is-right {buffer} {bytes} {r} {w} p z = by (resultMeaning buffer bytes) refl (result-within buffer bytes)

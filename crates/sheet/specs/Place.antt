@@ -1,11 +1,14 @@
 -- These definitions serve only the contracts of private functions: a reader of the promises can pass over them.
 -- What the functions that read at a place promise. Assumes nothing.
 use mathlib.Core.Path.{_≡_}
-use mathlib.Core.Bool.{Bool, true, false}
+use mathlib.Core.Bool.{Bool, true, false, cond}
 use mathlib.Core.List.{List, []}
 use Prim.Native.Nat.{ℕ, _≤_}
-use lib.ListN.{length, drop, replicate}
+use lib.Dec.{ltb}
+use lib.ListN.{length, getD, drop, replicate}
 use lib.Seq.{sets}
+use Rattle.refusals.specs.FirstOf.{firstOf}
+use Rattle.refusals.specs.Calls.{namedChecks}
 use Rattle.text.specs.Read.{Reading}
 use Rattle.text.specs.Meaning.{Verdict, Outcome, chainLine, orderLine, meaningBy}
 use Rattle.sheet.specs.Swaps.{padded}
@@ -75,6 +78,11 @@ pub record SecondAt (bytes : List ℕ) (what : Verdict) (number place : ℕ) (nu
   pub step : VerdictAt bytes what number place (wordsOf what) next
   pub padded : number ≡ 0 → numbers ≡ padded (wordsOf what)
   pub counted : number ≡ 0 → count ≡ length (wordsOf what)
+
+-- what refuses the numbers of line 2 of a result sheet: 14, 7; one number is judged as if it named release 1
+abbrev pub lineNumber : ℕ → List ℕ → ℕ
+lineNumber count numbers =
+    cond (ltb 1 count) (firstOf (namedChecks 4 (getD numbers 0 0) (getD numbers 1 0))) (firstOf (namedChecks 4 1 (getD numbers 0 0)))
 
 -- line 2 of a result sheet, or of a sheet
 abbrev pub secondLine : Bool → List ℕ → Verdict

@@ -1,10 +1,11 @@
 // Lines 1 and 2 of a sheet and of a result sheet with their checks: private to the library.
 use crate::line;
 use crate::values;
+ghost use mathlib.Core.Path.{_≡_};
 ghost use Prim.Native.Nat.{_≤_};
 ghost use lib.ListN.{length, drop};
-ghost use Rattle.text.specs.Meaning.{shapeLine, chainLine, orderLine};
-ghost use Rattle.sheet.specs.Place.{RefusedWith, VerdictAt, SecondAt, secondLine};
+ghost use Rattle.text.specs.Meaning.{shapeLine, chainLine, orderFields, orderLine};
+ghost use Rattle.sheet.specs.Place.{RefusedWith, VerdictAt, SecondAt, lineNumber, secondLine};
 
 // Line 1 as it was read: a number and a place, or the lengths and the place after the line.
 pub struct Shape {
@@ -98,24 +99,48 @@ pub(crate) fn chain_at(bytes: &[u8], at: usize) -> Second
     }
 }
 
-// Line 2 of a result sheet, at `at`: an order number.
+// How many numbers line 2 of a result sheet must have, at `at`: two where it has two fields, else one.
+fn order_fields(bytes: &[u8], at: usize) -> usize
+    requires { ⌜ at ≤ length (now bytes) ⌝ }
+    ensures { λ r. ⌜ r ≡ orderFields (drop at (now (bytes .entry))) ⌝ }
+{
+    let tabs = line::tabs_at(bytes, at);
+    if tabs == 2 {
+        return 2;
+    }
+    1
+}
+
+// What refuses the numbers of line 2 of a result sheet, 14 and 7: a sheet that names no release is judged as one of release 1.
+fn order_number(numbers: [usize; 32], count: usize) -> u32
+    ensures { λ r. ⌜ r ≡ lineNumber count numbers ⌝ }
+{
+    if 1 < count {
+        return checks::named_number(numbers[0], numbers[1]);
+    }
+    checks::named_number(1, numbers[0])
+}
+
+// Line 2 of a result sheet, at `at`: a release, where one is named, and an order number.
 pub(crate) fn order_at(bytes: &[u8], at: usize) -> Second
     requires { ⌜ at ≤ length (now bytes) ⌝ }
     ensures { λ r. ⌜ SecondAt (now (bytes .entry)) (orderLine (drop at (now (bytes .entry)))) (r .number) (r .place) (r .numbers) (r .count) (r .next) ⌝ }
 {
-    let second = line::line_at(bytes, at, b"order", 1);
+    let count = order_fields(bytes, at);
+    let second = line::line_at(bytes, at, b"order", count);
     if !second.ok {
         return no_second(10, 2);
     }
-    let numbers = values::values_at(bytes, at + 5, 1);
-    if 23 < numbers[0] {
-        return no_second(7, 0);
+    let numbers = values::values_at(bytes, at + 5, count);
+    let number = order_number(numbers, count);
+    if number != 0 {
+        return no_second(number, 0);
     }
     Second {
         number: 0,
         place: 0,
         numbers,
-        count: 1,
+        count,
         next: second.next,
     }
 }

@@ -17,11 +17,12 @@ pub struct Sheet {
     pub count: usize,
 }
 
-// What a result sheet says: its number and place, its lengths and its order number.
+// What a result sheet says: its number and place, its lengths, its release, 0 where it names none, and its order number.
 pub struct ResultSheet {
     pub number: u32,
     pub place: usize,
     pub lens: [usize; 4],
+    pub release: usize,
     pub order: usize,
 }
 
@@ -48,10 +49,20 @@ pub fn read_result(bytes: &[u8], words: &mut [u32]) -> ResultSheet
     let page = whole::read_page(bytes, words, true);
     let lens = page.lens;
     let numbers = page.numbers;
+    if 1 < page.count {
+        return ResultSheet {
+            number: page.number,
+            place: page.place,
+            lens,
+            release: numbers[0],
+            order: numbers[1],
+        };
+    }
     ResultSheet {
         number: page.number,
         place: page.place,
         lens,
+        release: 0,
         order: numbers[0],
     }
 }

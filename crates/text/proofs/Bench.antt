@@ -8,7 +8,7 @@ use Rattle.text.specs.Print.{digits, decimal, field, fields, line}
 use Rattle.text.specs.Read.{Reading, readMore, readNumber, readField, readFields, closed, readLine, tabs}
 use Rattle.layout.specs.Layout.{volume}
 use Rattle.refusals.specs.Conditions.{firstPlace}
-use Rattle.text.specs.Sheet.{shapeWord, chainWord, orderWord, rowWord, rowCount, rowWidth, rowsText, sheetText, resultText}
+use Rattle.text.specs.Sheet.{shapeWord, chainWord, orderWord, rowWord, rowCount, rowWidth, rowsText, sheetText, resultText, resultBy}
 use Rattle.text.specs.Meaning.{Outcome, shapeLine, chainLine, orderLine, rowLines, ended, meaning, resultMeaning, meaningBy}
 
 printed : decimal 4294967295 ≡ 52 ∷ 50 ∷ 57 ∷ 52 ∷ 57 ∷ 54 ∷ 55 ∷ 50 ∷ 57 ∷ 53 ∷ []
@@ -92,8 +92,9 @@ turned = resultText (1 ∷ 1 ∷ 3 ∷ 2 ∷ []) 1 (1 ∷ 4 ∷ 2 ∷ 5 ∷ 3 �
 abbrev titled : List ℕ → List ℕ → List ℕ → List ℕ
 titled ds ns rest = line shapeWord ds ++ (line orderWord ns ++ rest)
 
--- the result sheet; a byte more; an LF more; the sheet it came from; order 24; two numbers, one of them above 23; no number; an empty sheet;
--- a row too short; no row; a buffer too short, and order 24; line 2 malformed, and a row too short
+-- the result sheet; a byte more; an LF more; the sheet it came from; order 24; releases 24, 0 and 3 with the orders 1, 5 and 24; no number; an empty
+-- sheet; a row too short; no row; a buffer too short, and order 24; line 2 malformed, and a row too short; three numbers; release 2 and order 24; release
+-- 2 with the rows
 results : cases resultMeaning
     (turned
     ∷ (turned ++ (48 ∷ []))
@@ -101,26 +102,36 @@ results : cases resultMeaning
     ∷ example
     ∷ titled (1 ∷ 1 ∷ 1 ∷ 1 ∷ []) (24 ∷ []) []
     ∷ titled (1 ∷ 1 ∷ 1 ∷ 1 ∷ []) (24 ∷ 1 ∷ []) []
+    ∷ titled (1 ∷ 1 ∷ 1 ∷ 1 ∷ []) (0 ∷ 5 ∷ []) []
+    ∷ titled (1 ∷ 1 ∷ 1 ∷ 1 ∷ []) (3 ∷ 24 ∷ []) []
     ∷ titled (1 ∷ 1 ∷ 1 ∷ 1 ∷ []) [] []
     ∷ []
     ∷ titled (1 ∷ 1 ∷ 2 ∷ 1 ∷ []) (23 ∷ []) (line rowWord (7 ∷ []) ++ line rowWord [])
     ∷ titled (1 ∷ 1 ∷ 2 ∷ 1 ∷ []) (23 ∷ []) []
     ∷ titled (1 ∷ 1 ∷ 7 ∷ 1 ∷ []) (24 ∷ []) []
     ∷ titled (1 ∷ 1 ∷ 1 ∷ 1 ∷ []) [] (line rowWord [])
+    ∷ titled (1 ∷ 1 ∷ 1 ∷ 1 ∷ []) (1 ∷ 2 ∷ 3 ∷ []) []
+    ∷ titled (1 ∷ 1 ∷ 1 ∷ 1 ∷ []) (2 ∷ 24 ∷ []) []
+    ∷ titled (1 ∷ 1 ∷ 1 ∷ 1 ∷ []) (2 ∷ 9 ∷ []) (line rowWord (7 ∷ []))
     ∷ [])
     ≡ Outcome.accepted (1 ∷ 1 ∷ 3 ∷ 2 ∷ []) (1 ∷ []) (1 ∷ 4 ∷ 2 ∷ 5 ∷ 3 ∷ 6 ∷ [])
     ∷ Outcome.refused 10 6
     ∷ Outcome.refused 10 6
     ∷ Outcome.refused 10 2
     ∷ Outcome.refused 7 0
-    ∷ Outcome.refused 10 2
+    ∷ Outcome.refused 14 0
+    ∷ Outcome.refused 14 0
+    ∷ Outcome.refused 14 0
     ∷ Outcome.refused 10 2
     ∷ Outcome.refused 10 1
     ∷ Outcome.refused 10 4
     ∷ Outcome.refused 10 3
     ∷ Outcome.refused 3 0
     ∷ Outcome.refused 10 2
+    ∷ Outcome.refused 10 2
+    ∷ Outcome.refused 7 0
+    ∷ Outcome.accepted (1 ∷ 1 ∷ 1 ∷ 1 ∷ []) (2 ∷ 9 ∷ []) (7 ∷ [])
     ∷ []
-unfolding turned example sheetText resultText rowsText rowCount rowWidth volume line fields field decimal digits
-    meaningBy shapeLine orderLine rowLines ended readLine readFields readField readNumber readMore closed
+unfolding turned example sheetText resultBy rowsText rowCount rowWidth volume line fields field decimal digits
+    meaningBy shapeLine orderLine rowLines ended tabs readLine readFields readField readNumber readMore closed
 results = refl

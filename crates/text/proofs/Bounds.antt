@@ -5,13 +5,13 @@ use mathlib.Core.Bool.{Bool, true, false, cond}
 use mathlib.Core.List.{List, [], _∷_}
 use Prim.Native.Nat.{ℕ, zero, suc, _+_, _<_, _≤_}
 use native.Mathlib.Omega.{arith}
-use lib.ListN.{length, getD}
+use lib.ListN.{length}
 use borrow.Author.Tests.{ltb-false}
 use Rattle.refusals.specs.Conditions.{badLength, shortBuffer, longChain, badSwap, noSwap, noOrder, firstPlace}
 use Rattle.text.specs.Print.{limit}
 use Rattle.text.specs.Read.{Reading, readLine, tabs}
 use Rattle.text.specs.Sheet.{shapeWord, chainWord, orderWord, rowWord, rowCount, rowWidth}
-use Rattle.text.specs.Meaning.{Verdict, Outcome, longSheet, bigSheet, refuseIf, onLine, onward, behind, conclude, ended, shapeLine, chainLine, orderLine, rowLines, meaningBy, meaning, resultMeaning}
+use Rattle.text.specs.Meaning.{Verdict, Outcome, longSheet, bigSheet, refuseIf, onLine, onward, behind, conclude, ended, shapeLine, chainLine, lineOrder, wrongRelease, orderFields, orderLine, rowLines, meaningBy, meaning, resultMeaning}
 use Rattle.text.proofs.Accepted.{shape-read}
 use Rattle.text.proofs.Length.{rows-le-words}
 
@@ -82,9 +82,10 @@ chain-kept bytes =
 order-kept : (bytes : List ℕ) → Kept (orderLine bytes)
 unfolding orderLine
 order-kept bytes =
-    onwards (λ (ns : List ℕ) (rest : List ℕ). refuseIf (noOrder 4 (getD ns 0 0)) 7 0 (Verdict.go ns rest))
-    (form 2 (readLine orderWord 1 bytes) (omega arith))
-    (λ ns rest. condition (noOrder 4 (getD ns 0 0)) 7 0 (λ _. bounds 7 0 (omega arith) (omega arith) (omega arith)) (λ _. goes))
+    onwards (λ (ns : List ℕ) (rest : List ℕ). refuseIf (wrongRelease ns) 14 0 (refuseIf (noOrder 4 (lineOrder ns)) 7 0 (Verdict.go ns rest)))
+    (form 2 (readLine orderWord (orderFields bytes) bytes) (omega arith))
+    (λ ns rest. condition (wrongRelease ns) 14 0 (λ _. bounds 14 0 (omega arith) (omega arith) (omega arith))
+    (λ _. condition (noOrder 4 (lineOrder ns)) 7 0 (λ _. bounds 7 0 (omega arith) (omega arith) (omega arith)) (λ _. goes)))
 
 rows-kept : (k count n : ℕ) (bytes : List ℕ) → k + count ≤ limit → Kept (rowLines k count n bytes)
 unfolding rowLines

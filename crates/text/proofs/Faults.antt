@@ -5,13 +5,13 @@ use mathlib.Core.Bool.{Bool, true, false}
 use mathlib.Core.List.{List, [], _∷_, _++_, append-assoc}
 use Prim.Native.Nat.{ℕ, zero, suc, _+_, _*_, _<_}
 use native.Mathlib.Omega.{arith}
-use lib.ListN.{length, getD, length-append}
+use lib.ListN.{length, length-append}
 use lib.Seq.{take-at, drop-at}
 use Rattle.refusals.specs.Conditions.{badLength, shortBuffer, noOrder}
 use Rattle.text.specs.Print.{line}
 use Rattle.text.specs.Read.{Reading, readLine}
 use Rattle.text.specs.Sheet.{shapeWord, orderWord, rowWord, rowCount, rowWidth, rowsText}
-use Rattle.text.specs.Meaning.{Verdict, Outcome, longSheet, bigSheet, refuseIf, onLine, onward, behind, conclude, ended, shapeLine, orderLine, rowLines, meaningBy, resultMeaning}
+use Rattle.text.specs.Meaning.{Verdict, Outcome, longSheet, bigSheet, refuseIf, onLine, onward, behind, conclude, ended, shapeLine, lineOrder, wrongRelease, orderFields, orderLine, rowLines, meaningBy, resultMeaning}
 use Rattle.text.proofs.Lines.{line-text}
 
 -- the line at fault once so many rows were right: it is no row, or nothing should follow the last row
@@ -94,7 +94,7 @@ pub data ResultFault (buffer bytes : List ℕ) : ℕ → ℕ → Type 0 where
   -- line 1 is malformed or missing
   line-1 : readLine shapeWord 4 bytes ≡ Reading.none → ResultFault buffer bytes 10 1
   -- line 1 is right, and line 2 is malformed or missing
-  line-2 : {ds rest : List ℕ} → shapeLine buffer bytes ≡ Verdict.go ds rest → readLine orderWord 1 rest ≡ Reading.none → ResultFault buffer bytes 10 2
+  line-2 : {ds rest : List ℕ} → shapeLine buffer bytes ≡ Verdict.go ds rest → readLine orderWord (orderFields rest) rest ≡ Reading.none → ResultFault buffer bytes 10 2
   -- both are right, and so are the rows before the place; the line there is malformed, missing or left over
   row : {ds rest ns mid : List ℕ} {place : ℕ} → shapeLine buffer bytes ≡ Verdict.go ds rest → orderLine rest ≡ Verdict.go ns mid
       → RowFault 3 (rowCount ds) (rowWidth ds) mid place → ResultFault buffer bytes 10 place
@@ -132,13 +132,17 @@ shape-fault buffer bytes {number} {place} e =
 order-fault : (buffer bytes : List ℕ) {ds rest : List ℕ} {number place : ℕ} → shapeLine buffer bytes ≡ Verdict.go ds rest
     → orderLine rest ≡ Verdict.refuse number place → ResultFault buffer bytes number place
 unfolding orderLine
-order-fault buffer bytes {ds} {rest} {number} {place} s e = by (readLine orderWord 1 rest) refl e
+order-fault buffer bytes {ds} {rest} {number} {place} s e = by (readLine orderWord (orderFields rest) rest) refl e
   where
-    by : (x : Reading (List ℕ)) → readLine orderWord 1 rest ≡ x
-        → onward (onLine 2 x) (λ (ns : List ℕ) (mid : List ℕ). refuseIf (noOrder 4 (getD ns 0 0)) 7 0 (Verdict.go ns mid)) ≡ Verdict.refuse number place
+    checked : List ℕ → List ℕ → Verdict
+    checked ns mid = refuseIf (wrongRelease ns) 14 0 (refuseIf (noOrder 4 (lineOrder ns)) 7 0 (Verdict.go ns mid))
+
+    by : (x : Reading (List ℕ)) → readLine orderWord (orderFields rest) rest ≡ x → onward (onLine 2 x) checked ≡ Verdict.refuse number place
         → ResultFault buffer bytes number place
     by Reading.none q f = same-refusal (ResultFault buffer bytes) f (ResultFault.line-2 s q)
-    by (Reading.found ns mid) q f = condition-fault (noOrder 4 (getD ns 0 0)) 7 (Verdict.go ns mid) (λ z. omega arith) f not-refused
+    by (Reading.found ns mid) q f =
+        condition-fault (wrongRelease ns) 14 (refuseIf (noOrder 4 (lineOrder ns)) 7 0 (Verdict.go ns mid)) (λ z. omega arith) f
+        (λ g. condition-fault (noOrder 4 (lineOrder ns)) 7 (Verdict.go ns mid) (λ z. omega arith) g not-refused)
 
 -- a sheet that is refused was refused by a step, all steps before it having gone on
 conclude-refused : (s : Verdict) (f : List ℕ → List ℕ → Outcome) {number place : ℕ} {C : Type 0} → conclude s f ≡ Outcome.refused number place

@@ -1,19 +1,20 @@
 -- The result sheet of at most 1,024 words has at most 16,384 bytes: a number has at most ten digits, a row at least one word.
 -- By induction on the numbers and on the rows.
 use mathlib.Core.Path.{_≡_, ap, _∙_}
-use mathlib.Core.Bool.{false}
+use mathlib.Core.Bool.{Bool, true, false, cond}
 use mathlib.Core.List.{List, [], _∷_, _++_}
 use mathlib.Core.Logic.{⊎-elim}
 use Prim.Native.Nat.{ℕ, zero, suc, _+_, _-_, _*_, _/_, _%_, _<_, _≤_}
 use native.Mathlib.Omega.{arith}
 use native.Mathlib.Nat.{mul-le-mul-left}
+use lib.Dec.{eqb}
 use lib.ListN.{length, take, drop, length-append, length-take}
 use borrow.Author.Tests.{lt-ltb, le-ltb}
 use Rattle.lists.proofs.Decide.{lt-or-ge}
 use Rattle.layout.specs.Layout.{volume}
 use Rattle.refusals.specs.Conditions.{badLength}
 use Rattle.text.specs.Print.{lineFeed, digits, decimal, field, fields, line}
-use Rattle.text.specs.Sheet.{shapeWord, orderWord, rowWord, rowCount, rowWidth, rowsText, resultText}
+use Rattle.text.specs.Sheet.{shapeWord, orderWord, rowWord, rowCount, rowWidth, rowsText, orderNumbers, resultBy}
 use Rattle.refusals.proofs.Conditions.{length-at}
 use Rattle.text.proofs.Rows.{rows-volume}
 
@@ -54,22 +55,30 @@ rows-le-words ds axes lengths =
     let wide : 1 ≤ rowWidth ds = length-at ds lengths (length ds - 1) (omega arith) .0 in
     omega (arith, mul-le-mul-left (rowCount ds) wide, rows-volume ds axes)
 
+-- the second line has two numbers at most
+order-numbers-few : (release order : ℕ) → length (fields (orderNumbers release order)) ≤ 22
+order-numbers-few release order = by (eqb release 0)
+  where
+    by : (t : Bool) → length (fields (cond t (order ∷ []) (release ∷ order ∷ []))) ≤ 22
+    by true = omega (arith, fields-few (order ∷ []))
+    by false = omega (arith, fields-few (release ∷ order ∷ []))
+
 -- 16,384 bytes always suffice for 1,024 words
-pub result-fits : (ds : List ℕ) (order : ℕ) (words : List ℕ) → length ds ≡ 4 → badLength ds ≡ false → volume ds ≤ 1024
-    → length (resultText ds order words) ≤ 16384
-unfolding resultText
-result-fits ds order words axes lengths few =
-    rw (
-      length-append (line shapeWord ds) (line orderWord (order ∷ []) ++ rowsText (rowCount ds) (rowWidth ds) words),
-      length-append (line orderWord (order ∷ [])) (rowsText (rowCount ds) (rowWidth ds) words),
-      length-line shapeWord ds,
-      length-line orderWord (order ∷ []),
-    )
-    (omega (
+pub result-fits : (ds : List ℕ) (release order : ℕ) (words : List ℕ) → length ds ≡ 4 → badLength ds ≡ false → volume ds ≤ 1024
+    → length (resultBy ds release order words) ≤ 16384
+unfolding resultBy
+result-fits ds release order words axes lengths few =
+    let second = line orderWord (orderNumbers release order) in
+    let rows = rowsText (rowCount ds) (rowWidth ds) words in
+    omega (
       arith,
+      length-append (line shapeWord ds) (second ++ rows),
+      length-append second rows,
+      length-line shapeWord ds,
+      length-line orderWord (orderNumbers release order),
       fields-few ds,
-      fields-few (order ∷ []),
+      order-numbers-few release order,
       rows-few (rowCount ds) (rowWidth ds) words,
       rows-volume ds (omega arith),
       rows-le-words ds (omega arith) lengths,
-    ))
+    )

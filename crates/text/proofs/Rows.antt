@@ -9,7 +9,7 @@ use lib.Seq.{take-add, take-at, drop-at, length-take-le}
 use Rattle.layout.specs.Layout.{volume}
 use Rattle.text.specs.Print.{line}
 use Rattle.text.specs.Read.{readLine}
-use Rattle.text.specs.Sheet.{shapeWord, orderWord, rowWord, rowCount, rowWidth, rowsText, resultText}
+use Rattle.text.specs.Sheet.{shapeWord, orderWord, rowWord, rowCount, rowWidth, rowsText, orderNumbers, resultBy}
 use Rattle.text.specs.Meaning.{Verdict, onLine, behind, ended, rowLines}
 use Rattle.text.proofs.Lines.{Small, Stands, line-text, text-line}
 use Rattle.text.proofs.Steps.{on-line-go, onward-go, behind-go, ended-go}
@@ -96,10 +96,10 @@ rows-volume [] h = absurd (omega arith)
 rows-volume (d ∷ ds) h = let e : suc (length ds) - 1 ≡ length ds = omega arith in rw e (rows-of d ds)
 
 -- so a result sheet is the text of the block's words, whatever follows them
-pub result-first : (ds : List ℕ) (order : ℕ) (words : List ℕ) → length ds ≡ 4 → volume ds ≤ length words
-    → resultText ds order (take (volume ds) words) ≡ resultText ds order words
-unfolding resultText
-result-first ds order words axes h =
+pub result-first : (ds : List ℕ) (release order : ℕ) (words : List ℕ) → length ds ≡ 4 → volume ds ≤ length words
+    → resultBy ds release order (take (volume ds) words) ≡ resultBy ds release order words
+unfolding resultBy
+result-first ds release order words axes h =
     let v = rows-volume ds (omega arith) in
-    ap (λ (l : List ℕ). line shapeWord ds ++ (line orderWord (order ∷ []) ++ l))
+    ap (λ (l : List ℕ). line shapeWord ds ++ (line orderWord (orderNumbers release order) ++ l))
     (ap (λ (k : ℕ). rowsText (rowCount ds) (rowWidth ds) (take k words)) (sym v) ∙ rows-first (rowCount ds) (rowWidth ds) words (omega (arith, v)))

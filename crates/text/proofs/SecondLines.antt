@@ -1,18 +1,20 @@
 -- The second line of a sheet and that of a result sheet are read exactly where their text stands; so a sheet is accepted exactly when it
 -- is the text of what it is answered with, and so is a result sheet. From the law of lines and the law of accepted sheets.
-use mathlib.Core.Path.{_≡_, refl, sym, ap}
-use mathlib.Core.Bool.{false}
+use mathlib.Core.Path.{_≡_, refl, sym, ap, subst, _∙_}
+use mathlib.Core.Bool.{Bool, true, false, cond}
 use mathlib.Core.List.{List, [], _∷_, _++_}
 use mathlib.Core.Logic.{_↔_}
-use Prim.Native.Nat.{ℕ, _≤_}
+use Prim.Native.Nat.{ℕ, zero, suc, _≤_}
 use native.Mathlib.Omega.{arith}
-use lib.ListN.{length, getD}
-use borrow.Author.Tests.{ltb-false, le-ltb}
-use Rattle.refusals.specs.Conditions.{longChain, noSwap, badSwap, noOrder, firstPlace}
+use lib.Dec.{T, eqb}
+use lib.ListN.{length}
+use borrow.Author.Tests.{ltb-false, le-ltb, eqb-true, eqb-false, ne-eqb}
+use Rattle.lists.proofs.Decide.{decided}
+use Rattle.refusals.specs.Conditions.{longChain, noSwap, badSwap, noOrder, noRelease, firstPlace}
 use Rattle.text.specs.Print.{limit, line}
 use Rattle.text.specs.Read.{readLine, tabs}
-use Rattle.text.specs.Sheet.{chainWord, orderWord}
-use Rattle.text.specs.Meaning.{Verdict, Outcome, refuseIf, onLine, onward, chainLine, orderLine, meaning, resultMeaning}
+use Rattle.text.specs.Sheet.{chainWord, orderWord, orderNumbers}
+use Rattle.text.specs.Meaning.{Verdict, Outcome, refuseIf, onLine, onward, chainLine, lineRelease, lineOrder, wrongRelease, orderFields, orderLine, meaning, resultMeaning}
 use Rattle.text.proofs.Lines.{Small, Stands, line-then, line-text, text-line, tabs-fields}
 use Rattle.text.proofs.Steps.{refuse-go, on-line-go, onward-go}
 use Rattle.text.proofs.Accepted.{none-small, Second, RightBy, accepted-exactly-by}
@@ -57,36 +59,89 @@ chain-reads chain rest h =
 pub chain-second : Second chainLine (line chainWord) GoodChain
 chain-second = record { stands = chain-stands; reads = chain-reads }
 
--- one order number, which four axes have
+-- the numbers of a second line that names no release, or 1 or 2, and an order that four axes have
 pub record GoodOrder (numbers : List ℕ) : Type 0 where
-  pub one : numbers ≡ getD numbers 0 0 ∷ []
-  pub known : getD numbers 0 0 ≤ 23
+  pub named : numbers ≡ orderNumbers (lineRelease numbers) (lineOrder numbers)
+  pub release : lineRelease numbers ≤ 2
+  pub known : lineOrder numbers ≤ 23
 
-just-one : (vs : List ℕ) → length vs ≡ 1 → vs ≡ getD vs 0 0 ∷ []
-just-one [] e = absurd (omega arith)
-just-one (v ∷ []) e = refl
-just-one (v ∷ w ∷ vs) e = absurd (omega arith)
+-- a release that is not refused is 1 or 2
+pub one-of-two : (release : ℕ) → noRelease release ≡ false → (release ≡ 0 → ⊥) × (release ≤ 2)
+one-of-two release e =
+    decided (eqb release 1)
+    (λ p. let q = eqb-true release 1 p in (λ z. omega arith, omega arith))
+    (λ p. decided (eqb release 2)
+    (λ q. let r = eqb-true release 2 q in (λ z. omega arith, omega arith))
+    (λ q. let n : true ≡ false = rw (p, q) at e in absurd (subst T n tt)))
+
+pub two-known : (release : ℕ) → (release ≡ 0 → ⊥) → release ≤ 2 → noRelease release ≡ false
+two-known zero n h = absurd (n refl)
+two-known (suc zero) n h = refl
+two-known (suc (suc zero)) n h = refl
+two-known (suc (suc (suc k))) n h = absurd (omega arith)
+
+-- so the numbers that are read are those of a release and an order number
+pub good-by : (release k : ℕ) → release ≤ 2 → k ≤ 23 → GoodOrder (orderNumbers release k)
+good-by release k h i = by (eqb release 0) refl
+  where
+    by : (t : Bool) → eqb release 0 ≡ t → GoodOrder (cond t (k ∷ []) (release ∷ k ∷ []))
+    by true e = record { named = refl; release = omega arith; known = i }
+    by false e = record { named = rw e; release = h; known = i }
+
+one-or-two : (t : Bool) (vs : List ℕ) → length vs ≡ cond t 2 1 → wrongRelease vs ≡ false → lineOrder vs ≤ 23 → GoodOrder vs
+one-or-two true [] e w k = absurd (omega arith)
+one-or-two false [] e w k = absurd (omega arith)
+one-or-two t (v ∷ []) e w k = record { named = refl; release = omega arith; known = k }
+one-or-two t (release ∷ v ∷ []) e w k =
+    let g = one-of-two release w in
+    record { named = rw (ne-eqb release 0 (g .0)); release = g .1; known = k }
+one-or-two true (a ∷ b ∷ c ∷ vs) e w k = absurd (omega arith)
+one-or-two false (a ∷ b ∷ c ∷ vs) e w k = absurd (omega arith)
 
 order-stands : (bytes : List ℕ) {ns rest : List ℕ} → orderLine bytes ≡ Verdict.go ns rest → (bytes ≡ line orderWord ns ++ rest) × GoodOrder ns
 unfolding orderLine
 order-stands bytes {ns} {rest} e =
-    let checked : List ℕ → List ℕ → Verdict = λ c mid. refuseIf (noOrder 4 (getD c 0 0)) 7 0 (Verdict.go c mid) in
-    onward-go (onLine 2 (readLine orderWord 1 bytes)) checked e
+    let last : List ℕ → List ℕ → Verdict = λ c mid. refuseIf (noOrder 4 (lineOrder c)) 7 0 (Verdict.go c mid) in
+    let checked : List ℕ → List ℕ → Verdict = λ c mid. refuseIf (wrongRelease c) 14 0 (last c mid) in
+    onward-go (onLine 2 (readLine orderWord (orderFields bytes) bytes)) checked e
     (λ c mid e₁ e₂.
-    let f₁ = refuse-go (noOrder 4 (getD c 0 0)) 7 0 (Verdict.go c mid) e₂ in
-    let f₂ : Verdict.go c mid ≡ Verdict.go ns rest = f₁ .1 in
+    let f₁ = refuse-go (wrongRelease c) 14 0 (last c mid) e₂ in
+    let f₂ = refuse-go (noOrder 4 (lineOrder c)) 7 0 (Verdict.go c mid) (f₁ .1) in
+    let f₃ : Verdict.go c mid ≡ Verdict.go ns rest = f₂ .1 in
     let a : c ≡ ns = cc in
     let b : mid ≡ rest = cc in
-    let h = line-text orderWord 1 bytes (on-line-go 2 (readLine orderWord 1 bytes) e₁) in
-    rw (← a, ← b) (h .bytes, record { one = just-one c (h .long); known = ltb-false 23 (getD c 0 0) (f₁ .0) }))
+    let h = line-text orderWord (orderFields bytes) bytes (on-line-go 2 (readLine orderWord (orderFields bytes) bytes) e₁) in
+    rw (← a, ← b) (h .bytes, one-or-two (eqb (tabs bytes) 2) c (h .long) (f₁ .0) (ltb-false 23 (lineOrder c) (f₂ .0))))
+
+-- the tabs before the LF of that line are its numbers too
+order-tabs : (ns rest : List ℕ) → length ns ≡ tabs (line orderWord ns ++ rest)
+unfolding tabs
+order-tabs ns rest = rw (line-then orderWord ns rest) (sym (tabs-fields ns rest))
+
+order-held : (ns rest : List ℕ) → Small ns → length ns ≡ cond (eqb (length ns) 2) 2 1 → wrongRelease ns ≡ false → lineOrder ns ≤ 23
+    → orderLine (line orderWord ns ++ rest) ≡ Verdict.go ns rest
+unfolding orderLine
+order-held ns rest small e w k =
+    let long : length ns ≡ orderFields (line orderWord ns ++ rest) = e ∙ ap (λ (n : ℕ). cond (eqb n 2) 2 1) (order-tabs ns rest) in
+    let held : Stands (line orderWord) (orderFields (line orderWord ns ++ rest)) (line orderWord ns ++ rest) ns rest =
+    record { bytes = refl; long = long; small = small } in
+    rw (text-line orderWord held, w, le-ltb 23 (lineOrder ns) k)
+
+order-by : (release k : ℕ) (rest : List ℕ) → release ≤ 2 → k ≤ 23
+    → orderLine (line orderWord (orderNumbers release k) ++ rest) ≡ Verdict.go (orderNumbers release k) rest
+order-by release k rest h i = by (eqb release 0) refl
+  where
+    by : (t : Bool) → eqb release 0 ≡ t
+        → orderLine (line orderWord (cond t (k ∷ []) (release ∷ k ∷ [])) ++ rest) ≡ Verdict.go (cond t (k ∷ []) (release ∷ k ∷ [])) rest
+    by true e = order-held (k ∷ []) rest (Small.more (omega arith) Small.none) refl refl i
+    by false e =
+        order-held (release ∷ k ∷ []) rest (Small.more (omega arith) (Small.more (omega arith) Small.none)) refl
+        (two-known release (eqb-false release 0 e) h) i
 
 order-reads : (ns rest : List ℕ) → GoodOrder ns → orderLine (line orderWord ns ++ rest) ≡ Verdict.go ns rest
-unfolding orderLine
 order-reads ns rest h =
-    let small : Small ns = rw (h .one) (Small.more {v = getD ns 0 0} (omega (arith, h .known)) Small.none) in
-    let held : Stands (line orderWord) 1 (line orderWord ns ++ rest) ns rest =
-    record { bytes = refl; long = ap length (h .one); small = small } in
-    rw (text-line orderWord held, le-ltb 23 (getD ns 0 0) (h .known))
+    subst (λ (l : List ℕ). orderLine (line orderWord l ++ rest) ≡ Verdict.go l rest) (sym (h .named))
+    (order-by (lineRelease ns) (lineOrder ns) rest (h .release) (h .known))
 
 pub order-second : Second orderLine (line orderWord) GoodOrder
 order-second = record { stands = order-stands; reads = order-reads }
@@ -99,7 +154,7 @@ pub accepted-exactly : (buffer bytes ds chain words : List ℕ)
     → (meaning buffer bytes ≡ Outcome.accepted ds chain words) ↔ Right buffer bytes ds chain words
 accepted-exactly = accepted-exactly-by chain-second
 
--- the bytes are the text of lengths, an order number and words that pass every check of the reader of result sheets
+-- the bytes are the text of lengths, the numbers of a second line and words that pass every check of the reader of result sheets
 abbrev pub RightResult : (buffer bytes ds numbers words : List ℕ) → Type 0
 RightResult = RightBy (line orderWord) GoodOrder
 

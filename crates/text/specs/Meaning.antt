@@ -1,11 +1,11 @@
 -- What a sheet means, line by line in the reading order. Assumes nothing: these are definitions.
-use mathlib.Core.Bool.{Bool, cond}
+use mathlib.Core.Bool.{Bool, false, cond}
 use mathlib.Core.List.{List, [], _∷_, _++_}
 use Prim.Native.Nat.{ℕ, zero, suc}
-use lib.Dec.{ltb}
-use lib.ListN.{length, getD}
+use lib.Dec.{ltb, eqb}
+use lib.ListN.{length}
 use Rattle.layout.specs.Layout.{volume}
-use Rattle.refusals.specs.Conditions.{badLength, shortBuffer, longChain, badSwap, noSwap, noOrder, firstPlace}
+use Rattle.refusals.specs.Conditions.{badLength, shortBuffer, longChain, badSwap, noSwap, noOrder, noRelease, firstPlace}
 use Rattle.text.specs.Read.{Reading, readLine, tabs}
 use Rattle.text.specs.Sheet.{shapeWord, chainWord, orderWord, rowWord, rowCount, rowWidth}
 
@@ -66,11 +66,34 @@ chainLine bytes =
     (λ (chain : List ℕ) (rest : List ℕ).
     refuseIf (longChain chain) 5 0 (refuseIf (badSwap 4 chain) 6 (firstPlace (noSwap 4) chain) (Verdict.go chain rest)))
 
--- line 2 of a result sheet: its form (10), `order` and one number; 7
+-- the release that the second line of a result sheet names, 0 where it names none
+abbrev pub lineRelease : List ℕ → ℕ
+lineRelease [] = 0
+lineRelease (k ∷ []) = 0
+lineRelease (release ∷ k ∷ numbers) = release
+
+-- the order number of that line
+abbrev pub lineOrder : List ℕ → ℕ
+lineOrder [] = 0
+lineOrder (k ∷ []) = k
+lineOrder (release ∷ k ∷ numbers) = k
+
+-- 14 on a sheet: the line names a release, and it is neither 1 nor 2
+abbrev pub wrongRelease : List ℕ → Bool
+wrongRelease [] = false
+wrongRelease (k ∷ []) = false
+wrongRelease (release ∷ k ∷ numbers) = noRelease release
+
+-- how many numbers that line must have: two where it has two fields, else one
+abbrev pub orderFields : List ℕ → ℕ
+orderFields bytes = cond (eqb (tabs bytes) 2) 2 1
+
+-- line 2 of a result sheet: its form (10), `order` and one number or two; 14; 7
 unfoldable pub orderLine : List ℕ → Verdict
 orderLine bytes =
-    onward (onLine 2 (readLine orderWord 1 bytes))
-    (λ (numbers : List ℕ) (rest : List ℕ). refuseIf (noOrder 4 (getD numbers 0 0)) 7 0 (Verdict.go numbers rest))
+    onward (onLine 2 (readLine orderWord (orderFields bytes) bytes))
+    (λ (numbers : List ℕ) (rest : List ℕ).
+    refuseIf (wrongRelease numbers) 14 0 (refuseIf (noOrder 4 (lineOrder numbers)) 7 0 (Verdict.go numbers rest)))
 
 -- nothing follows the last row: line k is left over where something does
 unfoldable pub ended : ℕ → List ℕ → Verdict

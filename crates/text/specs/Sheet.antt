@@ -1,6 +1,8 @@
 -- The text of a sheet and of a result sheet. Assumes nothing: these are definitions.
+use mathlib.Core.Bool.{cond}
 use mathlib.Core.List.{List, [], _∷_, _++_}
 use Prim.Native.Nat.{ℕ, zero, suc, _-_}
+use lib.Dec.{eqb}
 use lib.ListN.{length, take, drop, getD}
 use Rattle.layout.specs.Layout.{volume}
 use Rattle.text.specs.Print.{line}
@@ -46,9 +48,17 @@ pageText ds second words = line shapeWord ds ++ (second ++ rowsText (rowCount ds
 unfoldable pub sheetText : List ℕ → List ℕ → List ℕ → List ℕ
 sheetText ds chain words = pageText ds (line chainWord chain) words
 
--- a result sheet: line 1 `shape` with the new lengths, line 2 `order` with the order number, then the rows of the new shape
-unfoldable pub resultText : List ℕ → ℕ → List ℕ → List ℕ
-resultText ds order words = pageText ds (line orderWord (order ∷ [])) words
+-- the numbers of the second line of a result sheet: the release, where one is named, then the order number; release 0 stands for none
+abbrev pub orderNumbers : ℕ → ℕ → List ℕ
+orderNumbers release order = cond (eqb release 0) (order ∷ []) (release ∷ order ∷ [])
+
+-- a result sheet: line 1 `shape` with the new lengths, line 2 `order`, the release where one is named, and the order number, then the rows of the new shape
+unfoldable pub resultBy : List ℕ → ℕ → ℕ → List ℕ → List ℕ
+resultBy ds release order words = pageText ds (line orderWord (orderNumbers release order)) words
+
+-- a result sheet that names no release
+abbrev pub resultText : List ℕ → ℕ → List ℕ → List ℕ
+resultText ds order words = resultBy ds 0 order words
 
 -- one line: `refused`, number, place
 unfoldable pub refusalText : ℕ → ℕ → List ℕ

@@ -1,18 +1,24 @@
 -- `put_result` meets its contract: 24 where the buffer is shorter than the measured text; else the thin writer puts the text.
 use mathlib.Core.Path.{_≡_, _∙_}
+use mathlib.Core.List.{List}
+use Prim.Native.Nat.{ℕ}
 use native.Mathlib.Omega.{arith}
 use lib.ListN.{length}
 use borrow.Author.Needs.{needs}
+use Rattle.text.specs.Sheet.{resultBy}
 use Rattle.blocks.proofs.Block.{Counts, counts, first-three, rows-fit}
 use Rattle.printer.proofs.Puts.{put-length}
 use Rattle.printer.proofs.Pages.{page-ready, page-put}
-use Rattle.printer.proofs.Writes.{refused-room, accepted}
+use Rattle.printer.proofs.Writes.{text-short, text-put}
 use Rattle.printer.proofs.put_result.Statement.{statement}
 use Rattle.printer.proofs.put_result.Tie as tie
 
 module _ (x : tie.Start) where
   four : length (x .args .t1) ≡ 4
   four = search needs
+
+  abbrev text : List ℕ
+  text = resultBy (x .args .t1) (x .args .release) (x .args .order) (x .args .words .now)
 
   known : Counts (x .args .t1) (x .args .words .now)
   known = counts _ _ four (x .pre .0)
@@ -21,13 +27,15 @@ result-len-requires : tie.Need-result-len-requires
 result-len-requires c κs = let x : tie.Start = search in x .pre
 
 returns : tie.Need-returns
-returns c = let x : tie.Start = search in refused-room (x .pre .0) (x .pre .1) (omega arith) (search)
+returns c =
+    let x : tie.Start = search in
+    text-short (text x) (x .args .out .now) (omega arith) (search)
 
 shape-line-requires : tie.Need-shape-line-requires
 shape-line-requires c κs = let x : tie.Start = search in x .pre .0 .lengths
 
 order-line-requires : tie.Need-order-line-requires
-order-line-requires c κs = let x : tie.Start = search in x .pre .1
+order-line-requires c κs = let x : tie.Start = search in (x .pre .1, x .pre .2)
 
 three : tie.Need-slice-aggregate-words-of
 three c = let x : tie.Start = search in first-three (x .args .t1) (four x)
@@ -39,7 +47,7 @@ result-requires c κs =
     let s : tie.After-shape-line = search in
     let x : tie.Start = search in
     let rows = w .words-of .ensures ∙ known x .rows in
-    page-ready (x .args .t1) (x .args .order) (x .args .words .now) (four x) (s .shape-line .ensures) (l .order-line .ensures) rows
+    page-ready (x .args .t1) (x .args .release) (x .args .order) (x .args .words .now) (four x) (s .shape-line .ensures) (l .order-line .ensures) rows
     (rows-fit (known x) rows (known x .wide)) (omega arith)
 
 same-length : tie.Need-same-length
@@ -52,8 +60,8 @@ returns-2 c =
     let l : tie.After-order-line = search in
     let s : tie.After-shape-line = search in
     let x : tie.Start = search in
-    accepted (x .pre .0) (x .pre .1) (omega arith)
-    (page-put (x .args .t1) (x .args .order) (x .args .words .now) (four x) (s .shape-line .ensures) (l .order-line .ensures)
+    text-put (text x) (x .args .out .now) (omega arith)
+    (page-put (x .args .t1) (x .args .release) (x .args .order) (x .args .words .now) (four x) (s .shape-line .ensures) (l .order-line .ensures)
     (w .words-of .ensures ∙ known x .rows) (r .result .ensures))
 
 pub put-result-spec : {M : Type 1} → statement M

@@ -11,7 +11,7 @@ use Rattle.text.specs.Print.{fields}
 use Rattle.printer.specs.Thin.{lineOf}
 use Rattle.printer.specs.declared.page.Line.{Line}
 use Rattle.blocks.proofs.Block.{Counts, counts, first-three}
-use Rattle.printer.proofs.Pages.{length-measured}
+use Rattle.printer.proofs.Pages.{order-count, length-measured}
 use Rattle.printer.proofs.result_len.Statement.{statement}
 use Rattle.printer.proofs.result_len.Tie as tie
 
@@ -32,10 +32,13 @@ head-len-requires : tie.Need-head-len-requires
 head-len-requires c κs = let s : tie.After-shape-line = search in rw (s .shape-line .ensures) (omega arith)
 
 order-line-requires : tie.Need-order-line-requires
-order-line-requires c κs = let x : tie.Start = search in x .pre .1
+order-line-requires c κs = let x : tie.Start = search in (x .pre .1, x .pre .2)
 
 head-len-requires-2 : tie.Need-head-len-requires-2
-head-len-requires-2 c κs = let o : tie.After-order-line = search in rw (o .order-line .ensures) (omega arith)
+head-len-requires-2 c κs =
+    let o : tie.After-order-line = search in
+    let x : tie.Start = search in
+    rw (o .order-line .ensures) (order-count (x .args .release) (x .args .order))
 
 -- as many words as the block has
 part-long : (x : tie.Start) {size : ℕ} → size ≡ capped (volume (x .args .t1)) → (length (take size (x .args .words .now)) ≡ size) × (size ≤ 1024)
@@ -64,7 +67,7 @@ returns c =
     let first = ap (λ (k : Line). length (lineOf k)) (s .shape-line .ensures) in
     let second = ap (λ (k : Line). length (lineOf k)) (o .order-line .ensures) in
     let ws = ap (λ (n : ℕ). length (fields (take n (x .args .words .now)))) (w .words-of .ensures ∙ known x .size) in
-    omega (arith, known x, length-measured (x .args .t1) (x .args .order) (x .args .words .now) (four x))
+    omega (arith, known x, length-measured (x .args .t1) (x .args .release) (x .args .order) (x .args .words .now) (four x))
 
 pub result-len-spec : {M : Type 1} → statement M
 result-len-spec =

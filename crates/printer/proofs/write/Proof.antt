@@ -1,8 +1,9 @@
 -- `write` meets its contract: the first check that holds is its number; where none of those before 24 does, `put_result` answers.
+use native.Mathlib.Omega.{arith}
 use borrow.Author.Needs.{needs}
 use Rattle.lists.proofs.Via.{via}
 use Rattle.blocks.proofs.Block.{on-sheet}
-use Rattle.printer.proofs.Writes.{refused-block, refused-order}
+use Rattle.printer.proofs.Writes.{refused-block, refused-order, accepted}
 use Rattle.printer.proofs.write.Statement.{statement}
 use Rattle.printer.proofs.write.Tie as tie
 
@@ -10,13 +11,13 @@ returns : tie.Need-returns
 returns c = let n : tie.After-sheet-number = search in refused-block (n .sheet-number .ensures) (search) (search)
 
 returns-2 : tie.Need-returns-2
-returns-2 c = refused-order (on-sheet _ _ (search via)) (search) (search)
+returns-2 c = refused-order (search via) (search) (search)
 
 put-result-requires : tie.Need-put-result-requires
-put-result-requires c κs = (on-sheet _ _ (search via), search)
+put-result-requires c κs = (on-sheet _ _ (search via), omega arith, search)
 
 returns-3 : tie.Need-returns-3
-returns-3 c = let r : tie.After-put-result = search in r .put-result .ensures
+returns-3 c = let r : tie.After-put-result = search in accepted (search via) (search) (r .put-result .ensures)
 
 pub write-spec : {M : Type 1} → statement M
 write-spec =

@@ -1,23 +1,17 @@
 -- `axes::tables::next_order` meets its contract: the table has, for each of the orders, the numbers of what its three swaps make of it.
 -- The two tables are compared once, as a whole; then the row at a place, and the number in it.
-use mathlib.Core.Path.{_≡_, refl, ap, _∙_}
-use mathlib.Core.List.{List, [], _∷_, map}
-use Prim.Native.Nat.{ℕ, zero, suc, _<_}
-use native.Mathlib.Nat.{not-suc-le-zero, le-of-suc-le-suc}
-use lib.ListN.{length, getD}
+use mathlib.Core.Path.{ap, _∙_}
+use mathlib.Core.List.{List, []}
+use Prim.Native.Nat.{ℕ}
+use lib.ListN.{getD}
 use borrow.Author.Needs.{needs}
 use Rattle.lists.specs.Tab.{tab}
 use Rattle.lists.proofs.Tab.{getD-tab}
 use Rattle.orders.specs.Chains.{exchange}
 use Rattle.orders.specs.Numbers.{orderOf, numberOf, orders, arrangements, rank}
+use Rattle.axes.proofs.Rows.{row-at}
 use Rattle.axes.proofs.tables.next_order.Statement.{statement}
 use Rattle.axes.proofs.tables.next_order.Tie as tie
-
--- of a table of rows, one made of each of some orders, the row at a place
-row-at : (made : List ℕ → List ℕ) (rows : List (List ℕ)) (i : ℕ) → i < length rows → getD (map made rows) i [] ≡ made (getD rows i [])
-row-at made [] i h = absurd (not-suc-le-zero h)
-row-at made (o ∷ rows) zero h = refl
-row-at made (o ∷ rows) (suc i) h = row-at made rows i (le-of-suc-le-suc h)
 
 returns : tie.Need-returns
 unfolding orderOf numberOf orders arrangements rank exchange
@@ -25,7 +19,7 @@ returns c =
     let x : tie.Start = search in
     let order = x .args .order in
     let k = x .args .k in
-    ap (λ (row : List ℕ). getD row k 0) (row-at (λ o. tab 3 (λ j. numberOf 4 (exchange j o))) (orders 4) order (x .pre .0))
+    ap (λ (row : List ℕ). getD row k 0) (row-at [] (λ o. tab 3 (λ j. numberOf 4 (exchange j o))) (orders 4) order (x .pre .0))
     ∙ getD-tab 3 (λ j. numberOf 4 (exchange j (orderOf 4 order))) k 0 (x .pre .1)
 
 pub next-order-spec : {M : Type 1} → statement M
