@@ -10,9 +10,10 @@ pub mod Steps
 pub mod Progress
 -- what the loops of the plan carry
 pub mod PlanSteps
--- what makes the promise of a refused call, and of a request from that of the chain of its plan
+-- what makes the promise of a refused call, of a request from that of the chain of its plan, and of a request in one release from that in another
 pub mod Calls
 -- any two outcomes that a promise allows coincide: chain-once, request-once, plan-once
 pub mod OneOutcome
--- demand 3: chains-join, one-order, backwards, one-meaning, plan-leaves; chains-join-scratch and backwards-scratch through one scratch
+-- demand 3: chains-join, one-order, backwards, one-meaning, plan-leaves; in either release one-meaning-by, plan-leaves-by, releases-agree;
+-- chains-join-scratch and backwards-scratch through one scratch
 pub mod Demands
