@@ -1,13 +1,37 @@
 #!/bin/sh
-# Proves the library, then installs its header and its archive for x86-64.
-# Usage: ./install.sh [PREFIX]    (default /usr/local)
+# Proves the library and the program `turn`, then installs the header, the archive for x86-64, its pkg-config file, the program and its
+# manual page. Says a line for each.
+# Usage: ./install.sh [PREFIX]                (default /usr/local)
+#        ./install.sh --uninstall [PREFIX]    removes what was installed, and nothing else
 set -eu
+uninstall=
+[ "${1:-}" != --uninstall ] || { uninstall=yes; shift; }
 prefix=${1:-/usr/local}
-mkdir -p "$prefix/include" "$prefix/lib"
+header=include/zibsnarda.h archive=lib/libzibsnarda.a pc=lib/pkgconfig/zibsnarda.pc program=bin/turn manual=share/man/man1/turn.1
+
+if [ -n "$uninstall" ]; then
+    for file in "$header" "$archive" "$pc" "$program" "$manual"; do
+        [ ! -e "$prefix/$file" ] || { rm -- "$prefix/$file"; echo "removed $prefix/$file"; }
+    done
+    exit 0
+fi
+
+mkdir -p "$prefix"
 prefix=$(cd "$prefix" && pwd)
 cd "$(dirname "$0")"
-
 mkdir -p target
-rt staticlib exports >target/install.log 2>&1 || { cat target/install.log >&2; exit 1; }
-cp include/zibsnarda.h "$prefix/include/zibsnarda.h"
-cp target/staticlib/libexports.a "$prefix/lib/libzibsnarda.a"
+{ rt staticlib exports && rt check turn; } >target/install.log 2>&1 || { cat target/install.log >&2; exit 1; }
+
+# put MODE FILE PLACE
+put() {
+    install -D -m "$1" "$2" "$prefix/$3"
+    echo "installed $prefix/$3"
+}
+
+version=$(sed -n 's/^#define ZIB_VERSION "\(.*\)"$/\1/p' include/zibsnarda.h)
+sed -e "s|@PREFIX@|$prefix|" -e "s|@VERSION@|$version|" share/zibsnarda.pc >target/zibsnarda.pc
+put 644 include/zibsnarda.h "$header"
+put 644 target/staticlib/libexports.a "$archive"
+put 644 target/zibsnarda.pc "$pc"
+put 755 target/bin/turn "$program"
+put 644 share/turn.1 "$manual"

@@ -3,11 +3,13 @@
  *
  * The archive is for x86-64. Its calls are proved for slices that are there and lie apart, so a caller
  * sees to three things that no call can test:
- *   - each pointer is aligned, not null, and leads to as many elements as the length beside it says;
+ *   - each pointer is aligned, not null (also where the length beside it is 0: any aligned address will do), and leads to as many
+ *     elements as that length says;
  *   - buffer and scratch of one call do not overlap, nor does a part that is only read overlap one that is written;
  *   - nobody else writes to them during the call.
  * Everything else is tested. A refused call says why by its number and leaves all buffers unchanged.
- * No call allocates, keeps a pointer, or reads or writes anything besides what it is lent.
+ * No call allocates, keeps a pointer, or reads or writes anything besides what it is lent. The archive asks for memcpy and memset and
+ * for nothing else, so that it links on a board without an operating system.
  *
  * Sides and lengths are 1 to 4,096; a block has at most 1,048,576 words, from the first word of the buffer on.
  * A buffer may not be longer than the block: turns, chains, requests and tiles take one of exactly the block's size. Where a call says
@@ -18,6 +20,9 @@
 
 #include <stddef.h>
 #include <stdint.h>
+
+/* Raised where a call or a record changes. */
+#define ZIB_VERSION "1.0"
 
 #ifdef __cplusplus
 extern "C" {
@@ -60,7 +65,8 @@ enum {
 uint32_t zib_turn(uint32_t *buffer, size_t buffer_words, uint32_t *scratch, size_t scratch_words, size_t m, size_t n);
 
 /*
- * Undoes zib_turn with the same m and n: the word at i*n+j is then the one that stood at j*m+i.
+ * Undoes zib_turn with the same m and n, the sides of the block as it was before the turn: the word at i*n+j is then the one that
+ * stood at j*m+i.
  * Scratch and answers are those of zib_turn.
  */
 uint32_t zib_turn_back(uint32_t *buffer, size_t buffer_words, uint32_t *scratch, size_t scratch_words, size_t m, size_t n);

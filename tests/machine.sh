@@ -31,6 +31,7 @@ need_x86_64() {
     if [ "$machine" = x86_64 ]; then
         cc=gcc run=
         need gcc gcc libc6-dev
+        need nm binutils
     else
         cc=x86_64-linux-gnu-gcc run=qemu-x86_64
         need "$cc" gcc-x86-64-linux-gnu libc6-dev-amd64-cross
@@ -48,7 +49,8 @@ need_rust() {
 # build_outside FLAG...: the library under $out/prefix, and the driver (with the flags) and the test program in $out.
 build_outside() {
     mkdir -p "$out"
-    ./install.sh "$out/prefix"
+    rm -rf "$out/prefix"
+    ./install.sh "$out/prefix" >"$out/installed.txt"
     "$cc" -std=c11 -O2 -Wall -Wextra "$@" -I"$out/prefix/include" tests/driver.c -L"$out/prefix/lib" -lzibsnarda -o "$out/driver"
     rustc -O --edition 2021 tests/outside/main.rs -o "$out/outside"
 }
