@@ -267,8 +267,9 @@ fn choices(t: &mut Bench, r: &mut Random) {
         choose(t, &one, &one);
     }
     t.group("choices: readings at 2 to the 60th");
-    for a in 0..=9 {
-        for b in 0..=9 {
+    let most = if t.short { 5 } else { 9 };
+    for a in 0..=most {
+        for b in 0..=most {
             for &v in &[0, READING, READING + 1, -READING - 1, i64::MIN, i64::MAX] {
                 let (mut one, mut two) = (vec![0; a], vec![0; b]);
                 choose(t, &one, &two);
@@ -284,7 +285,7 @@ fn choices(t: &mut Bench, r: &mut Random) {
             }
         }
     }
-    t.group("choices refused: every length to 9, far readings in either run, refusals in order");
+    t.group(&format!("choices refused: every length to {}, far readings in either run, refusals in order", most));
 }
 
 pub fn all(t: &mut Bench, seed: u64) {
