@@ -19,7 +19,7 @@ use Rattle.orders.proofs.Needs.{need-back}
 use Rattle.refusals.specs.FirstOf.{Check, check, firstOf}
 use Rattle.refusals.specs.Conditions.{some, outOfRange, badLength, tooManyWords, shortBuffer, longBuffer, shortScratch, longChain, noSwap, badSwap, noOrder}
 use Rattle.refusals.specs.Calls.{blockChecks, chainChecks, requestChecks}
-use Rattle.refusals.proofs.FirstOf.{Silent, refused-first, accepted-so-far}
+use Rattle.refusals.proofs.FirstOf.{Silent, refused-by, accepted-so-far}
 use Rattle.refusals.proofs.FirstOf.Silent.{none, more}
 use Rattle.refusals.proofs.Calls.{recursion-accepted, chain-accepted, request-accepted}
 use Rattle.refusals.proofs.Some.{either-false, none-at}
@@ -45,7 +45,7 @@ some-follow f l (k ∷ c) = some-follow f (exchange k l) c ∙ some-exchange f k
 -- more checks after those of a block: refused by one of the block's, or decided by the last
 module _ (ds xs : List ℕ) (last : List Check) {n : ℕ} (e : n ≡ firstOf (blockChecks ds xs)) where
   pub by-block : (n ≡ 0 → ⊥) → n ≡ firstOf (blockChecks ds xs ++ last)
-  by-block k = e ∙ sym (refused-first (blockChecks ds xs) last (λ z. k (e ∙ z)))
+  by-block k = refused-by (blockChecks ds xs) last e k
 
   pub by-last : n ≡ 0 → firstOf (blockChecks ds xs ++ last) ≡ firstOf last
   by-last z = accepted-so-far last (recursion-accepted ds xs .0 (sym e ∙ z))

@@ -5,16 +5,15 @@ use mathlib.Core.List.{List, [], _∷_, _++_}
 use mathlib.Core.Logic.{⊎-elim}
 use Prim.Native.Nat.{ℕ, _*_}
 use native.Mathlib.Omega.{arith}
-use lib.Dec.{T, lit<}
+use lib.Dec.{T}
 use lib.ListN.{length}
 use Rattle.lists.specs.Same.{same}
 use Rattle.lists.proofs.Test.{same→eq, eq→same}
-use Rattle.lists.proofs.Decide.{eq-or-ne}
 use Rattle.refusals.specs.FirstOf.{Check, check, firstOf}
 use Rattle.refusals.specs.Conditions.{badLength, tooManyWords, shortBuffer, longBuffer}
 use Rattle.refusals.specs.Calls.{sizeChecks, exactChecks, blockChecks}
-use Rattle.refusals.proofs.FirstOf.{Refusing, refused-first, through}
-use Rattle.refusals.proofs.FirstOf.Refusing.{none, more}
+use Rattle.refusals.proofs.FirstOf.{Refusing, refused-by, passed-first, through}
+use Rattle.refusals.proofs.Calls.{size-refusing, block-refusing}
 use Rattle.refusals.proofs.Conditions.{sized-two, valid}
 use Rattle.flat.specs.Turn.{sides}
 use Rattle.flat.proofs.Turn.{volume-two}
@@ -52,10 +51,6 @@ not-22 false false true d e = omega arith
 not-22 false false false true e = omega arith
 not-22 false false false false e = omega arith
 
--- what is accepted by all checks is accepted by the first ones
-pub passed-first : (cs ds : List Check) → firstOf (cs ++ ds) ≡ 0 → firstOf cs ≡ 0
-passed-first cs ds z = ⊎-elim (λ e. e) (λ o. absurd (o (sym (refused-first cs ds o) ∙ z))) (eq-or-ne (firstOf cs) 0)
-
 -- a block whose size is accepted
 pub small : {m n : ℕ} → firstOf (sizeChecks (sides m n)) ≡ 0 → Small m n
 small {m} {n} e = let z = sized-two m n e in record { some = z .0; few = z .1 }
@@ -75,7 +70,7 @@ module _ (cs : List Check) (m n : ℕ) (list : List ℕ) where
 
   pub refused : {number : ℕ} → number ≡ firstOf cs → (number ≡ 0 → ⊥) → (firstOf cs ≡ 22 → ⊥) → Answers all m n list (answer number 0)
   refused e z other = record {
-    number-is = e ∙ sym (refused-first cs (check 22 (wrongCycles m n list) ∷ []) (λ y. z (e ∙ y)));
+    number-is = refused-by cs (check 22 (wrongCycles m n list) ∷ []) e z;
     differs = λ d. absurd (other (sym e ∙ d));
     otherwise = λ _. refl;
   }
@@ -91,13 +86,7 @@ module _ (cs : List Check) (m n : ℕ) (list : List ℕ) where
     otherwise = λ o. ⊎-elim (λ z. c .right z .1) (λ d. absurd (o d)) (c .either);
   }
 
--- the checks of the size, and those of the block
-pub size-refusing : (m n : ℕ) → Refusing (sizeChecks (sides m n))
-size-refusing m n = more (lit< tt) (more (lit< tt) none)
-
-pub block-refusing : (m n : ℕ) (buffer : List ℕ) → Refusing (blockChecks (sides m n) buffer)
-block-refusing m n buffer = more (lit< tt) (more (lit< tt) (more (lit< tt) (more (lit< tt) none)))
-
+-- neither the checks of the size nor those of the block give 22
 pub size-not-22 : (m n : ℕ) → firstOf (sizeChecks (sides m n)) ≡ 22 → ⊥
 size-not-22 m n = not-22 (badLength (sides m n)) (tooManyWords (sides m n)) false false
 
@@ -111,7 +100,7 @@ module _ (m n : ℕ) (list : List ℕ) where
   judge-refused e z = refused (sizeChecks (sides m n)) m n list e z (size-not-22 m n)
 
   pub judge-accepted : {r : Judged} → firstOf (sizeChecks (sides m n)) ≡ 0 → Compared m n list r → JudgedAs m n list r
-  judge-accepted e c = accepted (sizeChecks (sides m n)) m n list (size-refusing m n) e c
+  judge-accepted e c = accepted (sizeChecks (sides m n)) m n list (size-refusing (sides m n)) e c
 
   module _ (before : List ℕ) where
     pub run-refused : {number : ℕ} → number ≡ firstOf (blockChecks (sides m n) before) → (number ≡ 0 → ⊥) → RunAs m n list before (answer number 0) before
@@ -124,14 +113,14 @@ module _ (m n : ℕ) (list : List ℕ) where
     module _ {r : Judged} (e : firstOf (blockChecks (sides m n) before) ≡ 0) (c : Compared m n list r) where
       pub run-other : (r .number ≡ 0 → ⊥) → RunAs m n list before r before
       run-other z = record {
-        answers = accepted (blockChecks (sides m n) before) m n list (block-refusing m n before) e c;
+        answers = accepted (blockChecks (sides m n) before) m n list (block-refusing (sides m n) before) e c;
         words = λ y. absurd (z y);
         kept = λ _. refl;
       }
 
       pub run-right : {after : List ℕ} → r .number ≡ 0 → after ≡ alongCycles (takes m n) (cycles m n) before → RunAs m n list before r after
       run-right z t = record {
-        answers = accepted (blockChecks (sides m n) before) m n list (block-refusing m n before) e c;
+        answers = accepted (blockChecks (sides m n) before) m n list (block-refusing (sides m n) before) e c;
         words = λ _. rw t (along-turns m n before (omega (arith, block-small m n before e .1)));
         kept = λ y. absurd (y z);
       }

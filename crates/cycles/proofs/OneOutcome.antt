@@ -13,14 +13,15 @@ use Rattle.lists.proofs.Decide.{eq-or-ne}
 use Rattle.refusals.specs.FirstOf.{Check, check, firstOf}
 use Rattle.refusals.specs.Calls.{sizeChecks}
 use Rattle.refusals.proofs.Conditions.{passed}
-use Rattle.refusals.proofs.FirstOf.{Refusing}
+use Rattle.refusals.proofs.FirstOf.{Refusing, passed-first}
+use Rattle.refusals.proofs.Calls.{size-refusing}
 use Rattle.flat.specs.Turn.{sides}
 use Rattle.flat.proofs.Turn.{one-turn}
 use Rattle.orbits.specs.Cycles.{cycles}
 use Rattle.orbits.proofs.Pairs.{one-other, none-other}
 use Rattle.cycles.specs.declared.Judged.{Judged}
 use Rattle.cycles.specs.Promise.{wrongCycles, Answers, JudgedAs, RunAs}
-use Rattle.cycles.proofs.Judging.{right-list, passed-first, then-22, size-refusing}
+use Rattle.cycles.proofs.Judging.{right-list, then-22}
 use Rattle.cycles.proofs.Comparing.{answer}
 
 -- accepted exactly when no check before 22 holds and the list is the right list
@@ -38,7 +39,7 @@ accepted-exactly cs refusing {m} {n} {list} {a} p = (there, λ q. p .number-is �
 -- a list is judged 0 exactly when the size is accepted and it is the right list
 pub judged-exactly : {m n : ℕ} {list : List ℕ} {a : Judged} → JudgedAs m n list a
     → (a .number ≡ 0) ↔ ((firstOf (sizeChecks (sides m n)) ≡ 0) × (list ≡ cycles m n))
-judged-exactly {m} {n} p = accepted-exactly (sizeChecks (sides m n)) (size-refusing m n) p
+judged-exactly {m} {n} p = accepted-exactly (sizeChecks (sides m n)) (size-refusing (sides m n)) p
 
 -- refused with 22, the list is another
 pub refused-other : {checks : List Check} {m n : ℕ} {list : List ℕ} {a : Judged} → Answers checks m n list a → a .number ≡ 22 → list ≡ cycles m n → ⊥

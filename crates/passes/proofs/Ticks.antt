@@ -1,18 +1,16 @@
 -- The outcomes of a tick: refused by the flat call's checks or by 12, one line moved and scratch cleared, or none left. The checks of the
 -- flat turn come first, so 12 decides where they are passed; a line that is left fits, as it does in the whole turn.
-use mathlib.Core.Path.{_≡_, refl, sym, ap, _∙_, subst}
+use mathlib.Core.Path.{_≡_, refl, sym, _∙_}
 use mathlib.Core.Bool.{cond}
 use mathlib.Core.List.{List, [], _∷_}
-use mathlib.Core.Logic.{⊎-elim}
 use Prim.Native.Nat.{ℕ, _+_, _<_, _≤_}
 use native.Mathlib.Omega.{arith}
 use lib.Dec.{ltb}
 use borrow.Author.Tests.{lt-ltb, le-ltb}
-use Rattle.lists.proofs.Decide.{eq-or-ne}
 use Rattle.refusals.specs.FirstOf.{check, firstOf}
 use Rattle.refusals.specs.Calls.{sizeChecks, passesChecks}
 use Rattle.refusals.specs.Scratch.{need, cleared}
-use Rattle.refusals.proofs.FirstOf.{refused-first, accepted-so-far}
+use Rattle.refusals.proofs.FirstOf.{refused-by, passed-first, accepted-so-far}
 use Rattle.refusals.proofs.Calls.{passes-accepted}
 use Rattle.refusals.proofs.Conditions.{InRange, size-valid}
 use Rattle.refusals.proofs.Promise as promise
@@ -46,7 +44,7 @@ tick-refused e k = record { block = promise.refused e k; given = λ z. absurd (k
 module _ (m n done : ℕ) (b sc : List ℕ) where
   -- by the checks of the flat turn
   pub by-flat : {number : ℕ} → number ≡ firstOf (passesChecks (sides m n) b sc) → (number ≡ 0 → ⊥) → number ≡ firstOf (tickChecks m n done b sc)
-  by-flat e k = e ∙ sym (refused-first (passesChecks (sides m n) b sc) (check 12 (pastCount m n done) ∷ []) (λ z. k (e ∙ z)))
+  by-flat e k = refused-by (passesChecks (sides m n) b sc) (check 12 (pastCount m n done) ∷ []) e k
 
   -- where those are passed 12 decides
   module _ (good : firstOf (passesChecks (sides m n) b sc) ≡ 0) where
@@ -97,9 +95,7 @@ module _ {m n done : ℕ} {s : GroupedSides} (is : (s .m ≡ m) × (s .n ≡ n) 
 -- what an accepted tick tells: the checks of the flat turn are passed, and a line that is left fits
 module _ (m n done : ℕ) (b sc : List ℕ) where
   pub flat-passed : firstOf (tickChecks m n done b sc) ≡ 0 → firstOf (passesChecks (sides m n) b sc) ≡ 0
-  flat-passed e =
-      ⊎-elim (λ z. z) (λ k. absurd (k (sym (refused-first (passesChecks (sides m n) b sc) (check 12 (pastCount m n done) ∷ []) k) ∙ e)))
-      (eq-or-ne (firstOf (passesChecks (sides m n) b sc)) 0)
+  flat-passed e = passed-first (passesChecks (sides m n) b sc) (check 12 (pastCount m n done) ∷ []) e
 
   pub line-there : firstOf (passesChecks (sides m n) b sc) ≡ 0 → done < lineCount m n → Fits m n (lineOf m n 0 1 done) b sc
   line-there good h =

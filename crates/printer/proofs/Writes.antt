@@ -3,18 +3,16 @@
 use mathlib.Core.Path.{_≡_, refl, sym, ap, _∙_}
 use mathlib.Core.Bool.{false}
 use mathlib.Core.List.{List, [], _∷_, _++_}
-use mathlib.Core.Logic.{⊎-elim}
 use Prim.Native.Nat.{ℕ, _<_, _≤_}
 use native.Mathlib.Omega.{arith}
 use lib.ListN.{length}
 use lib.Dec.{lit<}
 use borrow.Author.Tests.{lt-ltb, le-ltb, ltb-false}
-use Rattle.lists.proofs.Decide.{eq-or-ne}
 use Rattle.layout.specs.Layout.{volume}
 use Rattle.refusals.specs.FirstOf.{Check, check, firstOf}
 use Rattle.refusals.specs.Conditions.{badLength, shortBuffer, noOrder, noRelease}
 use Rattle.refusals.specs.Calls.{planChecks, namedChecks}
-use Rattle.refusals.proofs.FirstOf.{Refusing, refused-first, through}
+use Rattle.refusals.proofs.FirstOf.{Refusing, refused-first, passed-first, through}
 use Rattle.refusals.proofs.Conditions.{passed}
 use Rattle.text.specs.Sheet.{resultText, resultBy}
 use Rattle.text.specs.Meaning.{bigSheet}
@@ -143,8 +141,7 @@ module _ (ds words : List ℕ) (middle : List Check) (text out : List ℕ) (r : 
       let p = passed (badLength ds) 1 _ (lit< tt) e in
       let q = passed (bigSheet ds) 11 _ (lit< tt) (p .1) in
       let s = passed (shortBuffer ds words) 3 _ (lit< tt) (q .1) in
-      let m : firstOf middle ≡ 0 =
-      ⊎-elim (λ z. z) (λ n. absurd (n (sym (refused-first middle last n) ∙ s .1))) (eq-or-ne (firstOf middle) 0) in
+      let m = passed-first middle last (s .1) in
       let t = passed (shortBytes text out) 24 0 (lit< tt) (sym (through last r m) ∙ s .1) in (
         m,
         record {

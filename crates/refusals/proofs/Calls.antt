@@ -1,28 +1,30 @@
 -- Every list of checks has numbers that refuse, so the laws of `firstOf` hold of every call: 0 exactly when none of its
 -- conditions holds. And the checks of a block before the room in scratch: where the block is refused, and where scratch decides.
 use mathlib.Core.List.{List, [], _∷_}
-use mathlib.Core.Logic.{_↔_, ⊎-elim}
+use mathlib.Core.Logic.{_↔_}
 use mathlib.Core.Path.{_≡_, sym, _∙_}
 use Prim.Native.Nat.{ℕ, _<_, _≤_}
 use lib.Dec.{lit<}
 use lib.ListN.{length}
 use borrow.Author.Tests.{lt-ltb, le-ltb}
-use Rattle.lists.proofs.Decide.{eq-or-ne}
 use Rattle.refusals.specs.FirstOf.{Check, check, firstOf}
 use Rattle.refusals.specs.Conditions.{shortScratch}
 use Rattle.refusals.specs.Calls.{sizeChecks, blockChecks, passesChecks, recursionChecks, chainChecks, requestChecks, planChecks, namedChecks}
 use Rattle.refusals.specs.Scratch.{need}
-use Rattle.refusals.proofs.FirstOf.{Refusing, Silent, accepted-exactly, refused-first, accepted-so-far}
+use Rattle.refusals.proofs.FirstOf.{Refusing, Silent, accepted-exactly, refused-by, passed-first, accepted-so-far}
 use Rattle.refusals.proofs.FirstOf.Refusing.{none, more}
 
 pub size-refusing : (ds : List ℕ) → Refusing (sizeChecks ds)
 size-refusing ds = more (lit< tt) (more (lit< tt) none)
 
+pub block-refusing : (ds b : List ℕ) → Refusing (blockChecks ds b)
+block-refusing ds b = more (lit< tt) (more (lit< tt) (more (lit< tt) (more (lit< tt) none)))
+
 pub passes-accepted : (ds b s : List ℕ) → (firstOf (passesChecks ds b s) ≡ 0) ↔ Silent (passesChecks ds b s)
 passes-accepted ds b s = accepted-exactly (more (lit< tt) (more (lit< tt) (more (lit< tt) (more (lit< tt) (more (lit< tt) none)))))
 
 pub recursion-accepted : (ds b : List ℕ) → (firstOf (recursionChecks ds b) ≡ 0) ↔ Silent (recursionChecks ds b)
-recursion-accepted ds b = accepted-exactly (more (lit< tt) (more (lit< tt) (more (lit< tt) (more (lit< tt) none))))
+recursion-accepted ds b = accepted-exactly (block-refusing ds b)
 
 pub chain-accepted : (r : ℕ) (ds b s chain : List ℕ) → (firstOf (chainChecks r ds b s chain) ≡ 0) ↔ Silent (chainChecks r ds b s chain)
 chain-accepted r ds b s chain =
@@ -45,14 +47,13 @@ module _ (ds buffer scratch : List ℕ) where
   room-check = check 4 (shortScratch (need ds) scratch) ∷ []
 
   pub block-refused : {r : ℕ} → r ≡ firstOf (blockChecks ds buffer) → (r ≡ 0 → ⊥) → r ≡ firstOf (passesChecks ds buffer scratch)
-  block-refused e n = e ∙ sym (refused-first (blockChecks ds buffer) room-check (λ z. n (e ∙ z)))
+  block-refused e n = refused-by (blockChecks ds buffer) room-check e n
 
   pub short-refused : firstOf (blockChecks ds buffer) ≡ 0 → length scratch < need ds → 4 ≡ firstOf (passesChecks ds buffer scratch)
   short-refused e h = sym (accepted-so-far room-check (recursion-accepted ds buffer .0 e) ∙ rw (lt-ltb _ _ h))
 
   pub block-good : firstOf (passesChecks ds buffer scratch) ≡ 0 → firstOf (blockChecks ds buffer) ≡ 0
-  block-good e =
-      ⊎-elim (λ z. z) (λ n. absurd (n (sym (refused-first (blockChecks ds buffer) room-check n) ∙ e))) (eq-or-ne (firstOf (blockChecks ds buffer)) 0)
+  block-good e = passed-first (blockChecks ds buffer) room-check e
 
   pub room-passed : firstOf (blockChecks ds buffer) ≡ 0 → need ds ≤ length scratch → 0 ≡ firstOf (passesChecks ds buffer scratch)
   room-passed e h = sym (accepted-so-far room-check (recursion-accepted ds buffer .0 e) ∙ rw (le-ltb _ _ h))

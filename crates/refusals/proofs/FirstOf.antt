@@ -1,12 +1,12 @@
 -- The laws of `firstOf`: it is 0 exactly when no condition holds, and k exactly when k's condition holds and none before
 -- it does. By induction on the list of checks; numbers of checks are not 0.
-use mathlib.Core.Path.{_≡_, refl, ap}
+use mathlib.Core.Path.{_≡_, refl, sym, ap, _∙_}
 use mathlib.Core.Bool.{Bool, true, false, cond}
 use mathlib.Core.List.{List, [], _∷_, _++_}
-use mathlib.Core.Logic.{_↔_}
+use mathlib.Core.Logic.{_↔_, ⊎-elim}
 use Prim.Native.Nat.{ℕ, _<_}
 use native.Mathlib.Omega.{arith}
-use Rattle.lists.proofs.Decide.{decided}
+use Rattle.lists.proofs.Decide.{decided, eq-or-ne}
 use Rattle.refusals.specs.FirstOf.{Check, firstOf}
 
 -- every number of the list is one that refuses
@@ -58,6 +58,13 @@ refused-first (c ∷ cs) ds n = go (c .holds) n (refused-first cs ds)
         → cond t (c .number) (firstOf (cs ++ ds)) ≡ cond t (c .number) (firstOf cs)
     go true n ih = refl
     go false n ih = ih n
+
+-- so a number that refuses by a list is the longer list's too, and where the longer list is passed so is the list
+pub refused-by : (cs ds : List Check) {k : ℕ} → k ≡ firstOf cs → (k ≡ 0 → ⊥) → k ≡ firstOf (cs ++ ds)
+refused-by cs ds e n = e ∙ sym (refused-first cs ds (λ z. n (e ∙ z)))
+
+pub passed-first : (cs ds : List Check) → firstOf (cs ++ ds) ≡ 0 → firstOf cs ≡ 0
+passed-first cs ds z = ⊎-elim (λ e. e) (λ n. absurd (n (sym (refused-first cs ds n) ∙ z))) (eq-or-ne (firstOf cs) 0)
 
 pub accepted-so-far : {cs : List Check} (ds : List Check) → Silent cs → firstOf (cs ++ ds) ≡ firstOf ds
 accepted-so-far ds none = refl

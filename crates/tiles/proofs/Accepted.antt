@@ -2,19 +2,17 @@
 use mathlib.Core.Path.{_≡_, sym, _∙_}
 use mathlib.Core.Bool.{true, false, cond}
 use mathlib.Core.List.{List, [], _∷_, _++_}
-use mathlib.Core.Logic.{⊎-elim}
 use Prim.Native.Nat.{ℕ, _*_, _<_, _≤_}
 use native.Mathlib.Nat.{pos-of-ne-zero}
 use native.Mathlib.Omega.{arith}
 use lib.Dec.{eqb, ltb, lit<}
 use lib.ListN.{length}
 use borrow.Author.Tests.{ltb-false, eqb-false, lt-ltb, le-ltb}
-use Rattle.lists.proofs.Decide.{eq-or-ne}
 use Rattle.layout.specs.Layout.{volume}
 use Rattle.refusals.specs.FirstOf.{Check, check, firstOf}
 use Rattle.refusals.specs.Conditions.{shortBuffer, longBuffer, shortScratch}
 use Rattle.refusals.specs.Calls.{sizeChecks, exactChecks}
-use Rattle.refusals.proofs.FirstOf.{refused-first, through}
+use Rattle.refusals.proofs.FirstOf.{refused-by, passed-first, through}
 use Rattle.refusals.proofs.Calls.{size-refusing}
 use Rattle.refusals.proofs.Some.{either-false}
 use Rattle.refusals.proofs.Conditions.{InRange, Sized, size-valid, passed, exact-passed, enough-scratch}
@@ -91,7 +89,7 @@ module _ (m n r s : ℕ) (buffer scratch : List ℕ) (size : firstOf (sizeChecks
 -- the size is refused: so is the call
 pub size-refused : (m n r s : ℕ) (buffer scratch : List ℕ) {k : ℕ} → k ≡ firstOf (sizeChecks (sides m n)) → (k ≡ 0 → ⊥)
     → k ≡ firstOf (tileChecks m n r s buffer scratch)
-size-refused m n r s buffer scratch e z = e ∙ sym (refused-first (sizeChecks (sides m n)) (tileRest m n r s buffer scratch) (λ y. z (e ∙ y)))
+size-refused m n r s buffer scratch e z = refused-by (sizeChecks (sides m n)) (tileRest m n r s buffer scratch) e z
 
 -- none holds: the block can be converted
 pub converts : (m n r s : ℕ) (buffer scratch : List ℕ) → firstOf (tileChecks m n r s buffer scratch) ≡ 0 → Converts m n r s buffer scratch
@@ -115,8 +113,7 @@ converts m n r s buffer scratch e =
 
 -- the checks of the size passed, where all are
 size-alone : (m n r s : ℕ) (buffer scratch : List ℕ) → firstOf (tileChecks m n r s buffer scratch) ≡ 0 → firstOf (sizeChecks (sides m n)) ≡ 0
-size-alone m n r s buffer scratch e =
-    ⊎-elim (λ z. z) (λ z. absurd (z (sym (refused-first (sizeChecks (sides m n)) (tileRest m n r s buffer scratch) z) ∙ e))) (eq-or-ne (firstOf (sizeChecks (sides m n))) 0)
+size-alone m n r s buffer scratch e = passed-first (sizeChecks (sides m n)) (tileRest m n r s buffer scratch) e
 
 -- another block of the same size passes too, with scratch that is enough
 pub passes-again : (m n r s : ℕ) (b b′ scratch scratch′ : List ℕ) → firstOf (tileChecks m n r s b scratch) ≡ 0 → length b′ ≡ length b → bandNeed n r ≤ length scratch′

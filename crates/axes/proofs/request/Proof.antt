@@ -11,7 +11,7 @@ use Rattle.orders.specs.Needs.{planNeed}
 use Rattle.refusals.specs.FirstOf.{Check, check, firstOf}
 use Rattle.refusals.specs.Conditions.{shortScratch}
 use Rattle.refusals.specs.Calls.{namedChecks}
-use Rattle.refusals.proofs.FirstOf.{refused-first}
+use Rattle.refusals.proofs.FirstOf.{refused-by}
 use Rattle.lists.proofs.Via.{via}
 use Rattle.axes.proofs.Accepted.{by-block, by-last}
 use Rattle.axes.proofs.Calls.{request-refused, plan-holds, plan-count, named-known, plan-given, request-named}
@@ -47,10 +47,8 @@ returns-2 c =
     let m : tie.After-named-number = search in
     let n : tie.After-block-number = search in
     let x : tie.Start = search in
-    let first = m .named-number .ensures in
     request-refused 4 (c .refusal2 .ensures) (t .if2 .taken)
-    (first
-    ∙ sym (refused-first (namedChecks 4 (x .args .release) (x .args .order)) (room x) (λ z. t .if2 .taken (first ∙ z)))
+    (refused-by (namedChecks 4 (x .args .release) (x .args .order)) (room x) (m .named-number .ensures) (t .if2 .taken)
     ∙ sym (by-last (x .args .shape .lens) (x .args .buf .now) (last x) (n .block-number .ensures) (search)))
     refl
 

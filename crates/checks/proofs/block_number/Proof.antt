@@ -1,6 +1,6 @@
 -- `block_number` meets its contract: where the size is refused, so is the block; else the cut count of words is the count, and the last
 -- two tests are those of 3 and 13.
-use mathlib.Core.Path.{_≡_, sym, _∙_}
+use mathlib.Core.Path.{_≡_}
 use mathlib.Core.List.{[]}
 use native.Mathlib.Omega.{arith}
 use lib.ListN.{length}
@@ -10,7 +10,7 @@ use Rattle.lists.proofs.Via.{via}
 use Rattle.layout.specs.Layout.{volume}
 use Rattle.refusals.specs.FirstOf.{firstOf}
 use Rattle.refusals.specs.Calls.{sizeChecks, exactChecks, blockChecks}
-use Rattle.refusals.proofs.FirstOf.{refused-first, through}
+use Rattle.refusals.proofs.FirstOf.{refused-by, through}
 use Rattle.refusals.proofs.Conditions.{size-valid, not-short, not-long}
 use Rattle.refusals.proofs.Calls.{size-refusing}
 use Rattle.checks.specs.Words.{capped}
@@ -31,8 +31,7 @@ returns c =
     let n : tie.After-size-number = search in
     let s : tie.Start = search in
     let lens = s .args .lens .now in
-    let e = n .size-number .ensures in
-    e ∙ sym (refused-first (sizeChecks lens) (exactChecks lens (s .args .buf .now)) (λ z. c .if1 .taken (e ∙ z)))
+    refused-by (sizeChecks lens) (exactChecks lens (s .args .buf .now)) (n .size-number .ensures) (c .if1 .taken)
 
 returns-2 : tie.Need-returns-2
 returns-2 c =

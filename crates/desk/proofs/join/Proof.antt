@@ -12,7 +12,7 @@ use mir.Val.{SFits, toZ, ofZ}
 use mir.Facts.{toZ-ofZ, toZ-pos}
 use Rattle.lists.proofs.Via.{via}
 use Rattle.refusals.specs.FirstOf.{check, firstOf}
-use Rattle.refusals.proofs.FirstOf.{refused-first}
+use Rattle.refusals.proofs.FirstOf.{refused-by}
 use Rattle.signed.proofs.Ends.{near-sum, small}
 use Rattle.desk.specs.Exchange.{reading}
 use Rattle.desk.specs.Conditions.{noCommon, shiftChecks, joinChecks}
@@ -82,9 +82,8 @@ returns : tie.Need-returns
 returns c =
     let n : tie.After-shifts-number = search in
     let s : tie.Start = search in
-    let e = n .shifts-number .ensures in
     let last = check 20 (noCommon (s .args .shifts .now) (s .args .frames)) ∷ [] in
-    refused (e ∙ sym (refused-first (shiftChecks (s .args .shifts .now) (s .args .frames)) last (λ z. c .if1 .taken (e ∙ z)))) (c .if1 .taken)
+    refused (refused-by (shiftChecks (s .args .shifts .now) (s .args .frames)) last (n .shifts-number .ensures) (c .if1 .taken)) (c .if1 .taken)
 
 span-of-requires : tie.Need-span-of-requires
 span-of-requires c κs =

@@ -10,7 +10,7 @@ use lib.Signed.{ltZ}
 use borrow.Author.Needs.{needs}
 use Rattle.lists.proofs.Via.{via}
 use Rattle.refusals.specs.FirstOf.{check, firstOf}
-use Rattle.refusals.proofs.FirstOf.{refused-first}
+use Rattle.refusals.proofs.FirstOf.{refused-by}
 use Rattle.signed.proofs.Ends.{back}
 use Rattle.choice.specs.Choice.{exchanges}
 use Rattle.choice.specs.Conditions.{anyUsable, noUsable, runChecks, chooseChecks}
@@ -57,8 +57,7 @@ returns c =
     let s : tie.Start = search in
     let first = s .args .first .now in
     let second = s .args .second .now in
-    let e = n .runs-number .ensures in
-    refusal (e ∙ sym (refused-first (runChecks first second) (check 19 (noUsable first second) ∷ []) (λ z. c .if1 .taken (e ∙ z)))) (c .if1 .taken)
+    refusal (refused-by (runChecks first second) (check 19 (noUsable first second) ∷ []) (n .runs-number .ensures) (c .if1 .taken)) (c .if1 .taken)
 
 best-requires : tie.Need-best-requires
 best-requires c κs = let s : tie.Start = search in runs-pass (s .args .first .now) (s .args .second .now) 0 (search via) .first-near
