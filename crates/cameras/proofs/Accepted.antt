@@ -22,6 +22,8 @@ refusing h r = Refusing.more h r
 -- removing: n cameras are left, at least one
 pub record Removes (frames cameras n k : ℕ) (buffer : List ℕ) : Type 0 where
   pub left : cameras ≡ suc n
+  pub some : 0 < frames
+  pub thin : n ≤ 4096
   pub low : k ≤ n
   pub few : frames * suc n ≤ 1048576
   pub fits : frames * suc n ≤ length buffer
@@ -30,15 +32,18 @@ pub removes : (frames cameras k : ℕ) (buffer : List ℕ) → firstOf (removeCh
 removes f c k buffer e =
     go (zero-silent (refusing (lit< tt) (refusing (lit< tt) (refusing (lit< tt) (refusing (lit< tt) Refusing.none)))) e)
   where
-    sized : InRange (f ∷ c ∷ (c - 1) ∷ []) → c ≡ suc (c - 1)
-    sized (InRange.more pf ff (InRange.more pc fc r)) = omega arith
+    sized : InRange (f ∷ c ∷ (c - 1) ∷ []) → (c ≡ suc (c - 1)) × (0 < f) × (c - 1 ≤ 4096)
+    sized (InRange.more pf ff (InRange.more pc fc r)) = (omega arith, omega arith, omega arith)
 
     go : Silent (removeChecks f c k buffer) → Removes f c (c - 1) k buffer
     go (more one (more two (more three (more sixteen none)))) =
-        let left = sized (in-range (f ∷ c ∷ (c - 1) ∷ []) one) in
+        let ranged = sized (in-range (f ∷ c ∷ (c - 1) ∷ []) one) in
+        let left = ranged .0 in
         let words : f * suc (c - 1) ≡ volume (sides f c) = ap (λ (z : ℕ). f * z) (sym left) ∙ sym (volume-two f c) in
         record {
           left = left;
+          some = ranged .1;
+          thin = ranged .2;
           low = ltb-false (c - 1) k sixteen;
           few = rw words (ltb-false 1048576 (volume (sides f c)) two);
           fits = rw words (ltb-false (length buffer) (volume (sides f c)) three);
@@ -59,6 +64,8 @@ lengths-left f c k buffer e = go (in-range (f ∷ c ∷ (c - 1) ∷ []) (passed 
 
 -- adding
 pub record Adds (frames n k : ℕ) (column buffer : List ℕ) : Type 0 where
+  pub some : 0 < frames
+  pub thin : n ≤ 4096
   pub low : k ≤ n
   pub fits : frames * suc n ≤ length buffer
   pub long : length column ≡ frames
@@ -73,8 +80,13 @@ adds f n k column buffer e =
     (refusing (lit< tt) (refusing (lit< tt) (refusing (lit< tt) (refusing (lit< tt) Refusing.none)))))))
     e)
   where
+    sized : InRange (f ∷ n ∷ (n + 1) ∷ []) → (0 < f) × (n ≤ 4096)
+    sized (InRange.more pf ff (InRange.more pn fn r)) = (omega arith, omega arith)
+
     go : Silent (addChecks f n k column buffer) → Adds f n k column buffer
     go (more one (more two (more two′ (more three (more sixteen (more seventeen (more twentyfive none))))))) = record {
+      some = sized (in-range (f ∷ n ∷ (n + 1) ∷ []) one) .0;
+      thin = sized (in-range (f ∷ n ∷ (n + 1) ∷ []) one) .1;
       low = ltb-false n k sixteen;
       fits = omega (arith, volume-two f (n + 1), ltb-false (length buffer) (volume (sides f (n + 1))) seventeen);
       long = eqb-true (length column) f (not-false (eqb (length column) f) twentyfive);

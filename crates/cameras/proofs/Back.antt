@@ -10,7 +10,7 @@ use lib.ListN.{length, getD}
 use lib.Seq.{ext-getD}
 use Rattle.lists.proofs.Decide.{lt-or-ge, eq-or-ne}
 use Rattle.cameras.specs.Columns.{past, Removed, Added}
-use Rattle.cameras.proofs.OneRow.{past-before, past-after, at}
+use Rattle.cameras.proofs.Runs.{past-before, past-after, at}
 
 -- a column of the larger block: column k, or column j of the smaller one
 pub record Other (n k c : ℕ) : Type 0 where

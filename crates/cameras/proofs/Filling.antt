@@ -1,12 +1,12 @@
--- A stretch of the buffer filled word by word, from the front or from the back: what is filled holds its values, the rest stands.
+-- A stretch of the buffer filled word by word or stretch by stretch, from the front or from the back: what is filled holds its values, the rest stands.
 use mathlib.Core.Path.{_≡_, refl, sym, ap, _∙_}
 use mathlib.Core.List.{List}
 use mathlib.Core.Logic.{⊎-elim}
-use Prim.Native.Nat.{ℕ, _+_, _<_, _≤_}
+use Prim.Native.Nat.{ℕ, _+_, _-_, _<_, _≤_}
 use native.Mathlib.Omega.{arith}
 use lib.ListN.{length, getD, set, length-set}
 use lib.Seq.{getD-set-same, getD-set-other}
-use Rattle.lists.proofs.Decide.{eq-or-ne}
+use Rattle.lists.proofs.Decide.{eq-or-ne, lt-or-ge}
 use Rattle.cameras.specs.Moves.{Stretch}
 
 -- the places from lo up to hi are filled
@@ -55,3 +55,38 @@ module _ {to : ℕ} {value : ℕ → ℕ} {xs : List ℕ} where
       below = λ q g. getD-set-other ys (to + lo) q v 0 (λ y. omega arith) ∙ f .below q (omega arith);
       above = λ q g. getD-set-other ys (to + lo) q v 0 (λ y. omega arith) ∙ f .above q g;
     }
+
+  -- a stretch more at the back, and one at the front
+  pub stretch-up : {lo hi top count : ℕ} {v : ℕ → ℕ} {ys zs : List ℕ} → Filled to lo hi value xs ys → Stretch (to + hi) count v ys zs
+      → ((p : ℕ) → p < count → v p ≡ value (hi + p)) → lo ≤ hi → hi + count ≡ top → Filled to lo top value xs zs
+  stretch-up {lo} {hi} {top} {count} {v} {ys} {zs} f s same l e = record {
+    same = s .same ∙ f .same;
+    holds = λ p a b.
+        ⊎-elim
+        (λ (g : p < hi). s .below (to + p) (omega arith) ∙ f .holds p a g)
+        (λ (g : hi ≤ p).
+        ap (λ (k : ℕ). getD zs k 0) (place p g) ∙ s .holds (p - hi) (omega arith) ∙ same (p - hi) (omega arith) ∙ ap value (omega arith))
+        (lt-or-ge p hi);
+    below = λ q g. s .below q (omega arith) ∙ f .below q g;
+    above = λ q g. s .above q (omega arith) ∙ f .above q (omega arith);
+  }
+    where
+      place : (p : ℕ) → hi ≤ p → to + p ≡ to + hi + (p - hi)
+      place p g = omega arith
+
+  pub stretch-down : {lo next hi count : ℕ} {v : ℕ → ℕ} {ys zs : List ℕ} → Filled to next hi value xs ys → Stretch (to + lo) count v ys zs
+      → ((p : ℕ) → p < count → v p ≡ value (lo + p)) → lo + count ≡ next → next ≤ hi → Filled to lo hi value xs zs
+  stretch-down {lo} {next} {hi} {count} {v} {ys} {zs} f s same e l = record {
+    same = s .same ∙ f .same;
+    holds = λ p a b.
+        ⊎-elim
+        (λ (g : p < next).
+        ap (λ (k : ℕ). getD zs k 0) (place p a) ∙ s .holds (p - lo) (omega arith) ∙ same (p - lo) (omega arith) ∙ ap value (omega arith))
+        (λ (g : next ≤ p). s .above (to + p) (omega arith) ∙ f .holds p g b)
+        (lt-or-ge p next);
+    below = λ q g. s .below q g ∙ f .below q (omega arith);
+    above = λ q g. s .above q (omega arith) ∙ f .above q g;
+  }
+    where
+      place : (p : ℕ) → lo ≤ p → to + p ≡ to + lo + (p - lo)
+      place p g = omega arith

@@ -1,9 +1,9 @@
 -- a stretch of the buffer filled word by word, from either end
 pub mod Filling
--- a row that closes up over a column, and one that opens for a word
-pub mod OneRow
--- the rows one after the other
-pub mod AllRows
+-- a run moved word by word, or in sixteens and more than is asked
+pub mod OneRun
+-- the runs one after the other
+pub mod Runs
 -- what the checks tell where none holds
 pub mod Accepted
 -- rows closed up and words zeroed are the block without the column

@@ -17,7 +17,7 @@ use Rattle.flat.specs.Turn.{sides}
 use Rattle.flat.proofs.Turn.{volume-two}
 use Rattle.cameras.specs.Columns.{past, Removed, Added}
 use Rattle.cameras.specs.Promises.{removeChecks, addChecks, noColumn, otherLength, badCameras, Changed, RemovePromise, AddPromise}
-use Rattle.cameras.proofs.OneRow.{at}
+use Rattle.cameras.proofs.Runs.{at}
 use Rattle.cameras.proofs.Back.{by-cells, column-is, Other}
 use Rattle.cameras.proofs.Accepted.{Removes, removes, lengths-left, adds}
 

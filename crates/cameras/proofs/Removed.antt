@@ -6,7 +6,7 @@ use native.Mathlib.Nat.{mul-le-mul-right}
 use native.Mathlib.Omega.{arith}
 use Rattle.cameras.specs.Columns.{Removed}
 use Rattle.cameras.specs.Moves.{Stretch, Closed}
-use Rattle.cameras.proofs.OneRow.{at}
+use Rattle.cameras.proofs.Runs.{at}
 
 pub removed : {frames n k : ℕ} {xs ys zs : List ℕ} → Closed frames n k xs ys → Stretch (frames * n) frames (λ p. 0) ys zs → Removed frames n k xs zs
 removed {frames} {n} {k} {xs} {ys} {zs} c z = record {

@@ -1,6 +1,7 @@
 -- These definitions serve only the contracts of private functions: a reader of the promises can pass over them.
 use mathlib.Core.Path.{_≡_}
 use mathlib.Core.List.{List}
+use mathlib.Core.Logic.{_⊎_}
 use Prim.Native.Nat.{ℕ, suc, _+_, _*_, _<_, _≤_}
 use lib.ListN.{length, getD}
 use Rattle.cameras.specs.Columns.{past}
@@ -12,20 +13,33 @@ pub record Stretch (to count : ℕ) (value : ℕ → ℕ) (xs ys : List ℕ) : T
   pub below : (q : ℕ) → q < to → getD ys q 0 ≡ getD xs q 0
   pub above : (q : ℕ) → to + count ≤ q → getD ys q 0 ≡ getD xs q 0
 
--- row i has closed up: its n words without column k stand where row i of n columns has them; words outside that row stand
-pub record RowClosed (n k i : ℕ) (xs ys : List ℕ) : Type 0 where
+-- run r has closed up: its n words, which stood from behind column k of row r of n + 1 columns on, stand from column k of row r of n columns on;
+-- words before those stand, and words from column k of the next row on
+pub record RunClosed (n k r : ℕ) (xs ys : List ℕ) : Type 0 where
   pub same : length ys ≡ length xs
-  pub closed : (j : ℕ) → j < n → getD ys (i * n + j) 0 ≡ getD xs (i * suc n + past k j) 0
-  pub below : (q : ℕ) → q < i * n → getD ys q 0 ≡ getD xs q 0
-  pub above : (q : ℕ) → suc i * n ≤ q → getD ys q 0 ≡ getD xs q 0
+  pub closed : (p : ℕ) → p < n → getD ys (r * n + k + p) 0 ≡ getD xs (r * suc n + k + 1 + p) 0
+  pub below : (q : ℕ) → q < r * n + k → getD ys q 0 ≡ getD xs q 0
+  pub above : (q : ℕ) → suc r * suc n + k ≤ q → getD ys q 0 ≡ getD xs q 0
 
--- row i has opened: its n words stand around column k of row i of n + 1 columns, and the word stands there; words outside that row stand
-pub record RowOpened (n k i word : ℕ) (xs ys : List ℕ) : Type 0 where
+-- run r has opened, and the word stands before it at column k of row r; words before those that were read stand, and words past the run
+pub record RunOpened (n k r word : ℕ) (xs ys : List ℕ) : Type 0 where
   pub same : length ys ≡ length xs
-  pub opened : (j : ℕ) → j < n → getD ys (i * suc n + past k j) 0 ≡ getD xs (i * n + j) 0
-  pub new : getD ys (i * suc n + k) 0 ≡ word
-  pub below : (q : ℕ) → q < i * suc n → getD ys q 0 ≡ getD xs q 0
-  pub above : (q : ℕ) → suc i * suc n ≤ q → getD ys q 0 ≡ getD xs q 0
+  pub opened : (p : ℕ) → p < n → getD ys (r * suc n + k + 1 + p) 0 ≡ getD xs (r * n + k + p) 0
+  pub new : getD ys (r * suc n + k) 0 ≡ word
+  pub below : (q : ℕ) → q < r * n + k → getD ys q 0 ≡ getD xs q 0
+  pub above : (q : ℕ) → suc r * suc n + k ≤ q → getD ys q 0 ≡ getD xs q 0
+
+-- place (i, j) lies at column k of row r or past it
+abbrev pub From : ℕ → ℕ → ℕ → ℕ → Type 0
+From k r i j = (r < i) ⊎ ((i ≡ r) × (k ≤ j))
+
+-- the runs from r on, and the last row, have opened; what stands before column k of row r without the column stands
+pub record OpenedFrom (r frames n k : ℕ) (column xs ys : List ℕ) : Type 0 where
+  pub same : length ys ≡ length xs
+  pub opened : (i j : ℕ) → i < frames → j < n → From k r i j → getD ys (i * suc n + past k j) 0 ≡ getD xs (i * n + j) 0
+  pub new : (i : ℕ) → r ≤ i → i < frames → getD ys (i * suc n + k) 0 ≡ getD column i 0
+  pub below : (q : ℕ) → q < r * n + k → getD ys q 0 ≡ getD xs q 0
+  pub tail : (q : ℕ) → frames * suc n ≤ q → getD ys q 0 ≡ getD xs q 0
 
 -- the rows have closed up; words past the block stand
 pub record Closed (frames n k : ℕ) (xs ys : List ℕ) : Type 0 where

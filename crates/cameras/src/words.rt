@@ -1,7 +1,61 @@
 // Stretches of words moved and zeroed within the buffer.
-ghost use Prim.Native.Nat.{_+_, _≤_};
+ghost use mathlib.Core.Path.{_≡_};
+ghost use Prim.Native.Nat.{ℕ, _+_, _*_, _<_, _≤_};
 ghost use lib.ListN.{length, getD};
 ghost use Rattle.cameras.specs.Moves.{Stretch};
+
+// The sixteen words from an offset on.
+fn held(buf: &[u32], from: usize) -> [u32; 16]
+    requires { ⌜ from + 16 ≤ length (now buf) ⌝ }
+    ensures { λ r. ⌜ ((p : ℕ) → p < 16 → getD r p 0 ≡ getD (now (buf .entry)) (from + p) 0) ⌝ }
+{
+    let mut words = [0; 16];
+    for p in 0..16 {
+        words[p] = buf[from + p];
+    }
+    words
+}
+
+// Stores sixteen words.
+fn store(buf: &mut [u32], to: usize, words: [u32; 16])
+    requires { ⌜ to + 16 ≤ length (now buf) ⌝ }
+    ensures { λ _. ⌜ Stretch to 16 (λ p. getD words p 0) (now (buf .entry)) (now (buf .exit)) ⌝ }
+{
+    for p in 0..16 {
+        buf[to + p] = words[p];
+    }
+}
+
+// Moves sixteen words, each of which is read before any is stored.
+fn sixteen(buf: &mut [u32], to: usize, from: usize)
+    requires { ⌜ (to + 16 ≤ length (now buf)) × (from + 16 ≤ length (now buf)) ⌝ }
+    ensures { λ _. ⌜ Stretch to 16 (λ p. getD (now (buf .entry)) (from + p) 0) (now (buf .entry)) (now (buf .exit)) ⌝ }
+{
+    let words = held(buf, from);
+    store(buf, to, words);
+}
+
+// Moves sixteen words, and sixteen more, to a place before them, the first first.
+pub(crate) fn sixteens_down(buf: &mut [u32], to: usize, from: usize, sixteens: usize)
+    requires { ⌜ (to ≤ from) × (from + 16 * sixteens ≤ length (now buf)) ⌝ }
+    ensures { λ _. ⌜ Stretch to (16 * sixteens) (λ p. getD (now (buf .entry)) (from + p) 0) (now (buf .entry)) (now (buf .exit)) ⌝ }
+{
+    for e in 0..sixteens {
+        sixteen(buf, to + 16 * e, from + 16 * e);
+    }
+}
+
+// Moves sixteen words, and sixteen more, to a place after them, the last first.
+pub(crate) fn sixteens_up(buf: &mut [u32], to: usize, from: usize, sixteens: usize)
+    requires { ⌜ (from ≤ to) × (to + 16 * sixteens ≤ length (now buf)) ⌝ }
+    ensures { λ _. ⌜ Stretch to (16 * sixteens) (λ p. getD (now (buf .entry)) (from + p) 0) (now (buf .entry)) (now (buf .exit)) ⌝ }
+{
+    let mut e = sixteens;
+    while 0 < e {
+        e -= 1;
+        sixteen(buf, to + 16 * e, from + 16 * e);
+    }
+}
 
 // Moves count words to a place before them, the first first, so that no word is overwritten before it is read.
 pub(crate) fn shift_down(buf: &mut [u32], to: usize, from: usize, count: usize)

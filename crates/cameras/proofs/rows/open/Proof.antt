@@ -1,52 +1,51 @@
--- `open` meets its contract. The loop's invariant: the rows passed, from the last, have opened, and what lies before them stands.
-use Prim.Native.Nat.{suc, _+_, _*_, _-_, _≤_}
-use native.Mathlib.Nat.{mul-le-mul-right}
+-- `open` meets its contract: the words from the column of the last row on open and its new word is stored, then the runs open.
+use mathlib.Core.Path.{_≡_}
+use Prim.Native.Nat.{suc, _+_, _*_, _-_}
 use native.Mathlib.Omega.{arith}
+use lib.ListN.{length-set}
 use borrow.Author.Needs.{needs}
-use Rattle.cameras.proofs.AllRows.{OpenedFrom, none-opened, all-opened, opened-more}
+use Rattle.cameras.proofs.Runs.{last-opened, last-row}
 use Rattle.cameras.proofs.rows.open.Statement.{statement}
 use Rattle.cameras.proofs.rows.open.Tie as tie
 
-abbrev Inv-loop : tie.InvT-loop
-Inv-loop buf₀ frames n k column i₀ buf i = (i ≤ frames) × OpenedFrom i frames n k column buf₀ buf
+ends : (s : tie.Start) → let a = s .args in a .frames * suc (a .n) ≡ (a .frames - 1) * suc (a .n) + suc (a .n)
+ends s = last-row _ _ (omega arith)
 
-abbrev μ-loop : tie.MeasureT-loop
-μ-loop buf₀ frames n k column i₀ buf i = i
+slice-write-buf : tie.Need-slice-write-buf
+slice-write-buf c = let u : tie.After-shift-up = search in omega (arith, ends (search), u .shift-up .ensures .same)
 
-abbrev Loop : Type 0
-Loop = tie.At-loop Inv-loop μ-loop
+open-runs-requires : tie.Need-open-runs-requires
+open-runs-requires c κs =
+    let u : tie.After-shift-up = search in
+    (omega arith, omega arith, omega arith, simp length-set (omega (arith, u .shift-up .ensures .same)), omega arith)
 
-abbrev Begin : Type 0
-Begin = tie.Start Inv-loop μ-loop
+returns : tie.Need-returns
+returns c =
+    let u : tie.After-shift-up = search in
+    let r : tie.After-open-runs = search in
+    r .open-runs .ensures _ (last-opened (omega arith) (omega arith) (omega arith) (u .shift-up .ensures))
 
-open-row-requires : tie.Need-open-row-requires Inv-loop μ-loop
-open-row-requires c κs =
-    let l : Loop = search in
-    let s : Begin = search in
-    let last : l .loop .i - 1 + 1 ≤ s .args .frames = omega arith in
-    (omega arith, omega (arith, mul-le-mul-right (suc (s .args .n)) last, l .loop .inv .1 .same))
-
-loop-again : tie.Need-loop-again Inv-loop μ-loop
-loop-again c =
-    let r : tie.After-open-row Inv-loop μ-loop = search in
-    let l : Loop = search in
-    (omega arith, opened-more (l .loop .inv .1) (omega arith) (omega arith) (omega arith) (r .open-row .ensures))
-
-returns : tie.Need-returns Inv-loop μ-loop
-returns c = let l : Loop = search in all-opened (l .loop .inv .1) (omega arith)
+same-length : tie.Need-same-length
+same-length c =
+    let u : tie.After-shift-up = search in
+    let r : tie.After-open-runs = search in
+    r .open-runs .ensures _ (last-opened (omega arith) (omega arith) (omega arith) (u .shift-up .ensures)) .same
 
 pub open-spec : {M : Type 1} → statement M
 open-spec =
     tie.close
     (tie.spec
-    Inv-loop
-    μ-loop
-    (λ c. (omega arith, none-opened))
+    (search needs)
+    (λ c. omega (arith, ends (search)))
+    (λ c. omega (arith, ends (search)))
+    (λ c. omega (arith, ends (search)))
+    (search needs)
+    (λ c κs. (omega arith, omega (arith, ends (search))))
     (search needs)
     (search needs)
-    (search needs)
-    open-row-requires
-    (search needs)
-    loop-again
-    (search needs)
+    (λ c. omega (arith, ends (search)))
+    (λ c. omega (arith, ends (search)))
+    slice-write-buf
+    open-runs-requires
+    same-length
     returns)
