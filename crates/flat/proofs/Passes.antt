@@ -1,6 +1,6 @@
 -- The three passes, one after the other, are the turn; and the computed passes are the passes. The word of row i′ and
 -- column j′ is followed to the cell at offset l = j′·m + i′ by the numbers of Sides.
-use mathlib.Core.Path.{_≡_, sym, ap, ap₂, _∙_}
+use mathlib.Core.Path.{_≡_, refl, sym, ap, ap₂, _∙_}
 use mathlib.Core.List.{List}
 use Prim.Native.Nat.{ℕ, _+_, _*_, _/_, _%_, _<_, _≤_}
 use native.Mathlib.Omega.{arith}
@@ -9,7 +9,6 @@ use lib.Arith.{digits-div, digits-mod, digits-lt}
 use lib.ListN.{length, getD}
 use Rattle.lists.specs.Tab.{tab}
 use Rattle.lists.proofs.Tab.{length-tab, getD-tab, overlaid-front, overlaid-rest, overlaid-length}
-use Rattle.layout.specs.Layout.{placeOf}
 use Rattle.layout.proofs.Picks.{finds}
 use Rattle.flat.specs.Turn.{Turn, turned}
 use Rattle.flat.specs.Passes.{word, row1, column2, source2, row3, Pass1, Pass2, Pass3, cells, passed1, passed2, passed3}

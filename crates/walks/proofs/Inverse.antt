@@ -3,7 +3,7 @@
 use mathlib.Core.Path.{_≡_, sym, ap, _∙_}
 use Prim.Native.Nat.{ℕ, _+_, _*_, _-_, _/_, _%_, _<_}
 use native.Mathlib.Omega.{arith}
-use native.Mathlib.Nat.{mod-lt, mod-add-mod, div-add-mod', mul-assoc, add-mul, one-mul, add-mul-mod-self-right, le-mul-of-pos-right}
+use native.Mathlib.Nat.{mod-lt, mod-add-mod, div-add-mod', mul-assoc, mul-comm, add-mul, one-mul, add-mul-mod-self-right, le-mul-of-pos-right}
 use Rattle.walks.proofs.Remainders.{add-same, times-same}
 
 -- a part that two sums of one remainder share can be left out
@@ -28,14 +28,8 @@ pub inverse-step : (a x y u v w : ℕ) {b : ℕ} → 0 < b → v * a % b ≡ y %
 inverse-step a x y u v w {b} h ey ex ew =
     let q = y / x in
     shared-part (w * a) (y % x) (q * x) h
-    (add-same (w * a) (q * x) (q * (u * a)) b (sym (scaled q))
+    (add-same (w * a) (q * x) (q * (u * a)) b (sym (ap (λ (z : ℕ). z % b) (mul-comm q (u * a)) ∙ times-same q (u * a) x b ex ∙ ap (λ (z : ℕ). z % b) (mul-comm x q)))
     ∙ ap (λ (z : ℕ). z % b) (omega (arith, add-mul w (q * u) a, mul-assoc q u a))
     ∙ times-same a (w + q * u) v b ew
     ∙ ey
     ∙ ap (λ (z : ℕ). z % b) (omega (arith, div-add-mod' y x)))
-  where
-    scaled : (q : ℕ) → q * (u * a) % b ≡ q * x % b
-    scaled q = add-times q (u * a) x ex
-      where
-        add-times : (q s t : ℕ) → s % b ≡ t % b → q * s % b ≡ q * t % b
-        add-times q s t e = ap (λ (z : ℕ). z % b) (native.Mathlib.Nat.mul-comm q s) ∙ times-same q s t b e ∙ ap (λ (z : ℕ). z % b) (native.Mathlib.Nat.mul-comm t q)
