@@ -55,6 +55,17 @@ filled-two {to} {word} {count = count} {r} {s} {xs} {ys} {zs} apart e to-1 word-
     let first : Filled to word (0 + r) xs ys = filled-on apart (omega arith) (λ t d. ap to (zero-add t) ∙ to-1 t d) (λ t d. ap word (zero-add t) ∙ word-1 t d) (filled-none to word xs) f in
     subst (λ (k : ℕ). Filled to word k xs zs) e (filled-on apart (omega arith) to-2 word-2 (rw (zero-add r) at first) g)
 
+-- a line's words in two runs into the front of scratch, cut after `until` words
+pub two-runs : (l : Line) (xs : List ℕ) {first rest size until : ℕ} {scratch held held′ : List ℕ} → until ≤ first + rest → (size ≤ rest) × (size ≤ until) × (size < until → size ≡ rest)
+    → Filled (λ t. 0 + t) (λ t. getD xs (posOn l (first + t)) 0) size scratch held → Filled (λ t. size + t) (λ t. getD xs (posOn l (0 + t)) 0) (until - size) held held′
+    → (f : ℕ → ℕ) → ((t : ℕ) → t < rest → f t ≡ first + t) → ((t : ℕ) → t < first → f (rest + t) ≡ t)
+    → Filled (λ k. k) (λ k. getD xs (posOn l (f k)) 0) until scratch held′
+two-runs l xs {first} {rest} {size} {until} few s a b f one two =
+    filled-two (λ i j _ _ e. e) (omega (arith, s .1)) (λ t d. sym (zero-add t)) (λ t d. ap (λ (z : ℕ). getD xs (posOn l z) 0) (one t (omega (arith, s .0)))) (λ t d. refl)
+    (λ t d.
+    let e : size ≡ rest = s .2 (omega arith) in
+    ap (λ (z : ℕ). getD xs (posOn l z) 0) (ap (λ (z : ℕ). f (z + t)) e ∙ two t (omega arith) ∙ sym (zero-add t))) a b
+
 -- all words of a line are stored: it stands in scratch
 pub all-lifted : {l : Line} {k : ℕ} {to from : ℕ → ℕ} {xs scratch held : List ℕ} → ((j : ℕ) → j < l .count → to j < l .count)
     → Filled to (λ j. getD xs (posOn l (from j)) 0) k scratch held → k ≡ l .count → Lifted l to from xs scratch held

@@ -11,12 +11,21 @@ use Rattle.refusals.specs.Scratch.{need}
 use Rattle.flat.specs.Turn.{sides}
 use Rattle.flat.specs.Passes.{rowGroup, columnGroup}
 use Rattle.walks.specs.Walk.{walk, starts}
+use Rattle.walks.specs.Source.{Inverse, At}
 use Rattle.passes.specs.Lines.{Moved, paired, posOn, skipped}
 use Rattle.passes.specs.declared.line.GroupedSides.{GroupedSides}
 use Rattle.passes.specs.declared.line.Line.{Line}
+use Rattle.passes.specs.declared.source.Source.{Source}
 use Rattle.passes.specs.declared.walk.Walk.{Walk}
 
--- sides from 1 to 4,096, with their greatest common divisor c, a = m / c and b = n / c, and what each leaves modulo the other
+-- small numbers that share no factor
+pub record Coprime (a b : ℕ) : Type 0 where
+  pub b-pos : 0 < b
+  pub b-few : b ≤ 4096
+  pub apart : gcdOf a b ≡ 1
+
+-- sides from 1 to 4,096, with their greatest common divisor c, a = m / c and b = n / c, what each leaves modulo the
+-- other, and the inverse of a modulo b
 pub record Grouped (s : GroupedSides) : Type 0 where
   pub m-pos : 0 < s .m
   pub n-pos : 0 < s .n
@@ -27,7 +36,18 @@ pub record Grouped (s : GroupedSides) : Type 0 where
   pub c-is : s .c ≡ gcdOf (s .m) (s .n)
   pub down-is : s .down ≡ s .n % s .m
   pub across-is : s .across ≡ s .m % s .n
+  pub inverse-is : Inverse (rowGroup (s .m) (s .n)) (columnGroup (s .m) (s .n)) (s .inverse)
   pub skipped-is : s .skipped ≡ skipped (s .m) (s .n)
+
+-- the walk over the sources of row i stands at place j
+abbrev pub StandsAt : GroupedSides → ℕ → ℕ → Source → Type 0
+StandsAt s i j p = At (s .m) (s .n) i j (p .group) (p .lap) (p .column)
+
+-- its numbers are in range
+pub record Low (s : GroupedSides) (p : Source) : Type 0 where
+  pub group : p .group < s .c
+  pub lap : p .lap < s .b
+  pub column : p .column < s .b
 
 -- where group g of a walk starts
 abbrev pub startOf : Walk → ℕ → ℕ
@@ -54,11 +74,12 @@ pub record Follows (w : Walk) (count : ℕ) (f : ℕ → ℕ) : Type 0 where
 abbrev pub Inside : Line → ℕ → List ℕ → Type 0
 Inside l count xs = (k : ℕ) → k < count → posOn l k < length xs
 
--- a group that starts at `place` can be walked: its places from `from` on lie on the line, the line in the buffer, and scratch has room for it
-pub record GroupFits (l : Line) (w : Walk) (from place : ℕ) (xs scratch : List ℕ) : Type 0 where
+-- the first `size` places of a group that starts at `place` can be walked: they are those of the line from `from` on, the line lies in the buffer, and
+-- scratch has room for it
+pub record GroupFits (l : Line) (w : Walk) (from place size : ℕ) (xs scratch : List ℕ) : Type 0 where
   pub low : place < w .modulus
   pub short : w .step ≤ w .modulus
-  pub on-line : from + w .size ≤ w .modulus
+  pub on-line : from + size ≤ w .modulus
   pub inside : Inside l (w .modulus) xs
   pub room : w .modulus ≤ length scratch
 
@@ -90,10 +111,6 @@ pub record Lifted (l : Line) (to from : ℕ → ℕ) (xs scratch held : List ℕ
   pub same : length held ≡ length scratch
   pub placed : (k : ℕ) → k < l .count → getD held (to k) 0 ≡ getD xs (posOn l (from k)) 0
   pub rest : (k : ℕ) → l .count ≤ k → getD held k 0 ≡ getD scratch k 0
-
--- the line has received the words of scratch; every other word stands
-abbrev pub Returned : Line → List ℕ → List ℕ → List ℕ → Type 0
-Returned l scratch xs ys = Filled (posOn l) (λ k. getD scratch k 0) (l .count) xs ys
 
 -- scratch past its first n words is as it was
 pub record Past (n : ℕ) (before after : List ℕ) : Type 0 where

@@ -3,6 +3,7 @@ mod gcd;
 mod line;
 mod refusal;
 mod scratch;
+mod source;
 mod turning;
 mod walk;
 

@@ -2,7 +2,7 @@
 use mathlib.Core.Path.{_≡_, refl, sym, ap, ap₂, _∙_}
 use Prim.Native.Nat.{ℕ, _+_, _*_, _-_, _/_, _%_, _<_, _≤_}
 use native.Mathlib.Omega.{arith}
-use native.Mathlib.Nat.{mod-lt, mod-eq-of-lt, mod-add-mod, add-mod-mod, add-mul-mod-self-left, add-mul-mod-self-right, add-mul, add-assoc, add-zero, mul-assoc, mul-comm, mul-right-comm, mul-one, one-mul, div-add-mod', div-mul-cancel, div-eq-of-lt, div-eq-of-lt-le, mod-mod-of-dvd, le-mul-of-pos-right}
+use native.Mathlib.Nat.{mod-lt, mod-eq-of-lt, mod-add-mod, add-mod-mod, add-mul-mod-self-left, add-mul-mod-self-right, add-mod-right, add-mul, add-assoc, add-zero, mul-assoc, mul-comm, mul-right-comm, mul-one, one-mul, div-add-mod', div-mul-cancel, div-eq-of-lt, div-eq-of-lt-le, mod-mod-of-dvd, le-mul-of-pos-right}
 use mathlib.Core.Logic.{⊎-elim}
 use lib.Arith.{digits-lt}
 use Rattle.lists.proofs.Decide.{lt-or-ge}
@@ -12,9 +12,10 @@ use Rattle.numbers.proofs.Apart.{differ}
 use Rattle.flat.specs.Passes.{rowGroup, columnGroup, column2, source2}
 use Rattle.flat.proofs.Sides.{Sides}
 use Rattle.flat.proofs.Passes.{source-is}
-use Rattle.walks.specs.Source.{Inverse, At, groupAt, lapAt}
+use Rattle.walks.specs.Source.{Inverse, At}
 use Rattle.walks.proofs.Remainders.{add-same, times-same, scaled-same}
-use Rattle.walks.proofs.Passes.{laps, crossed, shared-le, column2-at}
+use Rattle.walks.proofs.Passes.{laps, crossed, shared-le, column2-at, column2-alone}
+use Rattle.walks.specs.Walk.{walk}
 
 -- a number from m to below twice m has passed m once
 passed : {m : ℕ} (y : ℕ) → m ≤ y → y < m + m → y / m ≡ 1
@@ -116,28 +117,40 @@ module _ {m n : ℕ} (s : Sides m n) where
           column = sym (ap (λ (z : ℕ). (p + z) % b) (div-eq-of-lt (omega arith)) ∙ ap (λ (z : ℕ). z % b) (add-zero p) ∙ mod-eq-of-lt hp);
         }
 
-    -- the state at any place, the first among them
-    pub state-at : (i j : ℕ) → let g = groupAt (gcdOf m n) i j in let q = lapAt n (columnGroup m n) (gcdOf m n) x (i + g) j in
-        At m n i j g q ((q + (i + g) / m) % columnGroup m n)
-    state-at i j =
-        let b = columnGroup m n in
+    -- the state at place 0: k·c is the least multiple of c that is not below i
+    pub state-first : (i k : ℕ) → 0 < n → i ≤ k * gcdOf m n → k * gcdOf m n < i + gcdOf m n → let q = x * ((n - 1) * k) % columnGroup m n in
+        At m n i 0 (k * gcdOf m n - i) q ((q + k * gcdOf m n / m) % columnGroup m n)
+    state-first i k hn low high =
         let c = gcdOf m n in
-        let g = groupAt c i j in
-        let u = i + g in
-        let d = (j + n * u - u) / c in
-        let hn : 0 < n = omega (arith, le-mul-of-pos-right {m = c} b (s .c-pos), s .columns, s .b-pos) in
-        let hi : i ≤ c * i = omega (arith, mul-comm c i, le-mul-of-pos-right {m = c} i (s .c-pos)) in
-        let hu : u ≤ n * u = omega (arith, mul-comm n u, le-mul-of-pos-right {m = n} u hn) in
-        let left : u % c ≡ j % c = add-mod-mod i (j + c * i - i) c ∙ ap (λ (z : ℕ). z % c) (omega arith) ∙ add-mul-mod-self-left j c i in
-        let right : (j + n * u) % c ≡ j % c =
-        sym (mod-mod-of-dvd c (j + n * u) (gcd-is m n .right)) ∙ ap (λ (z : ℕ). z % c) (add-mul-mod-self-left j n u) ∙ mod-mod-of-dvd c j (gcd-is m n .right) in
-        let whole : d * c ≡ j + n * u - u = div-mul-cancel c (differ u (j + n * u) c (omega arith) (left ∙ sym right)) in
+        let d = (n - 1) * k in
+        let u : i + (k * c - i) ≡ k * c = omega arith in
+        let whole : k * c + d * c ≡ 0 + k * c * n = omega (arith, mul-assoc (n - 1) k c, sub-one (k * c)) in
         record {
-          group = mod-lt (j + c * i - i) (s .c-pos);
+          group = omega arith;
           lap = mod-lt (x * d) (s .b-pos);
-          place = lap-reduced u (x * d)
-              ∙ add-same u (x * d * m) (d * c) n (turns d)
-              ∙ ap (λ (z : ℕ). z % n) (omega arith)
-              ∙ add-mul-mod-self-left j n u;
-          column = refl;
+          place = lap-reduced (i + (k * c - i)) (x * d)
+              ∙ ap (λ (z : ℕ). (z + x * d * m) % n) u
+              ∙ add-same (k * c) (x * d * m) (d * c) n (turns d)
+              ∙ ap (λ (z : ℕ). z % n) whole
+              ∙ add-mul-mod-self-right 0 (k * c) n;
+          column = ap (λ (z : ℕ). (x * d % columnGroup m n + z / m) % columnGroup m n) (sym u);
         }
+      where
+        sub-one : (z : ℕ) → (n - 1) * z + z ≡ z * n
+        sub-one z = let e : n - 1 + 1 ≡ n = omega arith in omega (arith, add-mul (n - 1) 1 z, one-mul z, ap (λ (w : ℕ). w * z) e, mul-comm n z)
+
+  -- groups of one column: from place i mod n on the sources go up from 0, before that from n - i mod n on
+  module _ (e : columnGroup m n ≡ 1) where
+    pub sources-before : (i t : ℕ) → 0 < n → t < i % n → source2 m n i t ≡ n - i % n + t
+    unfolding walk
+    sources-before i t hn h =
+        let low = mod-lt i hn in
+        let d : t < n = omega arith in
+        source-is s i t (n - i % n + t) (omega arith)
+        (column2-alone s i (n - i % n + t) e ∙ ap (λ (z : ℕ). z % n) (omega (arith, mul-one (n - i % n + t))) ∙ add-mod-right t n ∙ mod-eq-of-lt d)
+
+    pub sources-from : (i t : ℕ) → 0 < n → t < n - i % n → source2 m n i (i % n + t) ≡ t
+    unfolding walk
+    sources-from i t hn h =
+        let d : i % n + t < n = omega (arith, mod-lt i hn) in
+        source-is s i (i % n + t) t (omega arith) (column2-alone s i t e ∙ ap (λ (z : ℕ). z % n) (omega (arith, mul-one t)) ∙ mod-eq-of-lt d)

@@ -2,7 +2,7 @@
 -- A walk over the sources of a row in pass 2. c is the greatest common divisor of the sides, a = m / c, b = n / c; column k = g·b + t
 -- is column t of group g. Assumes nothing: these are definitions.
 use mathlib.Core.Path.{_≡_}
-use Prim.Native.Nat.{ℕ, _+_, _*_, _-_, _/_, _%_, _<_}
+use Prim.Native.Nat.{ℕ, _+_, _*_, _/_, _%_, _<_}
 use Rattle.numbers.specs.Gcd.{gcdOf}
 use Rattle.flat.specs.Passes.{columnGroup}
 
@@ -17,10 +17,3 @@ pub record At (m n i j g s t : ℕ) : Type 0 where
   pub lap : s < columnGroup m n
   pub place : (i + g + s * m) % n ≡ j % n
   pub column : t ≡ (s + (i + g) / m) % columnGroup m n
-
--- the state at any j, computed with divisions; x is the inverse of a modulo b
-abbrev pub groupAt : ℕ → ℕ → ℕ → ℕ
-groupAt c i j = (j + c * i - i) % c
-
-abbrev pub lapAt : ℕ → ℕ → ℕ → ℕ → ℕ → ℕ → ℕ
-lapAt n b c x u j = x * ((j + n * u - u) / c) % b

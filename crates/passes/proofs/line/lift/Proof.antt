@@ -1,8 +1,22 @@
--- `lift` meets its contract: pass 2 scatters, passes 1 and 3 gather.
+-- `lift` meets its contract: pass 2 gathers from its sources, passes 1 and 3 from the places that theirs are paired with.
 use borrow.Author.Needs.{needs}
-use Rattle.passes.proofs.Lifted.{scattered, gathered}
+use Rattle.passes.proofs.Lifted.{from-sources, from-paired}
 use Rattle.passes.proofs.line.lift.Statement.{statement}
 use Rattle.passes.proofs.line.lift.Tie as tie
+
+returns : tie.Need-returns
+returns c =
+    let g : tie.After-gather-row = search in
+    let t : tie.Then1 = search in
+    let x : tie.Start = search in
+    from-sources (x .args .s .m) (x .args .s .n) (x .args .l) (x .args .buf .now) (t .if1 .taken) (g .gather-row .ensures)
+
+returns-2 : tie.Need-returns-2
+returns-2 c =
+    let g : tie.After-gather = search in
+    let t : tie.Else1 = search in
+    let x : tie.Start = search in
+    from-paired (x .args .s .m) (x .args .s .n) (x .args .l) (x .args .buf .now) (t .if1 .left) (g .gather .ensures)
 
 pub lift-spec : {M : Type 1} → statement M
 lift-spec =
@@ -10,7 +24,7 @@ lift-spec =
     (tie.spec
     (λ c κs. search needs)
     (search needs)
-    (λ c. search scattered)
+    returns
     (λ c κs. search needs)
     (search needs)
-    (λ c. search gathered))
+    returns-2)

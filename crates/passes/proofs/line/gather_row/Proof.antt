@@ -1,0 +1,102 @@
+-- `gather_row` meets its contract: two runs where groups have one column, else place by place while the walk goes over the row's sources.
+use mathlib.Core.Path.{_≡_, refl, sym, ap, _∙_, subst}
+use Prim.Native.Nat.{ℕ, _+_, _*_, _-_, _%_, _<_, _≤_}
+use native.Mathlib.Nat.{mod-lt}
+use native.Mathlib.Omega.{arith}
+use borrow.Author.Needs.{needs}
+use lib.ListN.{length, getD}
+use Rattle.flat.specs.Passes.{source2}
+use Rattle.passes.specs.Lines.{posOn}
+use Rattle.passes.specs.ThroughScratch.{Filled, StandsAt}
+use Rattle.passes.proofs.Filled.{filled-none, filled-more}
+use Rattle.passes.proofs.Sources.{stands-low, stands-inside, stands-source, runs-before, runs-from}
+use Rattle.passes.proofs.line.gather_row.Statement.{statement}
+use Rattle.passes.proofs.line.gather_row.Tie as tie
+
+abbrev Inv-loop : tie.InvT-loop
+Inv-loop buf scratch₀ s until start stride i p₀ j₀ scratch p j =
+    (j ≤ until) × StandsAt s i j p × Filled (λ k. k) (λ k. getD buf (start + stride * source2 (s .m) (s .n) i k) 0) j scratch₀ scratch
+
+abbrev μ-loop : tie.MeasureT-loop
+μ-loop buf scratch₀ s until start stride i p₀ j₀ scratch p j = until - j
+
+-- the places that the answers look back to
+abbrev Start : Type 0
+Start = tie.Start Inv-loop μ-loop
+
+abbrev Loop : Type 0
+Loop = tie.At-loop Inv-loop μ-loop
+
+-- the row has n words, and its index is that of a row
+of-pass : (x : Start) → (x .args .l .count ≡ x .args .s .n) × (x .args .l .index < x .args .s .m)
+of-pass x = rw (x .pre .2) at (x .pre .1 .of-pass)
+
+copy-runs-requires : tie.Need-copy-runs-requires Inv-loop μ-loop
+copy-runs-requires c κs =
+    let x : Start = search in
+    let r = mod-lt (x .args .l .index) (x .pre .0 .n-pos) in
+    let e = of-pass x .0 in
+    (λ k h. x .pre .1 .inside k (omega arith), omega arith, omega (arith, x .pre .1 .room))
+
+returns : tie.Need-returns Inv-loop μ-loop
+returns c =
+    let r : tie.After-copy-runs Inv-loop μ-loop = search in
+    let x : Start = search in
+    let s = x .args .s in
+    let i = x .args .l .index in
+    r .copy-runs .ensures .1 (source2 (s .m) (s .n) i) (runs-before (x .pre .0) (search) i) (runs-from (x .pre .0) (search) i)
+
+-- the source that the walk stands at, and its word
+low : (l : Loop) → let a = l .before .before .before .before .before .before .args in l .loop .p .group * a .s .b + l .loop .p .column < a .s .n
+low l = let x : Start = search in stands-inside (x .pre .0) (l .loop .inv .1)
+
+inside : (l : Loop) → let a = l .before .before .before .before .before .before .args in posOn (a .l) (l .loop .p .group * a .s .b + l .loop .p .column) < length (a .buf .now)
+inside l = let x : Start = search in x .pre .1 .inside _ (omega (arith, of-pass x .0, low l))
+
+loop-holds : tie.Need-loop-holds Inv-loop μ-loop
+loop-holds c = (omega arith, c .first .ensures, filled-none _ _ _)
+
+loop-again : tie.Need-loop-again Inv-loop μ-loop
+loop-again c =
+    let l : Loop = search in
+    let x : Start = search in
+    let h : l .loop .j < x .args .s .n = omega (arith, of-pass x .0) in (
+      omega arith,
+      c .next .ensures (l .loop .j) (l .loop .inv .1),
+      rw (← stands-source (x .pre .0) (l .loop .inv .1) h) (filled-more {count = x .args .until} (λ i j _ _ e. e) (omega arith) (omega (arith, x .pre .1 .room)) (l .loop .inv .2)),
+    )
+
+returns-2 : tie.Need-returns-2 Inv-loop μ-loop
+returns-2 c =
+    let l : Loop = search in
+    let x : Start = search in
+    let e : l .loop .j ≡ x .args .until = omega arith in
+    rw e at (l .loop .inv .2)
+
+pub gather-row-spec : {M : Type 1} → statement M
+gather-row-spec =
+    tie.close
+    (tie.spec
+    Inv-loop
+    μ-loop
+    (search needs)
+    (λ c. let x : Start = search in omega (arith, mod-lt (x .args .l .index) (x .pre .0 .n-pos)))
+    copy-runs-requires
+    (search needs)
+    returns
+    (λ c κs. let x : Start = search in (x .pre .0, of-pass x .1))
+    loop-holds
+    (λ c. omega (arith, low (search)))
+    (λ c. omega (arith, low (search)))
+    (λ c. omega (arith, inside (search)))
+    (λ c. omega (arith, inside (search)))
+    (λ c. omega (arith, inside (search)))
+    (λ c. inside (search))
+    (search needs)
+    (λ c. let l : Loop = search in let x : Start = search in omega (arith, l .loop .inv .2 .same, x .pre .1 .room, x .pre .3))
+    (λ c κs. let l : Loop = search in let x : Start = search in (x .pre .0, of-pass x .1, stands-low (x .pre .0) (l .loop .inv .1)))
+    (search needs)
+    (search needs)
+    loop-again
+    (λ c. let l : Loop = search in l .loop .inv .2 .same)
+    returns-2)

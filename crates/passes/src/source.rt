@@ -1,0 +1,63 @@
+// Sources: the columns that pass 2 sends to the places of a row, in rising place, with no division for a word.
+use crate::line::GroupedSides;
+use crate::walk;
+ghost use Prim.Native.Nat.{ℕ, _+_, _<_};
+ghost use Rattle.passes.specs.ThroughScratch.{Grouped, StandsAt, Low};
+
+// Where a walk over the sources of a row stands: at column `column` of group `group`; `lap` is that column where the row's number
+// and the group's do not pass m.
+pub(crate) struct Source {
+    pub group: usize,
+    pub lap: usize,
+    pub column: usize,
+}
+
+// The source of place 0 of row i.
+pub(crate) fn first(s: GroupedSides, i: usize) -> Source
+    requires { ⌜ Grouped s × (i < s .m) ⌝ }
+    ensures { λ r. ⌜ StandsAt s i 0 r ⌝ }
+{
+    let k = (i + (s.c - 1)) / s.c;
+    let u = k * s.c;
+    let lap = s.inverse * ((s.n - 1) * k) % s.b;
+    if u < s.m {
+        return Source {
+            group: u - i,
+            lap,
+            column: lap,
+        };
+    }
+    Source {
+        group: u - i,
+        lap,
+        column: walk::step_on(lap, 1, s.b),
+    }
+}
+
+// The source of the next place.
+pub(crate) fn next(s: GroupedSides, i: usize, p: Source) -> Source
+    requires { ⌜ Grouped s × (i < s .m) × Low s p ⌝ }
+    ensures { λ r. ⌜ ((j : ℕ) → StandsAt s i j p → StandsAt s i (j + 1) r) ⌝ }
+{
+    let group = p.group + 1;
+    if group == s.c {
+        let lap = walk::step_on(p.lap, s.inverse, s.b);
+        return Source {
+            group: 0,
+            lap,
+            column: lap,
+        };
+    }
+    if i + group == s.m {
+        return Source {
+            group,
+            lap: p.lap,
+            column: walk::step_on(p.column, 1, s.b),
+        };
+    }
+    Source {
+        group,
+        lap: p.lap,
+        column: p.column,
+    }
+}
