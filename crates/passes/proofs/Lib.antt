@@ -20,6 +20,10 @@ pub mod Going
 pub mod Accepted
 -- one line a tick: refused, a line moved, none left
 pub mod Ticks
+-- what the functions of a mapped turn store is what its stages say
+pub mod Stages
+-- the outcomes of a call of the mapped turn
+pub mod Resumed
 -- the blocks of an adjacent swap, turned one after the other, are the swap
 pub mod Swaps
 -- any two outcomes that the promise of a call allows coincide

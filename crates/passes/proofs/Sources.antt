@@ -1,17 +1,22 @@
 -- The laws of a walk over a row's sources (crate walks), for the numbers that the functions hold; and that these numbers fit.
 use mathlib.Core.Path.{_≡_, sym, ap, _∙_, subst}
+use mathlib.Core.List.{List}
 use Prim.Native.Nat.{ℕ, _+_, _*_, _-_, _/_, _%_, _<_, _≤_}
 use native.Mathlib.Omega.{arith}
 use native.Mathlib.Nat.{mod-lt, mod-eq-of-lt, add-zero, mul-le-mul, le-mul-of-pos-right, div-eq-of-lt, div-eq-of-lt-le, div-add-mod', div-le-self}
+use lib.ListN.{length}
 use Rattle.numbers.specs.Gcd.{gcdOf}
 use Rattle.flat.specs.Passes.{columnGroup, source2}
 use Rattle.flat.proofs.Sides.{sides-are, Sides}
 use Rattle.walks.specs.Source.{At}
+use Rattle.walks.specs.Walk.{walk}
 use Rattle.walks.proofs.Passes.{shared-le}
-use Rattle.walks.proofs.Source.{state-first, next-group, next-lap, next-round, source-at, column-lt, sources-before, sources-from}
-use Rattle.passes.specs.ThroughScratch.{Grouped, StandsAt, Low}
+use Rattle.walks.proofs.Source.{state-first, next-group, next-lap, next-round, source-at, column-lt, source-lone, sources-before, sources-from}
+use Rattle.passes.specs.ThroughScratch.{Grouped, StandsAt, Low, Inside, GroupFits, alone}
 use Rattle.passes.specs.declared.line.GroupedSides.{GroupedSides}
+use Rattle.passes.specs.declared.line.Line.{Line}
 use Rattle.passes.specs.declared.source.Source.{Source}
+use Rattle.passes.proofs.Strided.{groups-le}
 
 -- the numbers on the way to the source of place 0 of row i, where k·c is the first multiple of c from i on
 pub record Start (s : GroupedSides) (i k : ℕ) : Type 0 where
@@ -90,6 +95,25 @@ module _ {s : GroupedSides} (g : Grouped s) where
 
     pub step-group : i < s .m → p .group + 1 < s .c → (i + (p .group + 1) ≡ s .m → ⊥) → At (s .m) (s .n) i (j + 1) (p .group + 1) (p .lap) (p .column)
     step-group hi h d = next-group sides hi (rw (g .c-is) at h) d w
+
+  -- one group: a walk by the inverse
+  lone-low : {i : ℕ} {p : Source} → s .c ≡ 1 → StandsAt s i 0 p → p .column < s .n
+  lone-low {p = p} e w = omega (arith, stands-inside w, stands-low w .group)
+
+  pub lone-fits : {i : ℕ} {p : Source} {l : Line} {until : ℕ} {xs scratch : List ℕ} → s .c ≡ 1 → StandsAt s i 0 p → until ≤ s .n → Inside l (s .n) xs
+      → s .n ≤ length scratch → GroupFits l (alone (p .column) (s .inverse) (s .n)) 0 (p .column) until xs scratch
+  lone-fits e w h inside room = record {
+    low = lone-low e w;
+    short = omega (arith, few, g .b-is, groups-le (s .m) (s .n) (g .m-pos) (g .n-pos));
+    on-line = omega arith;
+    inside = inside;
+    room = room;
+  }
+
+  pub lone-walk : {i : ℕ} {p : Source} → s .c ≡ 1 → i < s .m → StandsAt s i 0 p → (j : ℕ) → j < s .n → source2 (s .m) (s .n) i j ≡ walk (p .column) (s .inverse) (s .n) j
+  lone-walk {i} {p} e h w =
+      let none : p .group ≡ 0 = omega (arith, stands-low w .group) in
+      source-lone sides (g .inverse-is) (sym (g .c-is) ∙ e) h (subst (λ (z : ℕ). At (s .m) (s .n) i 0 z (p .lap) (p .column)) none w)
 
   -- groups of one column: two runs
   module _ (e : s .b ≡ 1) where

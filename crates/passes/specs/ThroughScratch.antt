@@ -4,7 +4,7 @@ use mathlib.Core.Bool.{cond}
 use mathlib.Core.Path.{_≡_}
 use mathlib.Core.List.{List}
 use Prim.Native.Nat.{ℕ, _+_, _*_, _/_, _%_, _<_, _≤_}
-use lib.Dec.{eqb}
+use lib.Dec.{ltb, eqb}
 use lib.ListN.{length, getD}
 use Rattle.numbers.specs.Gcd.{gcdOf}
 use Rattle.refusals.specs.Scratch.{need}
@@ -12,7 +12,7 @@ use Rattle.flat.specs.Turn.{sides}
 use Rattle.flat.specs.Passes.{rowGroup, columnGroup}
 use Rattle.walks.specs.Walk.{walk, starts}
 use Rattle.walks.specs.Source.{Inverse, At}
-use Rattle.passes.specs.Lines.{Moved, paired, posOn, skipped}
+use Rattle.passes.specs.Lines.{Moved, paired, posOn, skipped, lineCount, lineOf}
 use Rattle.passes.specs.declared.line.GroupedSides.{GroupedSides}
 use Rattle.passes.specs.declared.line.Line.{Line}
 use Rattle.passes.specs.declared.source.Source.{Source}
@@ -137,3 +137,13 @@ pub record AllLie (outer m n chunk : ℕ) (xs scratch : List ℕ) : Type 0 where
   pub few : outer * chunk * (m * n) ≤ 1048576
   pub enough : outer * chunk * (m * n) ≤ length xs
   pub room : need (sides m n) ≤ length scratch
+
+-- a mapped turn can go on: its block is the buffer, and scratch has room for its longer side
+pub record Mapped (s : GroupedSides) (xs scratch : List ℕ) : Type 0 where
+  pub grouped : Grouped s
+  pub lies : Lies (s .m) (s .n) 0 1 xs scratch
+  pub room : need (sides (s .m) (s .n)) ≤ length scratch
+
+-- how many words stage p stores: those of its line, or those that are cleared
+abbrev pub stageWords : ℕ → ℕ → ℕ → ℕ
+stageWords m n p = cond (ltb p (lineCount m n * 2)) (lineOf m n 0 1 (p / 2) .count) (need (sides m n))

@@ -111,15 +111,20 @@ fn gather_row(buf: &[u32], scratch: &mut [u32], s: GroupedSides, l: Line, until:
     requires { ⌜ Grouped s × Fits (s .m) (s .n) l (now buf) (now scratch) × (l .pass ≡ 2) × (until ≤ l .count) ⌝ }
     ensures { λ _. ⌜ Filled (λ k. k) (λ k. getD (now (buf .entry)) (posOn l (source2 (s .m) (s .n) (l .index) k)) 0) until (now (scratch .entry)) (now (scratch .exit)) ⌝ }
 {
+    let i = l.index;
     if s.b == 1 {
-        let turned = l.index % s.n;
+        let turned = i % s.n;
         copy_runs(buf, scratch, l, s.n - turned, turned, until);
+        return;
+    }
+    let mut p = source::first(s, i);
+    if s.c == 1 {
+        let w = walk::one_group(p.column, s.inverse, s.n);
+        gather_group(buf, scratch, l, w, 0, p.column, until);
         return;
     }
     let start = l.start;
     let stride = l.stride;
-    let i = l.index;
-    let mut p = source::first(s, i);
     for j in 0..until {
         scratch[j] = buf[start + stride * (p.group * s.b + p.column)];
         p = source::next(s, i, p);

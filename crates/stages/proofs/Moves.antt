@@ -28,7 +28,7 @@ pub record LineMoved (l : Lines) (t : ℕ) (xs ys : List ℕ) : Type 0 where
   pub placed : (k : ℕ) → k < l .count t → getD ys (l .pos t k) 0 ≡ getD xs (l .pos t (l .src t k)) 0
   pub others : (p : ℕ) → ((k : ℕ) → k < l .count t → l .pos t k ≡ p → ⊥) → getD ys p 0 ≡ getD xs p 0
 
-tab-zero : (n : ℕ) → tab n (λ k. 0) ≡ replicate n 0
+pub tab-zero : (n : ℕ) → tab n (λ k. 0) ≡ replicate n 0
 tab-zero zero = refl
 tab-zero (suc n) = ap (λ (l : List ℕ). 0 ∷ l) (tab-zero n)
 

@@ -1,8 +1,9 @@
 -- The inverse of pass 2, and a walk over it in rising place: the state at any place, and the next one.
-use mathlib.Core.Path.{_≡_, refl, sym, ap, ap₂, _∙_}
-use Prim.Native.Nat.{ℕ, _+_, _*_, _-_, _/_, _%_, _<_, _≤_}
+use mathlib.Core.Path.{_≡_, sym, ap, ap₂, _∙_, subst}
+use Prim.Native.Nat.{ℕ, zero, suc, _+_, _*_, _-_, _/_, _%_, _<_, _≤_}
 use native.Mathlib.Omega.{arith}
-use native.Mathlib.Nat.{mod-lt, mod-eq-of-lt, mod-add-mod, add-mod-mod, add-mul-mod-self-left, add-mul-mod-self-right, add-mod-right, add-mul, add-assoc, add-zero, mul-assoc, mul-comm, mul-right-comm, mul-one, one-mul, div-add-mod', div-mul-cancel, div-eq-of-lt, div-eq-of-lt-le, mod-mod-of-dvd, le-mul-of-pos-right}
+use native.Mathlib.Numerals.{add-one}
+use native.Mathlib.Nat.{zero-mul, zero-add, mod-lt, mod-eq-of-lt, mod-add-mod, add-mod-mod, add-mul-mod-self-left, add-mul-mod-self-right, add-mod-right, add-mul, add-assoc, add-zero, mul-assoc, mul-comm, mul-right-comm, mul-one, one-mul, div-add-mod', div-mul-cancel, div-eq-of-lt, div-eq-of-lt-le, mod-mod-of-dvd, le-mul-of-pos-right}
 use mathlib.Core.Logic.{⊎-elim}
 use lib.Arith.{digits-lt}
 use Rattle.lists.proofs.Decide.{lt-or-ge}
@@ -15,6 +16,7 @@ use Rattle.flat.proofs.Passes.{source-is}
 use Rattle.walks.specs.Source.{Inverse, At}
 use Rattle.walks.proofs.Remainders.{add-same, times-same, scaled-same}
 use Rattle.walks.proofs.Passes.{laps, crossed, shared-le, column2-at, column2-alone}
+use Rattle.walks.proofs.Steps.{walk-start, walk-more}
 use Rattle.walks.specs.Walk.{walk}
 
 -- a number from m to below twice m has passed m once
@@ -138,6 +140,24 @@ module _ {m n : ℕ} (s : Sides m n) where
       where
         sub-one : (z : ℕ) → (n - 1) * z + z ≡ z * n
         sub-one z = let e : n - 1 + 1 ≡ n = omega arith in omega (arith, add-mul (n - 1) 1 z, one-mul z, ap (λ (w : ℕ). w * z) e, mul-comm n z)
+
+    -- sides that share no factor: one group, walked by x
+    module _ (e : gcdOf m n ≡ 1) {i q t : ℕ} (h : i < m) (w : At m n i 0 0 q t) where
+      whole-line : columnGroup m n ≡ n
+      whole-line = sym (mul-one (columnGroup m n)) ∙ ap (λ (z : ℕ). columnGroup m n * z) (sym e) ∙ s .columns
+
+      lone-at : (j : ℕ) → At m n i j 0 (walk t x n j) (walk t x n j)
+      lone-at zero =
+          let b = columnGroup m n in
+          let t-is : t ≡ q = w .column ∙ ap (λ (z : ℕ). (q + z) % b) (div-eq-of-lt (omega arith)) ∙ ap (λ (z : ℕ). z % b) (add-zero q) ∙ mod-eq-of-lt (w .lap) in
+          let low : t < n = rw (whole-line, ← t-is) at (w .lap) in
+          rw (walk-start t x n low) (subst (λ (z : ℕ). At m n i 0 0 z t) (sym t-is) w)
+      lone-at (suc j) =
+          let p : (walk t x n j + x) % columnGroup m n ≡ walk t x n (suc j) = ap (λ (z : ℕ). (walk t x n j + x) % z) whole-line ∙ sym (walk-more t x n j) ∙ ap (walk t x n) (add-one j) in
+          rw (add-one) at (subst (λ (z : ℕ). At m n i (j + 1) 0 z z) p (next-round h (sym e) (lone-at j)))
+
+      pub source-lone : (j : ℕ) → j < n → source2 m n i j ≡ walk t x n j
+      source-lone j d = source-at d (lone-at j) ∙ ap (λ (z : ℕ). z + walk t x n j) (zero-mul (columnGroup m n)) ∙ zero-add (walk t x n j)
 
   -- groups of one column: from place i mod n on the sources go up from 0, before that from n - i mod n on
   module _ (e : columnGroup m n ≡ 1) where

@@ -1,4 +1,4 @@
--- `gather_row` meets its contract: two runs where groups have one column, else place by place while the walk goes over the row's sources.
+-- `gather_row` meets its contract: two runs where groups have one column, one walk where there is one group, else place by place while the walk goes over the row's sources.
 use mathlib.Core.Path.{_≡_, refl, sym, ap, _∙_, subst}
 use Prim.Native.Nat.{ℕ, _+_, _*_, _-_, _%_, _<_, _≤_}
 use native.Mathlib.Nat.{mod-lt}
@@ -8,17 +8,17 @@ use lib.ListN.{length, getD}
 use Rattle.flat.specs.Passes.{source2}
 use Rattle.passes.specs.Lines.{posOn}
 use Rattle.passes.specs.ThroughScratch.{Filled, StandsAt}
-use Rattle.passes.proofs.Filled.{filled-none, filled-more}
-use Rattle.passes.proofs.Sources.{stands-low, stands-inside, stands-source, runs-before, runs-from}
+use Rattle.passes.proofs.Filled.{filled-none, filled-more, filled-front}
+use Rattle.passes.proofs.Sources.{lone-fits, lone-walk, stands-low, stands-inside, stands-source, runs-before, runs-from}
 use Rattle.passes.proofs.line.gather_row.Statement.{statement}
 use Rattle.passes.proofs.line.gather_row.Tie as tie
 
 abbrev Inv-loop : tie.InvT-loop
-Inv-loop buf scratch₀ s until start stride i p₀ j₀ scratch p j =
+Inv-loop buf scratch₀ s until i p₀ start stride j₀ scratch p j =
     (j ≤ until) × StandsAt s i j p × Filled (λ k. k) (λ k. getD buf (start + stride * source2 (s .m) (s .n) i k) 0) j scratch₀ scratch
 
 abbrev μ-loop : tie.MeasureT-loop
-μ-loop buf scratch₀ s until start stride i p₀ j₀ scratch p j = until - j
+μ-loop buf scratch₀ s until i p₀ start stride j₀ scratch p j = until - j
 
 -- the places that the answers look back to
 abbrev Start : Type 0
@@ -46,15 +46,38 @@ returns c =
     let i = x .args .l .index in
     r .copy-runs .ensures .1 (source2 (s .m) (s .n) i) (runs-before (x .pre .0) (search) i) (runs-from (x .pre .0) (search) i)
 
+abbrev First : Type 0
+First = tie.After-first Inv-loop μ-loop
+
+gather-group-requires : tie.Need-gather-group-requires Inv-loop μ-loop
+gather-group-requires c κs =
+    let o : tie.After-one-group Inv-loop μ-loop = search in
+    let t : tie.Then2 Inv-loop μ-loop = search in
+    let f : First = search in
+    let x : Start = search in
+    let e = of-pass x .0 in
+    rw (o .one-group .ensures) (lone-fits (x .pre .0) (t .if2 .taken) (f .first .ensures) (omega (arith, x .pre .3)) (rw e at (x .pre .1 .inside)) (omega (arith, x .pre .1 .room)))
+
+returns-2 : tie.Need-returns-2 Inv-loop μ-loop
+returns-2 c =
+    let n : tie.After-gather-group Inv-loop μ-loop = search in
+    let o : tie.After-one-group Inv-loop μ-loop = search in
+    let t : tie.Then2 Inv-loop μ-loop = search in
+    let f : First = search in
+    let x : Start = search in
+    let e = of-pass x .0 in
+    filled-front (λ k d. ap (λ (z : ℕ). getD (x .args .buf .now) (posOn (x .args .l) z) 0) (lone-walk (x .pre .0) (t .if2 .taken) (of-pass x .1) (f .first .ensures) k (omega (arith, x .pre .3))))
+    (rw (o .one-group .ensures) at (n .gather-group .ensures))
+
 -- the source that the walk stands at, and its word
-low : (l : Loop) → let a = l .before .before .before .before .before .before .args in l .loop .p .group * a .s .b + l .loop .p .column < a .s .n
+low : (l : Loop) → let a = l .before .before .before .before .before .before .before .before .args in l .loop .p .group * a .s .b + l .loop .p .column < a .s .n
 low l = let x : Start = search in stands-inside (x .pre .0) (l .loop .inv .1)
 
-inside : (l : Loop) → let a = l .before .before .before .before .before .before .args in posOn (a .l) (l .loop .p .group * a .s .b + l .loop .p .column) < length (a .buf .now)
+inside : (l : Loop) → let a = l .before .before .before .before .before .before .before .before .args in posOn (a .l) (l .loop .p .group * a .s .b + l .loop .p .column) < length (a .buf .now)
 inside l = let x : Start = search in x .pre .1 .inside _ (omega (arith, of-pass x .0, low l))
 
 loop-holds : tie.Need-loop-holds Inv-loop μ-loop
-loop-holds c = (omega arith, c .first .ensures, filled-none _ _ _)
+loop-holds c = let f : First = search in (omega arith, f .first .ensures, filled-none _ _ _)
 
 loop-again : tie.Need-loop-again Inv-loop μ-loop
 loop-again c =
@@ -66,8 +89,8 @@ loop-again c =
       rw (← stands-source (x .pre .0) (l .loop .inv .1) h) (filled-more {count = x .args .until} (λ i j _ _ e. e) (omega arith) (omega (arith, x .pre .1 .room)) (l .loop .inv .2)),
     )
 
-returns-2 : tie.Need-returns-2 Inv-loop μ-loop
-returns-2 c =
+returns-3 : tie.Need-returns-3 Inv-loop μ-loop
+returns-3 c =
     let l : Loop = search in
     let x : Start = search in
     let e : l .loop .j ≡ x .args .until = omega arith in
@@ -85,6 +108,10 @@ gather-row-spec =
     (search needs)
     returns
     (λ c κs. let x : Start = search in (x .pre .0, of-pass x .1))
+    (λ c κs. search needs)
+    gather-group-requires
+    (search needs)
+    returns-2
     loop-holds
     (λ c. omega (arith, low (search)))
     (λ c. omega (arith, low (search)))
@@ -99,4 +126,4 @@ gather-row-spec =
     (search needs)
     loop-again
     (λ c. let l : Loop = search in l .loop .inv .2 .same)
-    returns-2)
+    returns-3)
