@@ -26,6 +26,10 @@ pub mod Stages
 pub mod Resumed
 -- the blocks of an adjacent swap, turned one after the other, are the swap
 pub mod Swaps
+-- how many stores a mapped turn makes at most
+pub mod Stores
+-- a run of budgets whose last is enough leaves the flat turn
+pub mod Restarted
 -- any two outcomes that the promise of a call allows coincide
 pub mod OneOutcome
 -- any two outcomes of a tick coincide

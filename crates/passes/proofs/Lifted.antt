@@ -12,7 +12,7 @@ use Rattle.flat.specs.Passes.{row1, column2, source2, row3}
 use Rattle.flat.proofs.Sides.{Sides}
 use Rattle.flat.proofs.Passes.{source-is}
 use Rattle.passes.specs.Lines.{Moved, LineMoved, posOn, paired, received, toPlace, fromPlace}
-use Rattle.passes.specs.ThroughScratch.{Filled, Lifted, Fits, Past}
+use Rattle.passes.specs.ThroughScratch.{OfPass, Filled, Lifted, Fits, Past}
 use Rattle.passes.specs.declared.line.Line.{Line}
 use Rattle.passes.proofs.Filled.{all-lifted}
 
@@ -65,30 +65,31 @@ moved-home m = record { same = sym (m .same); placed = λ k d. sym (m .placed k 
 lifted-past : {l : Line} {to from : ℕ → ℕ} {xs scratch held : List ℕ} → Lifted l to from xs scratch held → Past (l .count) scratch held
 lifted-past h = record { same = h .same; rest = h .rest }
 
+-- a line that has received its words has moved: in pass 2 the column that a word is sent to receives it
+pub received-moved : {m n : ℕ} (l : Line) → Sides m n → OfPass m n l → ((k : ℕ) → k < l .count → paired m n (l .pass) (l .index) k < l .count)
+    → {xs ys : List ℕ} → Moved (l .count) (posOn l) (λ k. k) (received m n (l .pass) (l .index)) xs ys → LineMoved m n l xs ys
+received-moved {m} {n} l d of-pass within {xs} {ys} h = ⊎-elim in-two in-others (eq-or-ne (l .pass) 2)
+  where
+    in-two : l .pass ≡ 2 → LineMoved m n l xs ys
+    in-two e =
+        let o = rw e at of-pass in
+        let i = l .index in
+        let h′ : Moved (l .count) (posOn l) (λ k. k) (source2 m n i) xs ys = rw e at h in
+        let w : (k : ℕ) → k < l .count → column2 m n i k < l .count = rw e at within in
+        rw e (record {
+          same = h′ .same;
+          placed = λ k a.
+              h′ .placed (column2 m n i k) (w k a)
+              ∙ ap (λ (z : ℕ). getD xs (posOn l z) 0) (source-is d i (column2 m n i k) k (subst (λ (z : ℕ). k < z) (o .0) a) refl);
+          others = h′ .others;
+        })
+
+    in-others : (l .pass ≡ 2 → ⊥) → LineMoved m n l xs ys
+    in-others e =
+        decided (λ (to from : ℕ → ℕ). Moved (l .count) (posOn l) to from xs ys) (paired m n (l .pass) (l .index)) (ne-eqb _ _ e)
+        (not-two m n l (λ (f g : ℕ → ℕ). Moved (l .count) (posOn l) (λ k. k) g xs ys → Moved (l .count) (posOn l) (λ k. k) f xs ys) e (λ f d. d) h)
+
 module _ {m n : ℕ} {l : Line} {xs scratch : List ℕ} (f : Fits m n l xs scratch) where
-  -- a line that has received its words has moved: in pass 2 the column that a word is sent to receives it
-  pub received-moved : Sides m n → {ys : List ℕ} → Moved (l .count) (posOn l) (λ k. k) (received m n (l .pass) (l .index)) xs ys → LineMoved m n l xs ys
-  received-moved d {ys} h = ⊎-elim in-two in-others (eq-or-ne (l .pass) 2)
-    where
-      in-two : l .pass ≡ 2 → LineMoved m n l xs ys
-      in-two e =
-          let o = rw e at (f .of-pass) in
-          let i = l .index in
-          let h′ : Moved (l .count) (posOn l) (λ k. k) (source2 m n i) xs ys = rw e at h in
-          let within : (k : ℕ) → k < l .count → column2 m n i k < l .count = rw e at (f .within) in
-          rw e (record {
-            same = h′ .same;
-            placed = λ k a.
-                h′ .placed (column2 m n i k) (within k a)
-                ∙ ap (λ (z : ℕ). getD xs (posOn l z) 0) (source-is d i (column2 m n i k) k (subst (λ (z : ℕ). k < z) (o .0) a) refl);
-            others = h′ .others;
-          })
-
-      in-others : (l .pass ≡ 2 → ⊥) → LineMoved m n l xs ys
-      in-others e =
-          decided (λ (to from : ℕ → ℕ). Moved (l .count) (posOn l) to from xs ys) (paired m n (l .pass) (l .index)) (ne-eqb _ _ e)
-          (not-two m n l (λ (f g : ℕ → ℕ). Moved (l .count) (posOn l) (λ k. k) g xs ys → Moved (l .count) (posOn l) (λ k. k) f xs ys) e (λ f d. d) h)
-
   -- a word that goes home comes from a place of the line
   from-within : (k : ℕ) → k < l .count → fromPlace m n l k < l .count
   from-within k h = go (eqb (l .pass) 2)
@@ -101,7 +102,7 @@ module _ {m n : ℕ} {l : Line} {xs scratch : List ℕ} (f : Fits m n l xs scrat
       → Filled (posOn l) (λ k. getD held k 0) (l .count) xs ys → LineMoved m n l xs ys × Past (l .count) scratch held
   moved-forth d {held} h r =
       let lifted : Lifted l (λ k. k) (received m n (l .pass) (l .index)) xs scratch held = all-lifted (λ j a. a) h refl in
-      (received-moved d (moved-through (λ k a. a) lifted r), lifted-past lifted)
+      (received-moved l d (f .of-pass) (f .within) (moved-through (λ k a. a) lifted r), lifted-past lifted)
 
   pub moved-back : {held ys : List ℕ}
       → Lifted l (fromPlace m n l) (toPlace m n l) xs scratch held → Filled (posOn l) (λ k. getD held k 0) (l .count) xs ys

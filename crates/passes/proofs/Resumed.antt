@@ -3,8 +3,11 @@
 use mathlib.Core.Path.{_≡_, refl, sym, _∙_}
 use mathlib.Core.Bool.{cond}
 use mathlib.Core.List.{List, [], _∷_}
+use mathlib.Core.Logic.{⊎-elim}
 use Prim.Native.Nat.{ℕ, _+_, _*_, _<_, _≤_}
+use native.Mathlib.Omega.{arith}
 use borrow.Author.Tests.{lt-ltb, le-ltb}
+use Rattle.lists.proofs.Decide.{lt-or-ge}
 use Rattle.refusals.specs.FirstOf.{check, firstOf}
 use Rattle.refusals.specs.Calls.{passesChecks}
 use Rattle.refusals.proofs.FirstOf.{refused-by, passed-first, accepted-so-far}
@@ -40,6 +43,14 @@ module _ (m n : ℕ) (x : Memory) where
 
     pub in-range : x .progress ≤ lineCount m n * 2 + 1 → firstOf (resumeChecks m n x) ≡ 0
     in-range h = decided ∙ rw (le-ltb (lineCount m n * 2 + 1) (x .progress) h)
+
+  -- an accepted call has passed 23
+  pub within-range : firstOf (resumeChecks m n x) ≡ 0 → x .progress ≤ lineCount m n * 2 + 1
+  within-range e =
+      ⊎-elim
+      (λ (h : lineCount m n * 2 + 1 < x .progress). absurd (omega (arith, e, past-end (flat-passed e) h)))
+      (λ (h : x .progress ≤ lineCount m n * 2 + 1). h)
+      (lt-or-ge (lineCount m n * 2 + 1) (x .progress))
 
 -- in the sides as they are grouped: how many stages there are, that the turn can go on, and that it has gone on
 module _ {m n : ℕ} {s : GroupedSides} (is : (s .m ≡ m) × (s .n ≡ n) × Grouped s) where

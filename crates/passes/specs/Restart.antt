@@ -7,8 +7,8 @@ use Prim.Native.Nat.{ℕ, _+_, _*_}
 use lib.Dec.{ltb}
 use Rattle.refusals.specs.FirstOf.{Check, check, firstOf}
 use Rattle.refusals.specs.Calls.{passesChecks}
-use Rattle.refusals.specs.Scratch.{need}
-use Rattle.flat.specs.Turn.{sides}
+use Rattle.refusals.specs.Scratch.{need, cleared}
+use Rattle.flat.specs.Turn.{sides, Turn}
 use Rattle.stages.specs.Stages.{Memory, Stages, call}
 use Rattle.stages.specs.Lines.{Lines, stagesOf}
 use Rattle.passes.specs.Lines.{lineCount, lineOf, posOn, received}
@@ -46,6 +46,12 @@ pub record ResumePromise (m n budget : ℕ) (before : Memory) (number : ℕ) (af
   pub number-is : number ≡ firstOf (resumeChecks m n before)
   pub stored : number ≡ 0 → after ≡ call (turnStages m n) budget before
   pub kept : (number ≡ 0 → ⊥) → after ≡ before
+
+-- the turn is finished: the block is the flat turn of what it was, scratch has its zeros, and every stage is counted
+pub record Finished (m n : ℕ) (buffer scratch : List ℕ) (after : Memory) : Type 0 where
+  pub turned : Turn m n buffer (after .buffer)
+  pub zeroed : after .scratch ≡ cleared (need (sides m n)) scratch
+  pub counted : after .progress ≡ lineCount m n * 2 + 1
 
 -- calls one after the other, with these budgets, each starting from what the one before left
 pub data Restarts (m n : ℕ) : List ℕ → Memory → Memory → Type 0 where
