@@ -3,7 +3,7 @@ use mathlib.Core.Path.{_≡_, sym, ap, _∙_, subst}
 use mathlib.Core.List.{List}
 use Prim.Native.Nat.{ℕ, _+_, _*_, _-_, _/_, _%_, _<_, _≤_}
 use native.Mathlib.Omega.{arith}
-use native.Mathlib.Nat.{mod-lt, mod-eq-of-lt, add-zero, mul-le-mul, le-mul-of-pos-right, div-eq-of-lt, div-eq-of-lt-le, div-add-mod', div-le-self}
+use native.Mathlib.Nat.{mod-lt, mod-eq-of-lt, add-zero, mul-one, mul-le-mul, le-mul-of-pos-right, div-eq-of-lt, div-eq-of-lt-le, div-add-mod', div-le-self}
 use lib.ListN.{length}
 use Rattle.numbers.specs.Gcd.{gcdOf}
 use Rattle.flat.specs.Passes.{columnGroup, source2}
@@ -45,6 +45,20 @@ module _ {s : GroupedSides} (g : Grouped s) where
       let r = mod-lt (i + (s .c - 1)) (f .1) in
       let le = div-le-self (i + (s .c - 1)) (s .c) in
       let many : (s .n - 1) * k ≤ 33554432 = mul-le-mul {n₂ = 4096} {m₂ = 8192} (omega arith) (omega arith) in
+      record {
+        low = omega arith;
+        high = omega arith;
+        once = omega arith;
+        many = many;
+        product = mul-le-mul {n₂ = 4096} {m₂ = 33554432} (omega arith) many;
+      }
+
+  -- with one group the first multiple from i on is i
+  pub lone-start : {i : ℕ} → s .c ≡ 1 → i < s .m → Start s i i
+  lone-start {i} e h =
+      let f = few in
+      let one : i * s .c ≡ i = ap (λ (z : ℕ). i * z) e ∙ mul-one i in
+      let many : (s .n - 1) * i ≤ 33554432 = mul-le-mul {n₂ = 4096} {m₂ = 8192} (omega arith) (omega arith) in
       record {
         low = omega arith;
         high = omega arith;
@@ -97,23 +111,27 @@ module _ {s : GroupedSides} (g : Grouped s) where
     step-group hi h d = next-group sides hi (rw (g .c-is) at h) d w
 
   -- one group: a walk by the inverse
-  lone-low : {i : ℕ} {p : Source} → s .c ≡ 1 → StandsAt s i 0 p → p .column < s .n
-  lone-low {p = p} e w = omega (arith, stands-inside w, stands-low w .group)
+  module _ (e : s .c ≡ 1) {i : ℕ} (h : i < s .m) where
+    pub lone-first : let q = s .inverse * ((s .n - 1) * i) % s .b in At (s .m) (s .n) i 0 0 q q
+    lone-first =
+        let one : i * s .c ≡ i = ap (λ (z : ℕ). i * z) e ∙ mul-one i in
+        let none : i * s .c - i ≡ 0 = omega arith in
+        let q = s .inverse * ((s .n - 1) * i) % s .b in
+        subst (λ (z : ℕ). At (s .m) (s .n) i 0 z q q) none (first-short i i (lone-start e h) (omega arith))
 
-  pub lone-fits : {i : ℕ} {p : Source} {l : Line} {until : ℕ} {xs scratch : List ℕ} → s .c ≡ 1 → StandsAt s i 0 p → until ≤ s .n → Inside l (s .n) xs
-      → s .n ≤ length scratch → GroupFits l (alone (p .column) (s .inverse) (s .n)) 0 (p .column) until xs scratch
-  lone-fits e w h inside room = record {
-    low = lone-low e w;
-    short = omega (arith, few, g .b-is, groups-le (s .m) (s .n) (g .m-pos) (g .n-pos));
-    on-line = omega arith;
-    inside = inside;
-    room = room;
-  }
+    module _ {q : ℕ} (w : At (s .m) (s .n) i 0 0 q q) where
+      pub lone-fits : {l : Line} {until : ℕ} {xs scratch : List ℕ} → until ≤ s .n → Inside l (s .n) xs → s .n ≤ length scratch
+          → GroupFits l (alone q (s .inverse) (s .n)) 0 q until xs scratch
+      lone-fits d inside room = record {
+        low = omega (arith, w .lap, groups-le (s .m) (s .n) (g .m-pos) (g .n-pos));
+        short = omega (arith, few, g .b-is, groups-le (s .m) (s .n) (g .m-pos) (g .n-pos));
+        on-line = omega arith;
+        inside = inside;
+        room = room;
+      }
 
-  pub lone-walk : {i : ℕ} {p : Source} → s .c ≡ 1 → i < s .m → StandsAt s i 0 p → (j : ℕ) → j < s .n → source2 (s .m) (s .n) i j ≡ walk (p .column) (s .inverse) (s .n) j
-  lone-walk {i} {p} e h w =
-      let none : p .group ≡ 0 = omega (arith, stands-low w .group) in
-      source-lone sides (g .inverse-is) (sym (g .c-is) ∙ e) h (subst (λ (z : ℕ). At (s .m) (s .n) i 0 z (p .lap) (p .column)) none w)
+      pub lone-walk : (j : ℕ) → j < s .n → source2 (s .m) (s .n) i j ≡ walk q (s .inverse) (s .n) j
+      lone-walk = source-lone sides (g .inverse-is) (sym (g .c-is) ∙ e) h w
 
   -- groups of one column: two runs
   module _ (e : s .b ≡ 1) where

@@ -117,14 +117,15 @@ fn gather_row(buf: &[u32], scratch: &mut [u32], s: GroupedSides, l: Line, until:
         copy_runs(buf, scratch, l, s.n - turned, turned, until);
         return;
     }
-    let mut p = source::first(s, i);
     if s.c == 1 {
-        let w = walk::one_group(p.column, s.inverse, s.n);
-        gather_group(buf, scratch, l, w, 0, p.column, until);
+        let place = source::lone(s, i);
+        let w = walk::one_group(place, s.inverse, s.n);
+        gather_group(buf, scratch, l, w, 0, place, until);
         return;
     }
     let start = l.start;
     let stride = l.stride;
+    let mut p = source::first(s, i);
     for j in 0..until {
         scratch[j] = buf[start + stride * (p.group * s.b + p.column)];
         p = source::next(s, i, p);

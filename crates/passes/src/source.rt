@@ -1,7 +1,9 @@
 // Sources: the columns that pass 2 sends to the places of a row, in rising place, with no division for a word.
 use crate::line::GroupedSides;
 use crate::walk;
+ghost use mathlib.Core.Path.{_≡_};
 ghost use Prim.Native.Nat.{ℕ, _+_, _<_};
+ghost use Rattle.walks.specs.Source.{At};
 ghost use Rattle.passes.specs.ThroughScratch.{Grouped, StandsAt, Low};
 
 // Where a walk over the sources of a row stands: at column `column` of group `group`; `lap` is that column where the row's number
@@ -10,6 +12,14 @@ pub(crate) struct Source {
     pub group: usize,
     pub lap: usize,
     pub column: usize,
+}
+
+// The source of place 0 of row i where there is one group.
+pub(crate) fn lone(s: GroupedSides, i: usize) -> usize
+    requires { ⌜ Grouped s × (i < s .m) × (s .c ≡ 1) ⌝ }
+    ensures { λ r. ⌜ At (s .m) (s .n) i 0 0 r r ⌝ }
+{
+    s.inverse * ((s.n - 1) * i) % s.b
 }
 
 // The source of place 0 of row i.

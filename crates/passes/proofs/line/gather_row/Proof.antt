@@ -14,11 +14,11 @@ use Rattle.passes.proofs.line.gather_row.Statement.{statement}
 use Rattle.passes.proofs.line.gather_row.Tie as tie
 
 abbrev Inv-loop : tie.InvT-loop
-Inv-loop buf scratch₀ s until i p₀ start stride j₀ scratch p j =
+Inv-loop buf scratch₀ s until i start stride p₀ j₀ scratch p j =
     (j ≤ until) × StandsAt s i j p × Filled (λ k. k) (λ k. getD buf (start + stride * source2 (s .m) (s .n) i k) 0) j scratch₀ scratch
 
 abbrev μ-loop : tie.MeasureT-loop
-μ-loop buf scratch₀ s until i p₀ start stride j₀ scratch p j = until - j
+μ-loop buf scratch₀ s until i start stride p₀ j₀ scratch p j = until - j
 
 -- the places that the answers look back to
 abbrev Start : Type 0
@@ -46,27 +46,24 @@ returns c =
     let i = x .args .l .index in
     r .copy-runs .ensures .1 (source2 (s .m) (s .n) i) (runs-before (x .pre .0) (search) i) (runs-from (x .pre .0) (search) i)
 
-abbrev First : Type 0
-First = tie.After-first Inv-loop μ-loop
-
 gather-group-requires : tie.Need-gather-group-requires Inv-loop μ-loop
 gather-group-requires c κs =
     let o : tie.After-one-group Inv-loop μ-loop = search in
+    let f : tie.After-lone Inv-loop μ-loop = search in
     let t : tie.Then2 Inv-loop μ-loop = search in
-    let f : First = search in
     let x : Start = search in
     let e = of-pass x .0 in
-    rw (o .one-group .ensures) (lone-fits (x .pre .0) (t .if2 .taken) (f .first .ensures) (omega (arith, x .pre .3)) (rw e at (x .pre .1 .inside)) (omega (arith, x .pre .1 .room)))
+    rw (o .one-group .ensures) (lone-fits (x .pre .0) (t .if2 .taken) (of-pass x .1) (f .lone .ensures) (omega (arith, x .pre .3)) (rw e at (x .pre .1 .inside)) (omega (arith, x .pre .1 .room)))
 
 returns-2 : tie.Need-returns-2 Inv-loop μ-loop
 returns-2 c =
     let n : tie.After-gather-group Inv-loop μ-loop = search in
     let o : tie.After-one-group Inv-loop μ-loop = search in
+    let f : tie.After-lone Inv-loop μ-loop = search in
     let t : tie.Then2 Inv-loop μ-loop = search in
-    let f : First = search in
     let x : Start = search in
     let e = of-pass x .0 in
-    filled-front (λ k d. ap (λ (z : ℕ). getD (x .args .buf .now) (posOn (x .args .l) z) 0) (lone-walk (x .pre .0) (t .if2 .taken) (of-pass x .1) (f .first .ensures) k (omega (arith, x .pre .3))))
+    filled-front (λ k d. ap (λ (z : ℕ). getD (x .args .buf .now) (posOn (x .args .l) z) 0) (lone-walk (x .pre .0) (t .if2 .taken) (of-pass x .1) (f .lone .ensures) k (omega (arith, x .pre .3))))
     (rw (o .one-group .ensures) at (n .gather-group .ensures))
 
 -- the source that the walk stands at, and its word
@@ -77,7 +74,7 @@ inside : (l : Loop) → let a = l .before .before .before .before .before .befor
 inside l = let x : Start = search in x .pre .1 .inside _ (omega (arith, of-pass x .0, low l))
 
 loop-holds : tie.Need-loop-holds Inv-loop μ-loop
-loop-holds c = let f : First = search in (omega arith, f .first .ensures, filled-none _ _ _)
+loop-holds c = let f : tie.After-first Inv-loop μ-loop = search in (omega arith, f .first .ensures, filled-none _ _ _)
 
 loop-again : tie.Need-loop-again Inv-loop μ-loop
 loop-again c =
@@ -107,11 +104,12 @@ gather-row-spec =
     copy-runs-requires
     (search needs)
     returns
-    (λ c κs. let x : Start = search in (x .pre .0, of-pass x .1))
+    (λ c κs. let t : tie.Then2 Inv-loop μ-loop = search in let x : Start = search in (x .pre .0, of-pass x .1, t .if2 .taken))
     (λ c κs. search needs)
     gather-group-requires
     (search needs)
     returns-2
+    (λ c κs. let x : Start = search in (x .pre .0, of-pass x .1))
     loop-holds
     (λ c. omega (arith, low (search)))
     (λ c. omega (arith, low (search)))
