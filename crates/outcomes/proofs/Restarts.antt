@@ -21,9 +21,9 @@ parts e = (ap (λ (x : Memory). x .buffer) e, ap (λ (x : Memory). x .scratch) e
 pub resume-once : (κs : Lfts 3) (a : Dens κs resume-kinds.ps) (r r′ : ℕ) (s s′ : AtExit (endedOf 3 resume-kinds.ps resume-kinds.r) κs)
     → resume.Post κs a r s → resume.Post κs a r′ s′
     → (r ≡ r′) × (s .0 .now ≡ s′ .0 .now) × (s .1 .0 .now ≡ s′ .1 .0 .now) × (s .1 .1 .0 .now ≡ s′ .1 .1 .0 .now)
-resume-once κs a r r′ s s′ p q = let one = passes.resume-once p q in (one .0, parts (one .1))
+resume-once κs a r r′ s s′ p q = let one = passes.resume-once p q in let same = parts (one .1) in (one .0, same .0, same .1, same .2)
 
 pub zib-resume-once : (κs : Lfts 3) (a : Dens κs zib-kinds.ps) (r r′ : ℕ) (s s′ : AtExit (endedOf 3 zib-kinds.ps zib-kinds.r) κs)
     → zib.Post κs a r s → zib.Post κs a r′ s′
     → (r ≡ r′) × (s .0 .now ≡ s′ .0 .now) × (s .1 .0 .now ≡ s′ .1 .0 .now) × (s .1 .1 .0 .now ≡ s′ .1 .1 .0 .now)
-zib-resume-once κs a r r′ s s′ p q = let one = passes.resume-once p q in (one .0, parts (one .1))
+zib-resume-once κs a r r′ s s′ p q = let one = passes.resume-once p q in let same = parts (one .1) in (one .0, same .0, same .1, same .2)
