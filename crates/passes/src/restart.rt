@@ -44,7 +44,7 @@ fn store(buf: &mut [u32], scratch: &mut [u32], s: GroupedSides, p: usize, until:
     }
     let line = turning::line_of(s, 0, 1, p / 2);
     if p % 2 == 0 {
-        line::lift(buf, scratch, s, line, until);
+        line::lift(buf, scratch, s, line, until, true);
         return;
     }
     line::put_back(buf, scratch, line, until);
