@@ -3,7 +3,7 @@ use mathlib.Core.Path.{_≡_, sym, ap, _∙_, subst}
 use mathlib.Core.List.{List}
 use Prim.Native.Nat.{ℕ, _+_, _*_, _-_, _/_, _%_, _<_, _≤_}
 use native.Mathlib.Omega.{arith}
-use native.Mathlib.Nat.{mod-lt, mod-eq-of-lt, add-zero, mul-one, mul-le-mul, le-mul-of-pos-right, div-eq-of-lt, div-eq-of-lt-le, div-add-mod', div-le-self}
+use native.Mathlib.Nat.{mod-lt, mod-eq-of-lt, add-zero, mul-one, zero-mul, one-mul, add-mul, mul-le-mul, le-mul-of-pos-right, div-eq-of-lt, div-eq-of-lt-le, div-add-mod', div-le-self}
 use lib.ListN.{length}
 use Rattle.numbers.specs.Gcd.{gcdOf}
 use Rattle.flat.specs.Passes.{columnGroup, source2}
@@ -85,30 +85,32 @@ module _ {s : GroupedSides} (g : Grouped s) where
         subst (λ (z : ℕ). At (s .m) (s .n) i 0 (k * s .c - i) q z) (ap (λ (z : ℕ). (q + z) % s .b) one) first-at
 
   module _ {i j : ℕ} {p : Source} (w : StandsAt s i j p) where
+    -- what it reads
+    pub stands-inside : p .place < s .n
+    stands-inside = rw (w .1, g .b-is) (column-lt sides (w .0))
+
+    pub stands-source : j < s .n → source2 (s .m) (s .n) i j ≡ p .place
+    stands-source h = rw (w .1, g .b-is) (source-at sides h (w .0))
+
     -- its numbers are in range
     pub stands-low : Low s p
     stands-low = record {
-      group = rw (g .c-is) (w .group);
-      lap = rw (g .b-is) (w .lap);
-      column = rw (g .b-is, w .column) (mod-lt (p .lap + (i + p .group) / s .m) (sides .b-pos));
+      group = rw (g .c-is) (w .0 .group);
+      lap = rw (g .b-is) (w .0 .lap);
+      column = rw (g .b-is, w .0 .column) (mod-lt (p .lap + (i + p .group) / s .m) (sides .b-pos));
+      place = stands-inside;
     }
 
-    -- what it reads
-    pub stands-inside : p .group * s .b + p .column < s .n
-    stands-inside = rw (g .b-is) (column-lt sides w)
-
-    pub stands-source : j < s .n → source2 (s .m) (s .n) i j ≡ p .group * s .b + p .column
-    stands-source h = rw (g .b-is) (source-at sides h w)
-
     -- its steps
-    pub step-round : i < s .m → p .group + 1 ≡ s .c → let q = (p .lap + s .inverse) % s .b in At (s .m) (s .n) i (j + 1) 0 q q
-    step-round h e = rw (g .b-is) (next-round sides (g .inverse-is) h (e ∙ g .c-is) w)
+    pub step-round : i < s .m → p .group + 1 ≡ s .c → let q = (p .lap + s .inverse) % s .b in At (s .m) (s .n) i (j + 1) 0 q q × (q ≡ 0 * s .b + q)
+    step-round h e = let q = (p .lap + s .inverse) % s .b in (rw (g .b-is) (next-round sides (g .inverse-is) h (e ∙ g .c-is) (w .0)), omega (arith, zero-mul (s .b)))
 
     pub step-lap : p .group + 1 < s .c → i + (p .group + 1) ≡ s .m → At (s .m) (s .n) i (j + 1) (p .group + 1) (p .lap) ((p .column + 1) % s .b)
-    step-lap h e = rw (g .b-is) (next-lap sides (rw (g .c-is) at h) e w)
+    step-lap h e = rw (g .b-is) (next-lap sides (rw (g .c-is) at h) e (w .0))
 
-    pub step-group : i < s .m → p .group + 1 < s .c → (i + (p .group + 1) ≡ s .m → ⊥) → At (s .m) (s .n) i (j + 1) (p .group + 1) (p .lap) (p .column)
-    step-group hi h d = next-group sides hi (rw (g .c-is) at h) d w
+    pub step-group : i < s .m → p .group + 1 < s .c → (i + (p .group + 1) ≡ s .m → ⊥)
+        → At (s .m) (s .n) i (j + 1) (p .group + 1) (p .lap) (p .column) × (p .place + s .b ≡ (p .group + 1) * s .b + p .column)
+    step-group hi h d = (next-group sides hi (rw (g .c-is) at h) d (w .0), omega (arith, w .1, add-mul (p .group) 1 (s .b), one-mul (s .b)))
 
   -- one group: a walk by the inverse
   module _ (e : s .c ≡ 1) {i : ℕ} (h : i < s .m) where

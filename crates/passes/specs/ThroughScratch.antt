@@ -41,13 +41,14 @@ pub record Grouped (s : GroupedSides) : Type 0 where
 
 -- the walk over the sources of row i stands at place j
 abbrev pub StandsAt : GroupedSides → ℕ → ℕ → Source → Type 0
-StandsAt s i j p = At (s .m) (s .n) i j (p .group) (p .lap) (p .column)
+StandsAt s i j p = At (s .m) (s .n) i j (p .group) (p .lap) (p .column) × (p .place ≡ p .group * s .b + p .column)
 
 -- its numbers are in range
 pub record Low (s : GroupedSides) (p : Source) : Type 0 where
   pub group : p .group < s .c
   pub lap : p .lap < s .b
   pub column : p .column < s .b
+  pub place : p .place < s .n
 
 -- where group g of a walk starts
 abbrev pub startOf : Walk → ℕ → ℕ

@@ -129,7 +129,7 @@ fn gather_row(buf: &[u32], scratch: &mut [u32], s: GroupedSides, l: Line, until:
     let stride = l.stride;
     let mut p = source::first(s, i);
     for j in 0..until {
-        scratch[j] = buf[start + stride * (p.group * s.b + p.column)];
+        scratch[j] = buf[start + stride * p.place];
         p = source::next(s, i, p);
     }
 }

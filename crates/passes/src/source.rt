@@ -6,12 +6,13 @@ ghost use Prim.Native.Nat.{ℕ, _+_, _<_};
 ghost use Rattle.walks.specs.Source.{At};
 ghost use Rattle.passes.specs.ThroughScratch.{Grouped, StandsAt, Low};
 
-// Where a walk over the sources of a row stands: at column `column` of group `group`; `lap` is that column where the row's number
-// and the group's do not pass m.
+// Where a walk over the sources of a row stands: at column `column` of group `group`, which is place `place` of the row; `lap` is that column
+// where the row's number and the group's do not pass m.
 pub(crate) struct Source {
     pub group: usize,
     pub lap: usize,
     pub column: usize,
+    pub place: usize,
 }
 
 // The source of place 0 of row i where there is one group.
@@ -30,17 +31,21 @@ pub(crate) fn first(s: GroupedSides, i: usize) -> Source
     let k = (i + (s.c - 1)) / s.c;
     let u = k * s.c;
     let lap = s.inverse * ((s.n - 1) * k) % s.b;
+    let group = u - i;
     if u < s.m {
         return Source {
-            group: u - i,
+            group,
             lap,
             column: lap,
+            place: group * s.b + lap,
         };
     }
+    let column = walk::step_on(lap, 1, s.b);
     Source {
-        group: u - i,
+        group,
         lap,
-        column: walk::step_on(lap, 1, s.b),
+        column,
+        place: group * s.b + column,
     }
 }
 
@@ -56,18 +61,22 @@ pub(crate) fn next(s: GroupedSides, i: usize, p: Source) -> Source
             group: 0,
             lap,
             column: lap,
+            place: lap,
         };
     }
     if i + group == s.m {
+        let column = walk::step_on(p.column, 1, s.b);
         return Source {
             group,
             lap: p.lap,
-            column: walk::step_on(p.column, 1, s.b),
+            column,
+            place: group * s.b + column,
         };
     }
     Source {
         group,
         lap: p.lap,
         column: p.column,
+        place: p.place + s.b,
     }
 }

@@ -66,12 +66,9 @@ returns-2 c =
     filled-front (λ k d. ap (λ (z : ℕ). getD (x .args .buf .now) (posOn (x .args .l) z) 0) (lone-walk (x .pre .0) (t .if2 .taken) (of-pass x .1) (f .lone .ensures) k (omega (arith, x .pre .3))))
     (rw (o .one-group .ensures) at (n .gather-group .ensures))
 
--- the source that the walk stands at, and its word
-low : (l : Loop) → let a = l .before .before .before .before .before .before .before .before .args in l .loop .p .group * a .s .b + l .loop .p .column < a .s .n
-low l = let x : Start = search in stands-inside (x .pre .0) (l .loop .inv .1)
-
-inside : (l : Loop) → let a = l .before .before .before .before .before .before .before .before .args in posOn (a .l) (l .loop .p .group * a .s .b + l .loop .p .column) < length (a .buf .now)
-inside l = let x : Start = search in x .pre .1 .inside _ (omega (arith, of-pass x .0, low l))
+-- the word of the source that the walk stands at
+inside : (l : Loop) → let a = l .before .before .before .before .before .before .before .before .args in posOn (a .l) (l .loop .p .place) < length (a .buf .now)
+inside l = let x : Start = search in x .pre .1 .inside _ (omega (arith, of-pass x .0, stands-inside (x .pre .0) (l .loop .inv .1)))
 
 loop-holds : tie.Need-loop-holds Inv-loop μ-loop
 loop-holds c = let f : tie.After-first Inv-loop μ-loop = search in (omega arith, f .first .ensures, filled-none _ _ _)
@@ -111,8 +108,6 @@ gather-row-spec =
     returns-2
     (λ c κs. let x : Start = search in (x .pre .0, of-pass x .1))
     loop-holds
-    (λ c. omega (arith, low (search)))
-    (λ c. omega (arith, low (search)))
     (λ c. omega (arith, inside (search)))
     (λ c. omega (arith, inside (search)))
     (λ c. omega (arith, inside (search)))
