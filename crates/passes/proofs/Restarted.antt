@@ -16,10 +16,12 @@ use Rattle.flat.proofs.Turn.{one-turn}
 use Rattle.flat.proofs.Sides.{Sides, sides-are}
 use Rattle.stages.specs.Stages.{Memory, after, remaining, call, finish, run}
 use Rattle.stages.specs.Lines.{stagesOf}
+use Rattle.stages.specs.Stops.{Stops}
 use Rattle.stages.proofs.Stores.{after-long}
 use Rattle.stages.proofs.Calls.{call-done, call-enough, finish-counts}
 use Rattle.stages.proofs.Lines.{steady}
 use Rattle.stages.proofs.Restart.{call-within, still-enough, restart}
+use Rattle.stages.proofs.Stops.{loose, stops-resumed, stops-within, stops-long}
 use Rattle.stages.proofs.Moves as moves
 use Rattle.passes.specs.Lines.{Moved, lineCount, lineOf, lineAt, skipped, posOn, received, LineMoved}
 use Rattle.passes.specs.ThroughScratch.{Fits}
@@ -46,6 +48,14 @@ enough m n x e =
     let a = flat-accepted m n (x .buffer) (x .scratch) (flat-passed m n x e) in
     omega (arith, at-most m n (skipped-few m n (a .m-pos) (a .n-pos)) (a .m-few) (a .n-few) (a .few) x)
 
+-- the checks read lengths
+same-lengths : (m n : ℕ) (x y : Memory) → length (y .buffer) ≡ length (x .buffer) → length (y .scratch) ≡ length (x .scratch)
+    → firstOf (passesChecks (sides m n) (x .buffer) (x .scratch)) ≡ 0 → firstOf (passesChecks (sides m n) (y .buffer) (y .scratch)) ≡ 0
+same-lengths m n x y e f good =
+    let a = flat-accepted m n (x .buffer) (x .scratch) good in
+    let block : firstOf (blockChecks (sides m n) (y .buffer)) ≡ 0 = rw e (block-good (sides m n) (x .buffer) (x .scratch) good) in
+    sym (room-passed (sides m n) (y .buffer) (y .scratch) block (rw f (a .room)))
+
 module _ {m n : ℕ} where
   good-accepted : {x : Memory} → Good m n x → firstOf (resumeChecks m n x) ≡ 0
   good-accepted {x} g = in-range m n x (g .flat) (g .few)
@@ -53,16 +63,13 @@ module _ {m n : ℕ} where
   accepted-good : (x : Memory) → firstOf (resumeChecks m n x) ≡ 0 → Good m n x
   accepted-good x e = record { flat = flat-passed m n x e; few = within-range m n x e }
 
-  -- the checks read lengths, and stores change none
+  -- stores change no length
   good-call : (b : ℕ) {x : Memory} → Good m n x → Good m n (call (turnStages m n) b x)
   unfolding stagesOf
   good-call b {x} g =
       let long = after-long (take b (remaining (turnStages m n) x)) x in
-      let a = flat-accepted m n (x .buffer) (x .scratch) (g .flat) in
-      let y = call (turnStages m n) b x in
-      let block : firstOf (blockChecks (sides m n) (y .buffer)) ≡ 0 = rw (long .0) (block-good (sides m n) (x .buffer) (x .scratch) (g .flat)) in
       record {
-        flat = sym (room-passed (sides m n) (y .buffer) (y .scratch) block (rw (long .1) (a .room)));
+        flat = same-lengths m n x (call (turnStages m n) b x) (long .0) (long .1) (g .flat);
         few = call-within (steady (turnLines m n)) x b (g .few);
       }
 
@@ -128,6 +135,20 @@ module _ {m n : ℕ} where
       let h : length (remaining (turnStages m n) (run (turnStages m n) bs (memory b₀ sc₀ 0))) ≤ b = rw (i .0) at enough in
       let e : y ≡ finish (turnStages m n) (memory b₀ sc₀ 0) =
       p .stored z ∙ ap (call (turnStages m n) b) (i .0) ∙ restart (steady (turnLines m n)) bs b (memory b₀ sc₀ 0) h in
+      (z, e, subst (Finished m n b₀ sc₀) (sym e) (uncut (flat-accepted m n b₀ sc₀ good)))
+
+  -- the same where the stops kept no order within a stage, as a machine may
+  pub restarted-from : {b r : ℕ} {b₀ sc₀ : List ℕ} {x y : Memory} → firstOf (passesChecks (sides m n) b₀ sc₀) ≡ 0
+      → Stops (turnStages m n) (memory b₀ sc₀ 0) x → ResumePromise m n b x r y → 10000000 ≤ b
+      → (r ≡ 0) × (y ≡ finish (turnStages m n) (memory b₀ sc₀ 0)) × Finished m n b₀ sc₀ y
+  unfolding stagesOf
+  restarted-from {b} {r} {b₀} {sc₀} {x} {y} good stops p h =
+      let long = stops-long stops in
+      let flat = same-lengths m n (memory b₀ sc₀ 0) x (long .0) (long .1) good in
+      let few : x .progress ≤ lineCount m n * 2 + 1 = stops-within (loose (turnLines m n)) stops (omega arith) in
+      let z : r ≡ 0 = p .number-is ∙ in-range m n x flat few in
+      let e : y ≡ finish (turnStages m n) (memory b₀ sc₀ 0) =
+      p .stored z ∙ call-enough (turnStages m n) b x (omega (arith, enough m n x (in-range m n x flat few))) ∙ stops-resumed (loose (turnLines m n)) stops .ends in
       (z, e, subst (Finished m n b₀ sc₀) (sym e) (uncut (flat-accepted m n b₀ sc₀ good)))
 
   -- which are the words that the flat turn leaves, in the buffer and in scratch

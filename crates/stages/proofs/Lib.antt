@@ -10,6 +10,8 @@ pub mod Filled
 pub mod Lines
 -- the stages of lines, uncut: every line has moved, and scratch is cleared
 pub mod Moves
+-- stops that keep no order within a stage are made good too
+pub mod Stops
 -- how many stores are enough where stages come in blocks of one size
 pub mod Blocks
 -- one line of two words that change places, stopped at each kind of store

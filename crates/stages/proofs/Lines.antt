@@ -22,7 +22,7 @@ pub cut-buffer : (n j : ℕ) (p v : ℕ → ℕ) (m : Memory)
 cut-buffer n j p v m = rw (cut-each n j (λ k. toBuffer (p k) (v k))) (into-buffer (min j n) p v m)
 
 -- what a stage stores, its tests decided
-abbrev picked : Lines → Bool → Bool → ℕ → Memory → List Store
+abbrev pub picked : Lines → Bool → Bool → ℕ → Memory → List Store
 picked l a b t m = cond a (cond b (lifting l t m) (returning l t m)) (clearing l)
 
 module _ (l : Lines) where
