@@ -5,7 +5,8 @@
  * sees to three things that no call can test:
  *   - each pointer is aligned, not null (also where the length beside it is 0: any aligned address will do), and leads to as many
  *     elements as that length says;
- *   - buffer and scratch of one call do not overlap, nor does a part that is only read overlap one that is written;
+ *   - buffer and scratch of one call do not overlap, nor does a record or word that is lent lie in one of them, nor does a part that is only read
+ *     overlap one that is written;
  *   - nobody else writes to them during the call.
  * Everything else is tested. A refused call says why by its number and leaves all buffers unchanged.
  * No call allocates, keeps a pointer, or reads or writes anything besides what it is lent. The archive asks for memcpy and memset and
@@ -22,7 +23,7 @@
 #include <stdint.h>
 
 /* Raised where a call or a record changes. */
-#define ZIB_VERSION "1.0"
+#define ZIB_VERSION "1.1"
 
 #ifdef __cplusplus
 extern "C" {
@@ -52,6 +53,7 @@ enum {
     ZIB_NONE_COMMON = 20,   /* no frame is common to all cameras */
     ZIB_BAD_TICKS = 21,     /* ticks per frame outside 1 to 1,000,000 */
     ZIB_OTHER_CYCLES = 22,  /* the list of cycles is not the right one; place is that of the first pair that differs, from 0 */
+    ZIB_PAST_STAGES = 23,   /* the progress word is above twice the line count plus one */
     ZIB_SHORT_BYTES = 24,   /* the byte buffer is shorter than the result sheet */
     ZIB_OTHER_COLUMN = 25,  /* the column's length isn't the frame count */
     ZIB_BAD_RUN = 26        /* a run isn't four readings (offset and delay), or no multiple of four (choosing) */
@@ -102,6 +104,20 @@ struct zib_line_record {
  */
 uint32_t zib_tick(uint32_t *buffer, size_t buffer_words, uint32_t *scratch, size_t scratch_words, struct zib_line_record *lines,
                   size_t m, size_t n);
+
+/*
+ * The turn of zib_turn in a mapped file, with its scratch and one progress word, where a process may be killed after any store. The progress
+ * word counts the stages done: for each line of zib_lines two, its finished words into scratch and from there back, then the clearing of max(m, n)
+ * words. A stage's stores are its words in rising place, then the progress word. The call goes on from the stage that the progress word
+ * names and makes `budget` stores, or all that remain; with 10,000,000 it always finishes. 0 is then answered, also where it was stopped
+ * by the budget, which leaves scratch as the stores left it; the progress word tells: at twice the line count plus one the turn is done, and a call
+ * stores nothing. Set to 0 at the first start, with the same m and n at each restart and nobody else writing to the three, block, scratch
+ * and progress word end as those of an uncut turn, however often it was stopped, restarts too. A stopped process leaves what a budget leaves as long as
+ * a stage's words reach the file before its progress word, and that before the next stage's words: see "A process that is killed" in README.
+ * Answers 0, or the first of 1, 2, 3, 13, 4, 23 that holds.
+ */
+uint32_t zib_resume(uint32_t *buffer, size_t buffer_words, uint32_t *scratch, size_t scratch_words, uint32_t *progress, size_t m,
+                    size_t n, size_t budget);
 
 /* What zib_repeats answers: a count, 0 in a refusal. */
 struct zib_home {

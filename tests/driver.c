@@ -56,6 +56,7 @@ enum {
     CHOOSE = 23,
     CHOOSE_NUMBER = 24,
     WRITE_RELEASE = 30,
+    RESUME = 31,
     /* these touch what they must not, to show that the guards bite */
     WRITE_PAST_END = 100,
     READ_PAST_END = 101,
@@ -305,6 +306,9 @@ static void run(uint64_t call) {
         break;
     case WRITE_RELEASE:
         give_written(zib_write_release(shape, numbers[4], numbers[5], words(0), word_count(0), buffers[1].at, buffers[1].bytes));
+        break;
+    case RESUME:
+        give(zib_resume(words(0), word_count(0), words(1), word_count(1), words(2), numbers[0], numbers[1], numbers[2]));
         break;
     case WRITE_PAST_END:
         at[buffers[0].bytes] = 1;

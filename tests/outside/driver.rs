@@ -27,6 +27,7 @@ pub const JOIN: u64 = 22;
 pub const CHOOSE: u64 = 23;
 pub const CHOOSE_NUMBER: u64 = 24;
 pub const WRITE_RELEASE: u64 = 30;
+pub const RESUME: u64 = 31;
 pub const WRITE_PAST_END: u64 = 100;
 pub const READ_PAST_END: u64 = 101;
 pub const WRITE_BEFORE_START: u64 = 102;

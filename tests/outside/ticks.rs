@@ -9,31 +9,46 @@ fn gcd(a: u64, b: u64) -> u64 {
 }
 
 // n + m + n where the sides share a factor, m + n otherwise.
-fn line_count(m: u64, n: u64) -> u64 {
+pub fn line_count(m: u64, n: u64) -> u64 {
     if gcd(m, n) > 1 { n + m + n } else { m + n }
 }
 
-// The words after one line has moved as its pass says: the columns of pass 1, where the sides share a factor, the rows of pass 2, the columns of pass 3.
-fn line_moved(before: &[u32], m: usize, n: usize, line: usize) -> Vec<u32> {
+// Where the words of a line stand, in rising place: the columns of pass 1, where the sides share a factor, the rows of pass 2, the columns of pass 3.
+pub fn line_places(m: usize, n: usize, line: usize) -> Vec<usize> {
+    let at = if gcd(m as u64, n as u64) > 1 { line } else { line + n };
+    if at >= n && at < n + m {
+        return (0..n).map(|j| (at - n) * n + j).collect();
+    }
+    let j = if at < n { at } else { at - n - m };
+    (0..m).map(|i| i * n + j).collect()
+}
+
+// The words of a line as its pass leaves it.
+pub fn line_finished(before: &[u32], m: usize, n: usize, line: usize) -> Vec<u32> {
     let c = gcd(m as u64, n as u64) as usize;
     let (a, b) = (m / c, n / c);
     let at = if c > 1 { line } else { line + n };
-    let mut after = before.to_vec();
     if at < n {
         let j = at;
-        for i in 0..m {
-            after[i * n + j] = before[(i + j / b) % m * n + j];
-        }
+        (0..m).map(|i| before[(i + j / b) % m * n + j]).collect()
     } else if at < n + m {
         let i = at - n;
+        let mut row = vec![0; n];
         for j in 0..n {
-            after[i * n + ((i + j / b) % m + j * m) % n] = before[i * n + j];
+            row[((i + j / b) % m + j * m) % n] = before[i * n + j];
         }
+        row
     } else {
         let j = at - n - m;
-        for i in 0..m {
-            after[i * n + j] = before[(j + i * n - i / a) % m * n + j];
-        }
+        (0..m).map(|i| before[(j + i * n - i / a) % m * n + j]).collect()
+    }
+}
+
+// The words after one line has moved as its pass says.
+fn line_moved(before: &[u32], m: usize, n: usize, line: usize) -> Vec<u32> {
+    let mut after = before.to_vec();
+    for (at, word) in line_places(m, n, line).into_iter().zip(line_finished(before, m, n, line)) {
+        after[at] = word;
     }
     after
 }

@@ -12,6 +12,7 @@ ghost use Rattle.tiles.specs.Promises.{ToTilesPromise, FromTilesPromise};
 ghost use Rattle.desk.specs.Promises.{MeasuredAs, FramesAs, JoinedAs};
 ghost use Rattle.choice.specs.Promises.{ChosenAs, NumberAs};
 ghost use Rattle.passes.specs.Ticks.{LinesPromise};
+ghost use Rattle.passes.specs.Restart.{memory, ResumePromise};
 ghost use Rattle.ticks.specs.Steps.{StepPromise};
 ghost use Rattle.cycles.specs.Promise.{JudgedAs, RunAs};
 ghost use Rattle.exports.specs.Records.{answered, planned, sheetRead, sheetWritten, homeAfter, resultRead, linesCounted, cyclesJudged};
@@ -389,6 +390,21 @@ pub extern "C" fn zib_tick(
     ensures { λ r. ⌜ StepPromise m n (now (lines .entry)) (now (buf .entry)) (now (scratch .entry)) r (now (lines .exit)) (now (buf .exit)) (now (scratch .exit)) ⌝ }
 {
     ticks::step(buf, scratch, lines, m, n)
+}
+
+// Goes on with the turn of m by n from the stage that the progress word names, and stops after `budget` stores.
+#[no_mangle]
+pub extern "C" fn zib_resume(
+    buf: &mut [u32],
+    scratch: &mut [u32],
+    progress: &mut u32,
+    m: usize,
+    n: usize,
+    budget: usize,
+) -> u32
+    ensures { λ r. ⌜ ResumePromise m n budget (memory (now (buf .entry)) (now (scratch .entry)) (now (progress .entry))) r (memory (now (buf .exit)) (now (scratch .exit)) (now (progress .exit))) ⌝ }
+{
+    passes::resume(buf, scratch, progress, m, n, budget)
 }
 
 // Judges a list of the cycles of the turn of m by n: start, length, start, length.

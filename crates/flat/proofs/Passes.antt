@@ -1,6 +1,6 @@
 -- The three passes, one after the other, are the turn; and the computed passes are the passes. The word of row i′ and
 -- column j′ is followed to the cell at offset l = j′·m + i′ by the numbers of Sides.
-use mathlib.Core.Path.{_≡_, sym, ap, ap₂, _∙_}
+use mathlib.Core.Path.{_≡_, refl, sym, ap, ap₂, _∙_}
 use mathlib.Core.List.{List}
 use Prim.Native.Nat.{ℕ, _+_, _*_, _/_, _%_, _<_, _≤_}
 use native.Mathlib.Omega.{arith}
@@ -9,10 +9,9 @@ use lib.Arith.{digits-div, digits-mod, digits-lt}
 use lib.ListN.{length, getD}
 use Rattle.lists.specs.Tab.{tab}
 use Rattle.lists.proofs.Tab.{length-tab, getD-tab, overlaid-front, overlaid-rest, overlaid-length}
-use Rattle.layout.specs.Layout.{placeOf}
 use Rattle.layout.proofs.Picks.{finds}
 use Rattle.flat.specs.Turn.{Turn, turned}
-use Rattle.flat.specs.Passes.{word, row1, column2, row3, Pass1, Pass2, Pass3, cells, passed1, passed2, passed3}
+use Rattle.flat.specs.Passes.{word, row1, column2, source2, row3, Pass1, Pass2, Pass3, cells, passed1, passed2, passed3}
 use Rattle.flat.proofs.Turn.{from-literal, one-turn, turned-is}
 use Rattle.flat.proofs.Sides.{Sides, sides-are, row3-lt, column2-lt, row-back, column-there, columns-apart}
 
@@ -68,18 +67,20 @@ unfolding passed3
 passed3-is m n xs = cell m n (λ i j. word n xs (row3 m n i j) j) xs
 
 -- pass 2 loses no word: the column that is sent to a place is the only one
+pub source-is : {m n : ℕ} (s : Sides m n) (i j k : ℕ) → k < n → column2 m n i k ≡ j → source2 m n i j ≡ k
+unfolding source2
+source-is {m} {n} s i j k h e =
+    let f : ℕ → ℕ = λ k. column2 m n i k in
+    let found = finds j (tab n f) k (rw (length-tab n f) h) (getD-tab n f k 0 h ∙ e) in
+    let lt : source2 m n i j < n = rw (length-tab n f) at (found .0) in
+    columns-apart s i (source2 m n i j) k lt h (sym (getD-tab n f (source2 m n i j) 0 lt) ∙ found .1 ∙ sym e)
+
 pub passed2-is : (m n : ℕ) (xs : List ℕ) → Pass2 m n (word n xs) (word n (passed2 m n xs))
 unfolding passed2
 passed2-is m n xs i j hi hj =
     let s : Sides m n = sides-are m n (omega arith) (omega arith) in
-    let f : ℕ → ℕ = λ k. column2 m n i k in
-    let long = length-tab n f in
-    let at-j : getD (tab n f) j 0 ≡ f j = getD-tab n f j 0 hj in
-    let found = finds (f j) (tab n f) j (rw long hj) at-j in
-    let lt : placeOf (f j) (tab n f) < n = rw long at (found .0) in
-    cell m n (λ i j. word n xs i (placeOf j (tab n (λ k. column2 m n i k)))) xs i (f j) hi (column2-lt m n i j (omega arith))
-    ∙ ap (λ (z : ℕ). word n xs i z)
-    (columns-apart s i (placeOf (f j) (tab n f)) j lt hj (sym (getD-tab n f (placeOf (f j) (tab n f)) 0 lt) ∙ found .1))
+    cell m n (λ i j. word n xs i (source2 m n i j)) xs i (column2 m n i j) hi (column2-lt m n i j (omega arith))
+    ∙ ap (λ (z : ℕ). word n xs i z) (source-is s i (column2 m n i j) j hj refl)
 
 -- the computed block keeps the buffer's length and what lies past the block
 cells-keep : (m n : ℕ) (f : ℕ → ℕ → ℕ) (xs : List ℕ) → m * n ≤ length xs → Kept m n xs (cells m n f xs)
@@ -99,6 +100,6 @@ passed-turned m n xs h =
     let ys = passed1 m n xs in
     let zs = passed2 m n ys in
     let k : Kept m n xs ys = cells-keep m n (λ i j. word n xs (row1 m n i j) j) xs h in
-    let l : Kept m n ys zs = cells-keep m n (λ i j. word n ys i (placeOf j (tab n (λ p. column2 m n i p)))) ys (rw (k .same) h) in
+    let l : Kept m n ys zs = cells-keep m n (λ i j. word n ys i (source2 m n i j)) ys (rw (k .same) h) in
     let o : Kept m n zs (passed3 m n zs) = cells-keep m n (λ i j. word n zs (row3 m n i j) j) zs (rw (l .same ∙ k .same) h) in
     one-turn (passes-turn m n xs ys zs (passed3 m n zs) (kept-on (kept-on k l) o) (passed1-is m n xs) (passed2-is m n ys) (passed3-is m n zs)) (turned-is m n xs h)

@@ -28,6 +28,10 @@ row1 m n i j = (i + j / columnGroup m n) % m
 unfoldable pub column2 : ℕ → ℕ → ℕ → ℕ → ℕ
 column2 m n i j = ((i + j / columnGroup m n) % m + j * m) % n
 
+-- pass 2, the other way round: in row i, the column that is sent to column j
+unfoldable pub source2 : ℕ → ℕ → ℕ → ℕ → ℕ
+source2 m n i j = placeOf j (tab n (λ k. column2 m n i k))
+
 -- pass 3: in column j, row i receives the word of row (j + i·n − floor(i/a)) mod m
 unfoldable pub row3 : ℕ → ℕ → ℕ → ℕ → ℕ
 row3 m n i j = (j + i * n - i / rowGroup m n) % m
@@ -54,7 +58,7 @@ passed1 m n xs = cells m n (λ i j. word n xs (row1 m n i j) j) xs
 
 -- pass 2, computed: column j of row i has the word of the column that is sent there
 unfoldable pub passed2 : ℕ → ℕ → List ℕ → List ℕ
-passed2 m n xs = cells m n (λ i j. word n xs i (placeOf j (tab n (λ k. column2 m n i k)))) xs
+passed2 m n xs = cells m n (λ i j. word n xs i (source2 m n i j)) xs
 
 -- pass 3, computed
 unfoldable pub passed3 : ℕ → ℕ → List ℕ → List ℕ

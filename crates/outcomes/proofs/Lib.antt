@@ -35,6 +35,9 @@ pub mod Repeats
 pub mod Ticks
 pub mod Steps
 pub mod RefutedTicks
+-- the mapped turn: one outcome, and wrong ones refuted
+pub mod Restarts
+pub mod RefutedRestart
 -- removing and adding a camera: one outcome, and wrong ones refuted
 pub mod Cameras
 -- the conversions to tiles and back: one outcome, and wrong ones refuted

@@ -27,6 +27,7 @@ pub record Accepted (m n : ℕ) (buffer scratch : List ℕ) : Type 0 where
   pub n-pos : 0 < n
   pub m-few : m ≤ 4096
   pub n-few : n ≤ 4096
+  pub few : m * n ≤ 1048576
   pub exact : length buffer ≡ m * n
   pub room : need (sides m n) ≤ length scratch
 
@@ -42,6 +43,7 @@ flat-accepted m n buffer scratch e = go (v .0 .lengths)
       n-pos = pn;
       m-few = fm;
       n-few = fn;
+      few = rw (volume-two m n) at (v .0 .few);
       exact = v .0 .exact ∙ volume-two m n;
       room = enough-scratch (need (sides m n)) scratch [] (v .1) .0;
     }

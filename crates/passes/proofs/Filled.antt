@@ -4,11 +4,16 @@ use mathlib.Core.Path.{_≡_, refl, sym, ap, _∙_, subst}
 use mathlib.Core.List.{List}
 use mathlib.Core.Logic.{⊎-elim}
 use Prim.Native.Nat.{ℕ, _+_, _-_, _<_, _≤_}
-use native.Mathlib.Nat.{not-suc-le-zero, zero-add}
+use native.Mathlib.Nat.{not-suc-le-zero, zero-add, le-trans}
 use native.Mathlib.Omega.{arith}
 use lib.ListN.{length, getD, set, length-set}
-use lib.Seq.{getD-set-same, getD-set-other}
+use lib.Dec.{eqb}
+use lib.Seq.{getD-set-same, getD-set-other, ext-getD}
+use borrow.Author.Tests.{eqb-true, eqb-false}
 use Rattle.lists.proofs.Decide.{eq-or-ne, lt-or-ge}
+use Rattle.orbits.specs.Orbit.{first}
+use Rattle.orbits.proofs.First.{first-holds, first-least}
+use Rattle.stages.proofs.Filled.{filled, length-filled, filled-at, filled-others}
 use Rattle.passes.specs.Lines.{posOn}
 use Rattle.passes.specs.ThroughScratch.{Apart, Filled, Lifted}
 use Rattle.passes.specs.declared.line.Line.{Line}
@@ -28,6 +33,30 @@ filled-more {to} {word} {count} {k} {before} {now} apart h inside f = record {
   others = λ p g. getD-set-other now (to k) p (word k) 0 (λ e. g k (omega arith) (sym e)) ∙ f .others p (λ j l. g j (omega arith));
 }
 
+-- two outcomes of such a loop are one, and that is the list stored into one word after the other
+pub one-filled : {to word : ℕ → ℕ} {count : ℕ} {xs ys zs : List ℕ} → Filled to word count xs ys → Filled to word count xs zs → ys ≡ zs
+one-filled {to} {word} {count} {xs} {ys} {zs} f g =
+    ext-getD 0 ys zs (f .same ∙ sym (g .same)) (λ p _. ⊎-elim (here p) (away p) (lt-or-ge (first count (λ k. eqb (to k) p)) count))
+  where
+    here : (p : ℕ) → first count (λ k. eqb (to k) p) < count → getD ys p 0 ≡ getD zs p 0
+    here p h =
+        let k = first count (λ k. eqb (to k) p) in
+        let e : to k ≡ p = eqb-true (to k) p (first-holds count (λ k. eqb (to k) p) h) in
+        subst (λ (z : ℕ). getD ys z 0 ≡ getD zs z 0) e (f .placed k h ∙ sym (g .placed k h))
+
+    away : (p : ℕ) → count ≤ first count (λ k. eqb (to k) p) → getD ys p 0 ≡ getD zs p 0
+    away p h =
+        let none : (k : ℕ) → k < count → to k ≡ p → ⊥ = λ k d. eqb-false (to k) p (first-least count (λ k. eqb (to k) p) k (le-trans d h)) in
+        f .others p none ∙ sym (g .others p none)
+
+pub filled-is : {to word : ℕ → ℕ} {count : ℕ} {xs ys : List ℕ} → Apart to count → ((k : ℕ) → k < count → to k < length xs) → Filled to word count xs ys
+    → ys ≡ filled count to word xs
+filled-is {to} {word} {count} {xs} apart inside f = one-filled f (record {
+  same = length-filled count to word xs;
+  placed = λ k h. filled-at to word xs count k apart inside h;
+  others = filled-others to word xs count;
+})
+
 -- a group of stores more: its words and places are those from o on
 pub filled-on : {to word to′ word′ : ℕ → ℕ} {count size o : ℕ} {xs ys zs : List ℕ} → Apart to count → o + size ≤ count
     → ((t : ℕ) → t < size → to (o + t) ≡ to′ t) → ((t : ℕ) → t < size → word (o + t) ≡ word′ t)
@@ -46,6 +75,14 @@ filled-on {to} {word} {to′} {word′} {count} {size} {o} {xs} {ys} {zs} apart 
   others = λ p n. g .others p (λ t d e. n (o + t) (omega arith) (to-is t d ∙ e)) ∙ f .others p (λ j d. n j (omega arith));
 }
 
+-- the same stores from the front of scratch on
+pub filled-front : {word word′ : ℕ → ℕ} {count : ℕ} {xs ys : List ℕ} → ((t : ℕ) → t < count → word t ≡ word′ t)
+    → Filled (λ t. 0 + t) word′ count xs ys → Filled (λ t. t) word count xs ys
+filled-front {word} {count = count} {xs} {ys} is f =
+    let all : Filled (λ t. t) word (0 + count) xs ys =
+    filled-on {count = count} (λ i j _ _ e. e) (omega arith) (λ t d. refl) (λ t d. ap word (zero-add t) ∙ is t d) (filled-none (λ t. t) word xs) f in
+    rw (zero-add count) at all
+
 -- two runs of stores, one after the other
 pub filled-two : {to word to₁ word₁ to₂ word₂ : ℕ → ℕ} {count r s : ℕ} {xs ys zs : List ℕ} → Apart to count → r + s ≡ count
     → ((t : ℕ) → t < r → to t ≡ to₁ t) → ((t : ℕ) → t < r → word t ≡ word₁ t)
@@ -54,6 +91,17 @@ pub filled-two : {to word to₁ word₁ to₂ word₂ : ℕ → ℕ} {count r s 
 filled-two {to} {word} {count = count} {r} {s} {xs} {ys} {zs} apart e to-1 word-1 to-2 word-2 f g =
     let first : Filled to word (0 + r) xs ys = filled-on apart (omega arith) (λ t d. ap to (zero-add t) ∙ to-1 t d) (λ t d. ap word (zero-add t) ∙ word-1 t d) (filled-none to word xs) f in
     subst (λ (k : ℕ). Filled to word k xs zs) e (filled-on apart (omega arith) to-2 word-2 (rw (zero-add r) at first) g)
+
+-- a line's words in two runs into the front of scratch, cut after `until` words
+pub two-runs : (l : Line) (xs : List ℕ) {first rest size until : ℕ} {scratch held held′ : List ℕ} → until ≤ first + rest → (size ≤ rest) × (size ≤ until) × (size < until → size ≡ rest)
+    → Filled (λ t. 0 + t) (λ t. getD xs (posOn l (first + t)) 0) size scratch held → Filled (λ t. size + t) (λ t. getD xs (posOn l (0 + t)) 0) (until - size) held held′
+    → (f : ℕ → ℕ) → ((t : ℕ) → t < rest → f t ≡ first + t) → ((t : ℕ) → t < first → f (rest + t) ≡ t)
+    → Filled (λ k. k) (λ k. getD xs (posOn l (f k)) 0) until scratch held′
+two-runs l xs {first} {rest} {size} {until} few s a b f one two =
+    filled-two (λ i j _ _ e. e) (omega (arith, s .1)) (λ t d. sym (zero-add t)) (λ t d. ap (λ (z : ℕ). getD xs (posOn l z) 0) (one t (omega (arith, s .0)))) (λ t d. refl)
+    (λ t d.
+    let e : size ≡ rest = s .2 (omega arith) in
+    ap (λ (z : ℕ). getD xs (posOn l z) 0) (ap (λ (z : ℕ). f (z + t)) e ∙ two t (omega arith) ∙ sym (zero-add t))) a b
 
 -- all words of a line are stored: it stands in scratch
 pub all-lifted : {l : Line} {k : ℕ} {to from : ℕ → ℕ} {xs scratch held : List ℕ} → ((j : ℕ) → j < l .count → to j < l .count)

@@ -2,6 +2,8 @@
 pub mod Filled
 -- the walks of the passes, and a group of a walk
 pub mod Walks
+-- a walk over the sources of a row, for the numbers that the functions hold
+pub mod Sources
 -- a line lifted into scratch and put back has moved, forwards or home
 pub mod Lifted
 -- families of words moved one after the other, none sharing an offset
@@ -18,8 +20,16 @@ pub mod Going
 pub mod Accepted
 -- one line a tick: refused, a line moved, none left
 pub mod Ticks
+-- what the functions of a mapped turn store is what its stages say
+pub mod Stages
+-- the outcomes of a call of the mapped turn
+pub mod Resumed
 -- the blocks of an adjacent swap, turned one after the other, are the swap
 pub mod Swaps
+-- how many stores a mapped turn makes at most
+pub mod Stores
+-- a run of budgets whose last is enough leaves the flat turn
+pub mod Restarted
 -- any two outcomes that the promise of a call allows coincide
 pub mod OneOutcome
 -- any two outcomes of a tick coincide

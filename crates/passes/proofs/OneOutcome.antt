@@ -10,6 +10,8 @@ use Rattle.orders.proofs.Layouts.{chain-once}
 use Rattle.layout.specs.Layout.{Laid}
 use Rattle.refusals.proofs.Promise.{one-outcome}
 use Rattle.flat.proofs.Turn.{one-turn}
+use Rattle.stages.specs.Stages.{Memory}
+use Rattle.passes.specs.Restart.{ResumePromise}
 use Rattle.passes.specs.Promises.{TurnPromise, TurnBackPromise, SwapPromise, ClearPromise, swapBlock, middle}
 
 -- number, buffer and scratch are the same
@@ -39,5 +41,13 @@ clear-once {r = r} p q =
     let e = p .number-is ∙ sym (q .number-is) in
     ⊎-elim
     (λ (z : r ≡ 0). (e, p .zeroed z ∙ sym (q .zeroed (sym e ∙ z))))
+    (λ (ne : r ≡ 0 → ⊥). (e, p .kept ne ∙ sym (q .kept (λ z. ne (e ∙ z)))))
+    (eq-or-ne r 0)
+
+pub resume-once : {m n budget r r′ : ℕ} {x y y′ : Memory} → ResumePromise m n budget x r y → ResumePromise m n budget x r′ y′ → (r ≡ r′) × (y ≡ y′)
+resume-once {r = r} p q =
+    let e = p .number-is ∙ sym (q .number-is) in
+    ⊎-elim
+    (λ (z : r ≡ 0). (e, p .stored z ∙ sym (q .stored (sym e ∙ z))))
     (λ (ne : r ≡ 0 → ⊥). (e, p .kept ne ∙ sym (q .kept (λ z. ne (e ∙ z)))))
     (eq-or-ne r 0)

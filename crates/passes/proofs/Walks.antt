@@ -93,12 +93,12 @@ module _ {w : Walk} {count : ℕ} {f : ℕ → ℕ} (y : Follows w count f) (g :
       let q = apart (g * w .size + j) (g * w .size + k) (omega (arith, group-inside)) (omega (arith, group-inside)) (y .pairs g j h hj ∙ e ∙ sym (y .pairs g k h hk)) in
       omega arith
 
-  pub group-fits : {l : Line} {xs scratch : List ℕ} {from place : ℕ} → from ≡ g * w .size → place ≡ startOf w g → Inside l count xs → count ≤ length scratch
-      → GroupFits l w from place xs scratch
-  group-fits from-is place-is inside room = rw (from-is, place-is) (record {
+  pub group-fits : {l : Line} {xs scratch : List ℕ} {from place size : ℕ} → from + size ≤ count → place ≡ startOf w g → Inside l count xs → count ≤ length scratch
+      → GroupFits l w from place size xs scratch
+  group-fits on-line place-is inside room = rw place-is (record {
     low = starts-lt (w .first) (w .shift) (w .modulus) (w .restart) g (y .low);
     short = y .short;
-    on-line = omega (arith, group-inside, y .round);
+    on-line = omega (arith, y .round);
     inside = rw (y .round) inside;
     room = omega (arith, y .round);
   })
@@ -120,10 +120,10 @@ module _ {w : Walk} (l : Line) {f : ℕ → ℕ} (y : Follows w (l .count) f) (s
       ∙ y .pairs 0 t (omega arith) (omega arith)
       ∙ ap (λ (z : ℕ). (w .first + z) % w .modulus) (ap (λ (z : ℕ). t * z) e ∙ mul-one t)
 
-  first-run : (t : ℕ) → t < w .modulus - w .first → f t ≡ w .first + t
+  pub first-run : (t : ℕ) → t < w .modulus - w .first → f t ≡ w .first + t
   first-run t h = one-by-one t (omega (arith, y .round)) ∙ mod-eq-of-lt (omega arith)
 
-  second-run : (t : ℕ) → t < w .first → f (w .modulus - w .first + t) ≡ t
+  pub second-run : (t : ℕ) → t < w .first → f (w .modulus - w .first + t) ≡ t
   second-run t h =
       let q = w .modulus in
       let low = y .low in
@@ -136,14 +136,6 @@ module _ {w : Walk} (l : Line) {f : ℕ → ℕ} (y : Follows w (l .count) f) (s
   runs-whole = omega (arith, y .low, y .round)
 
   module _ {xs scratch held held′ : List ℕ} where
-    pub straight-gathered : Filled (λ t. 0 + t) (λ t. getD xs (posOn l (w .first + t)) 0) (w .modulus - w .first) scratch held
-        → Filled (λ t. w .modulus - w .first + t) (λ t. getD xs (posOn l (0 + t)) 0) (w .first) held held′ → Lifted l (λ k. k) f xs scratch held′
-    straight-gathered a b =
-        all-lifted (λ j d. d)
-        (filled-two (λ i j _ _ e. e) runs-whole (λ t d. sym (zero-add t)) (λ t d. ap (λ (z : ℕ). getD xs (posOn l z) 0) (first-run t d)) (λ t d. refl)
-        (λ t d. ap (λ (z : ℕ). getD xs (posOn l z) 0) (second-run t d ∙ sym (zero-add t))) a b)
-        refl
-
     pub straight-scattered : Apart f (l .count) → ((k : ℕ) → k < l .count → f k < l .count)
         → Filled (λ t. w .first + t) (λ t. getD xs (posOn l (0 + t)) 0) (w .modulus - w .first) scratch held
         → Filled (λ t. 0 + t) (λ t. getD xs (posOn l (w .modulus - w .first + t)) 0) (w .first) held held′ → Lifted l f (λ k. k) xs scratch held′

@@ -7,7 +7,7 @@ use Prim.Native.Nat.{ℕ, _+_, _*_, _-_, _<_}
 use lib.Dec.{ltb, eqb}
 use lib.ListN.{length, getD}
 use Rattle.numbers.specs.Gcd.{gcdOf}
-use Rattle.flat.specs.Passes.{row1, column2, row3}
+use Rattle.flat.specs.Passes.{row1, column2, source2, row3}
 use Rattle.passes.specs.declared.line.Line.{Line}
 
 -- of `count` words of the buffer at the offsets pos 0, pos 1, .. the one at place `from k` now stands at place `to k`; every other word stands
@@ -19,6 +19,10 @@ pub record Moved (count : ℕ) (pos to from : ℕ → ℕ) (xs ys : List ℕ) : 
 -- the place with which pass p pairs place k of its line t: the row that row k receives from in passes 1 and 3, the column that column k goes to in pass 2
 abbrev pub paired : ℕ → ℕ → ℕ → ℕ → ℕ → ℕ
 paired m n p t k = cond (eqb p 1) (row1 m n k t) (cond (eqb p 2) (column2 m n t k) (row3 m n k t))
+
+-- the place of line t from which place k receives its word in pass p
+abbrev pub received : ℕ → ℕ → ℕ → ℕ → ℕ → ℕ
+received m n p t k = cond (eqb p 1) (row1 m n k t) (cond (eqb p 2) (source2 m n t k) (row3 m n k t))
 
 -- column j in pass p
 abbrev pub column : ℕ → ℕ → ℕ → ℕ → ℕ → ℕ → Line

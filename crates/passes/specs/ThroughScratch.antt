@@ -1,22 +1,31 @@
 -- These definitions serve only the contracts of private functions: a reader of the promises can pass over them.
 -- What the functions that move lines and blocks through scratch ask and leave. Assumes nothing: these are definitions.
-use mathlib.Core.Bool.{cond}
+use mathlib.Core.Bool.{Bool, cond}
 use mathlib.Core.Path.{_≡_}
 use mathlib.Core.List.{List}
 use Prim.Native.Nat.{ℕ, _+_, _*_, _/_, _%_, _<_, _≤_}
-use lib.Dec.{eqb}
+use lib.Dec.{ltb, eqb}
 use lib.ListN.{length, getD}
 use Rattle.numbers.specs.Gcd.{gcdOf}
 use Rattle.refusals.specs.Scratch.{need}
 use Rattle.flat.specs.Turn.{sides}
 use Rattle.flat.specs.Passes.{rowGroup, columnGroup}
 use Rattle.walks.specs.Walk.{walk, starts}
-use Rattle.passes.specs.Lines.{Moved, paired, posOn, skipped}
+use Rattle.walks.specs.Source.{Inverse, At}
+use Rattle.passes.specs.Lines.{Moved, paired, received, posOn, skipped, lineCount, lineOf}
 use Rattle.passes.specs.declared.line.GroupedSides.{GroupedSides}
 use Rattle.passes.specs.declared.line.Line.{Line}
+use Rattle.passes.specs.declared.source.Source.{Source}
 use Rattle.passes.specs.declared.walk.Walk.{Walk}
 
--- sides from 1 to 4,096, with their greatest common divisor c, a = m / c and b = n / c, and what each leaves modulo the other
+-- small numbers that share no factor
+pub record Coprime (a b : ℕ) : Type 0 where
+  pub b-pos : 0 < b
+  pub b-few : b ≤ 4096
+  pub apart : gcdOf a b ≡ 1
+
+-- sides from 1 to 4,096, with their greatest common divisor c, a = m / c and b = n / c, what each leaves modulo the
+-- other, and the inverse of a modulo b
 pub record Grouped (s : GroupedSides) : Type 0 where
   pub m-pos : 0 < s .m
   pub n-pos : 0 < s .n
@@ -27,7 +36,19 @@ pub record Grouped (s : GroupedSides) : Type 0 where
   pub c-is : s .c ≡ gcdOf (s .m) (s .n)
   pub down-is : s .down ≡ s .n % s .m
   pub across-is : s .across ≡ s .m % s .n
+  pub inverse-is : Inverse (rowGroup (s .m) (s .n)) (columnGroup (s .m) (s .n)) (s .inverse)
   pub skipped-is : s .skipped ≡ skipped (s .m) (s .n)
+
+-- the walk over the sources of row i stands at place j
+abbrev pub StandsAt : GroupedSides → ℕ → ℕ → Source → Type 0
+StandsAt s i j p = At (s .m) (s .n) i j (p .group) (p .lap) (p .column) × (p .place ≡ p .group * s .b + p .column)
+
+-- its numbers are in range
+pub record Low (s : GroupedSides) (p : Source) : Type 0 where
+  pub group : p .group < s .c
+  pub lap : p .lap < s .b
+  pub column : p .column < s .b
+  pub place : p .place < s .n
 
 -- where group g of a walk starts
 abbrev pub startOf : Walk → ℕ → ℕ
@@ -40,6 +61,10 @@ stands w place t = walk place (w .step) (w .modulus) t
 -- a walk in one group, over as many places as its modulus
 abbrev pub alone : ℕ → ℕ → ℕ → Walk
 alone first step modulus = record { first = first; step = step; modulus = modulus; size = modulus; groups = 1; shift = 0; restart = 0 }
+
+-- the place of the line whose word place k of scratch takes: forwards the one that it receives from, home the one that it is paired with
+abbrev pub taken : ℕ → ℕ → Line → Bool → ℕ → ℕ
+taken m n l forwards k = cond forwards (received m n (l .pass) (l .index) k) (paired m n (l .pass) (l .index) k)
 
 -- a walk goes over `count` places and pairs each, place t of group g, as f does
 pub record Follows (w : Walk) (count : ℕ) (f : ℕ → ℕ) : Type 0 where
@@ -54,11 +79,12 @@ pub record Follows (w : Walk) (count : ℕ) (f : ℕ → ℕ) : Type 0 where
 abbrev pub Inside : Line → ℕ → List ℕ → Type 0
 Inside l count xs = (k : ℕ) → k < count → posOn l k < length xs
 
--- a group that starts at `place` can be walked: its places from `from` on lie on the line, the line in the buffer, and scratch has room for it
-pub record GroupFits (l : Line) (w : Walk) (from place : ℕ) (xs scratch : List ℕ) : Type 0 where
+-- the first `size` places of a group that starts at `place` can be walked: they are those of the line from `from` on, the line lies in the buffer, and
+-- scratch has room for it
+pub record GroupFits (l : Line) (w : Walk) (from place size : ℕ) (xs scratch : List ℕ) : Type 0 where
   pub low : place < w .modulus
   pub short : w .step ≤ w .modulus
-  pub on-line : from + w .size ≤ w .modulus
+  pub on-line : from + size ≤ w .modulus
   pub inside : Inside l (w .modulus) xs
   pub room : w .modulus ≤ length scratch
 
@@ -91,10 +117,6 @@ pub record Lifted (l : Line) (to from : ℕ → ℕ) (xs scratch held : List ℕ
   pub placed : (k : ℕ) → k < l .count → getD held (to k) 0 ≡ getD xs (posOn l (from k)) 0
   pub rest : (k : ℕ) → l .count ≤ k → getD held k 0 ≡ getD scratch k 0
 
--- the line has received the words of scratch; every other word stands
-abbrev pub Returned : Line → List ℕ → List ℕ → List ℕ → Type 0
-Returned l scratch xs ys = Filled (posOn l) (λ k. getD scratch k 0) (l .count) xs ys
-
 -- scratch past its first n words is as it was
 pub record Past (n : ℕ) (before after : List ℕ) : Type 0 where
   pub same : length after ≡ length before
@@ -120,3 +142,13 @@ pub record AllLie (outer m n chunk : ℕ) (xs scratch : List ℕ) : Type 0 where
   pub few : outer * chunk * (m * n) ≤ 1048576
   pub enough : outer * chunk * (m * n) ≤ length xs
   pub room : need (sides m n) ≤ length scratch
+
+-- a mapped turn can go on: its block is the buffer, and scratch has room for its longer side
+pub record Mapped (s : GroupedSides) (xs scratch : List ℕ) : Type 0 where
+  pub grouped : Grouped s
+  pub lies : Lies (s .m) (s .n) 0 1 xs scratch
+  pub room : need (sides (s .m) (s .n)) ≤ length scratch
+
+-- how many words stage p stores: those of its line, or those that are cleared
+abbrev pub stageWords : ℕ → ℕ → ℕ → ℕ
+stageWords m n p = cond (ltb p (lineCount m n * 2)) (lineOf m n 0 1 (p / 2) .count) (need (sides m n))

@@ -1,13 +1,16 @@
-// The flat turn by passes, in one call or one line a call, its reverse, and the adjacent swap of four axes.
+// The flat turn by passes, in one call, one line a call or stages that a stop may cut, its reverse, and the adjacent swap of four axes.
 mod gcd;
 mod line;
 mod refusal;
+mod restart;
 mod scratch;
+mod source;
 mod turning;
 mod walk;
 
 ghost use Rattle.passes.specs.Promises.{TurnPromise, TurnBackPromise, SwapPromise, ClearPromise};
 ghost use Rattle.passes.specs.Ticks.{LinesPromise, TickPromise};
+ghost use Rattle.passes.specs.Restart.{memory, ResumePromise};
 
 // Turns the m by n block that fills a buffer, through scratch of max(m, n) words: 0, or 1, 2, 3, 13, 4.
 pub fn turn(buf: &mut [u32], scratch: &mut [u32], m: usize, n: usize) -> u32
@@ -92,6 +95,30 @@ pub fn tick(buf: &mut [u32], scratch: &mut [u32], m: usize, n: usize, done: usiz
         number: 0,
         done: done + 1,
     }
+}
+
+// Goes on with the turn of an m by n block from the stage that the progress word names, and stops after `budget` stores: 0, or 1, 2, 3, 13, 4, 23.
+pub fn resume(
+    buf: &mut [u32],
+    scratch: &mut [u32],
+    progress: &mut u32,
+    m: usize,
+    n: usize,
+    budget: usize,
+) -> u32
+    ensures { λ r. ⌜ ResumePromise m n budget (memory (now (buf .entry)) (now (scratch .entry)) (now (progress .entry))) r (memory (now (buf .exit)) (now (scratch .exit)) (now (progress .exit))) ⌝ }
+{
+    let lens = [m, n];
+    let number = checks::passes_number(&lens, buf, scratch);
+    if number != 0 {
+        return number;
+    }
+    let s = turning::group_sides(m, n);
+    if restart::stage_count(s) < *progress as usize {
+        return 23;
+    }
+    restart::go_on(buf, scratch, progress, s, budget);
+    0
 }
 
 // Exchanges the two axes in the middle of outer × m × n × chunk words, through scratch of max(m, n) words: 0, or 1, 2, 3, 13, 4.

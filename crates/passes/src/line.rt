@@ -1,14 +1,18 @@
 // Lines: one row or column of a block, moved through scratch.
+use crate::source;
 use crate::walk;
 use crate::walk::Walk;
+ghost use mathlib.Core.Bool.{_&&_};
 ghost use mathlib.Core.Path.{_≡_};
-ghost use Prim.Native.Nat.{_+_, _<_, _≤_};
+ghost use Prim.Native.Nat.{ℕ, _+_, _<_, _≤_};
+ghost use lib.Dec.{eqb};
 ghost use lib.ListN.{length, getD};
+ghost use Rattle.flat.specs.Passes.{source2};
 ghost use Rattle.passes.specs.Lines.{paired, posOn, toPlace, fromPlace, LineMoved};
-ghost use Rattle.passes.specs.ThroughScratch.{Grouped, Inside, Apart, GroupFits, stands, Fits, Filled, Lifted, Returned, Past};
+ghost use Rattle.passes.specs.ThroughScratch.{Grouped, Inside, Apart, GroupFits, stands, taken, Fits, Filled, Lifted, Past};
 
-// The sides m and n, their greatest common divisor c and their quotients a and b by it, what each side leaves modulo the other, and the
-// columns of pass 1 that are left out.
+// The sides m and n, their greatest common divisor c and their quotients a and b by it, what each side leaves modulo the other, the
+// inverse of a modulo b, and the columns of pass 1 that are left out.
 pub(crate) struct GroupedSides {
     pub m: usize,
     pub n: usize,
@@ -17,6 +21,7 @@ pub(crate) struct GroupedSides {
     pub c: usize,
     pub down: usize,
     pub across: usize,
+    pub inverse: usize,
     pub skipped: usize,
 }
 
@@ -41,44 +46,97 @@ fn copy_run(buf: &[u32], scratch: &mut [u32], l: Line, from: usize, to: usize, s
     }
 }
 
-// Scratch receives, from place `from` on, the words of a group that starts at `place`.
-fn gather_group(buf: &[u32], scratch: &mut [u32], l: Line, w: Walk, from: usize, place: usize)
-    requires { ⌜ GroupFits l w from place (now buf) (now scratch) ⌝ }
-    ensures { λ _. ⌜ Filled (λ t. from + t) (λ t. getD (now (buf .entry)) (posOn l (stands w place t)) 0) (w .size) (now (scratch .entry)) (now (scratch .exit)) ⌝ }
+// Scratch receives, from place `from` on, the first `size` words of a group that starts at `place`.
+fn gather_group(
+    buf: &[u32],
+    scratch: &mut [u32],
+    l: Line,
+    w: Walk,
+    from: usize,
+    place: usize,
+    size: usize,
+)
+    requires { ⌜ GroupFits l w from place size (now buf) (now scratch) ⌝ }
+    ensures { λ _. ⌜ Filled (λ t. from + t) (λ t. getD (now (buf .entry)) (posOn l (stands w place t)) 0) size (now (scratch .entry)) (now (scratch .exit)) ⌝ }
 {
     let start = l.start;
     let stride = l.stride;
     let mut p = place;
-    for t in 0..w.size {
+    for t in 0..size {
         scratch[from + t] = buf[start + stride * p];
         p = walk::step_on(p, w.step, w.modulus);
     }
 }
 
-// Scratch receives, place by place, the words that the line's places are paired with.
-fn gather(buf: &[u32], scratch: &mut [u32], s: GroupedSides, l: Line)
-    requires { ⌜ Grouped s × Fits (s .m) (s .n) l (now buf) (now scratch) ⌝ }
-    ensures { λ _. ⌜ Lifted l (λ k. k) (paired (s .m) (s .n) (l .pass) (l .index)) (now (buf .entry)) (now (scratch .entry)) (now (scratch .exit)) ⌝ }
+// The smaller of two numbers.
+fn smaller(x: usize, y: usize) -> usize
+    ensures { λ r. ⌜ (r ≤ x) × (r ≤ y) × (r < y → r ≡ x) ⌝ }
+{
+    if x < y {
+        return x;
+    }
+    y
+}
+
+// Scratch receives the words of the line from place `first` on, `rest` of them, and then those from place 0 on, `until` words in all.
+fn copy_runs(buf: &[u32], scratch: &mut [u32], l: Line, first: usize, rest: usize, until: usize)
+    requires { ⌜ Inside l (first + rest) (now buf) × (until ≤ first + rest) × (first + rest ≤ length (now scratch)) ⌝ }
+    ensures { λ _. ⌜ (length (now (scratch .exit)) ≡ length (now (scratch .entry))) × ((f : ℕ → ℕ) → ((t : ℕ) → t < rest → f t ≡ first + t) → ((t : ℕ) → t < first → f (rest + t) ≡ t) → Filled (λ k. k) (λ k. getD (now (buf .entry)) (posOn l (f k)) 0) until (now (scratch .entry)) (now (scratch .exit))) ⌝ }
+{
+    let size = smaller(rest, until);
+    copy_run(buf, scratch, l, first, 0, size);
+    copy_run(buf, scratch, l, 0, size, until - size);
+}
+
+// Scratch receives, place by place, the first `until` words that the line's places are paired with.
+fn gather(buf: &[u32], scratch: &mut [u32], s: GroupedSides, l: Line, until: usize)
+    requires { ⌜ Grouped s × Fits (s .m) (s .n) l (now buf) (now scratch) × (until ≤ l .count) ⌝ }
+    ensures { λ _. ⌜ Filled (λ k. k) (λ k. getD (now (buf .entry)) (posOn l (paired (s .m) (s .n) (l .pass) (l .index) k)) 0) until (now (scratch .entry)) (now (scratch .exit)) ⌝ }
 {
     let w = walk::walk_of(s, l);
     if walk::straight(w) {
-        let rest = w.modulus - w.first;
-        copy_run(buf, scratch, l, w.first, 0, rest);
-        copy_run(buf, scratch, l, 0, rest, w.first);
+        copy_runs(buf, scratch, l, w.first, w.modulus - w.first, until);
         return;
     }
     let mut from = 0;
     let mut place = w.first;
     for g in 0..w.groups {
-        gather_group(buf, scratch, l, w, from, place);
-        from += w.size;
+        let size = smaller(w.size, until - from);
+        gather_group(buf, scratch, l, w, from, place, size);
+        from += size;
         place = walk::next_start(w, g + 1, place);
+    }
+}
+
+// Scratch receives, place by place, the first `until` words of a row as pass 2 leaves it.
+fn gather_row(buf: &[u32], scratch: &mut [u32], s: GroupedSides, l: Line, until: usize)
+    requires { ⌜ Grouped s × Fits (s .m) (s .n) l (now buf) (now scratch) × (l .pass ≡ 2) × (until ≤ l .count) ⌝ }
+    ensures { λ _. ⌜ Filled (λ k. k) (λ k. getD (now (buf .entry)) (posOn l (source2 (s .m) (s .n) (l .index) k)) 0) until (now (scratch .entry)) (now (scratch .exit)) ⌝ }
+{
+    let i = l.index;
+    if s.b == 1 {
+        let turned = i % s.n;
+        copy_runs(buf, scratch, l, s.n - turned, turned, until);
+        return;
+    }
+    if s.c == 1 {
+        let place = source::lone(s, i);
+        let w = walk::one_group(place, s.inverse, s.n);
+        gather_group(buf, scratch, l, w, 0, place, until);
+        return;
+    }
+    let start = l.start;
+    let stride = l.stride;
+    let mut p = source::first(s, i);
+    for j in 0..until {
+        scratch[j] = buf[start + stride * p.place];
+        p = source::next(s, i, p);
     }
 }
 
 // The words of a group from place `from` of the line on go to where the walk that starts at `place` stands in scratch.
 fn scatter_group(buf: &[u32], scratch: &mut [u32], l: Line, w: Walk, from: usize, place: usize)
-    requires { ⌜ GroupFits l w from place (now buf) (now scratch) × Apart (stands w place) (w .size) ⌝ }
+    requires { ⌜ GroupFits l w from place (w .size) (now buf) (now scratch) × Apart (stands w place) (w .size) ⌝ }
     ensures { λ _. ⌜ Filled (stands w place) (λ t. getD (now (buf .entry)) (posOn l (from + t)) 0) (w .size) (now (scratch .entry)) (now (scratch .exit)) ⌝ }
 {
     let start = l.start;
@@ -111,28 +169,45 @@ fn scatter(buf: &[u32], scratch: &mut [u32], s: GroupedSides, l: Line)
     }
 }
 
-// The first words of scratch go back to the line.
-fn put_back(buf: &mut [u32], scratch: &[u32], l: Line)
-    requires { ⌜ Inside l (l .count) (now buf) × (0 < l .stride) × (l .count ≤ length (now scratch)) ⌝ }
-    ensures { λ _. ⌜ Returned l (now (scratch .entry)) (now (buf .entry)) (now (buf .exit)) ⌝ }
+// The first `until` words of scratch go back to the line.
+pub(crate) fn put_back(buf: &mut [u32], scratch: &[u32], l: Line, until: usize)
+    requires { ⌜ Inside l until (now buf) × (0 < l .stride) × (until ≤ length (now scratch)) ⌝ }
+    ensures { λ _. ⌜ Filled (posOn l) (λ k. getD (now (scratch .entry)) k 0) until (now (buf .entry)) (now (buf .exit)) ⌝ }
 {
     let start = l.start;
     let stride = l.stride;
-    for k in 0..l.count {
+    for k in 0..until {
         buf[start + stride * k] = scratch[k];
     }
 }
 
-// Scratch receives the line as its pass leaves it.
-fn lift(buf: &[u32], scratch: &mut [u32], s: GroupedSides, l: Line)
-    requires { ⌜ Grouped s × Fits (s .m) (s .n) l (now buf) (now scratch) ⌝ }
-    ensures { λ _. ⌜ Lifted l (toPlace (s .m) (s .n) l) (fromPlace (s .m) (s .n) l) (now (buf .entry)) (now (scratch .entry)) (now (scratch .exit)) ⌝ }
+// Whether a line is gathered from its sources: forwards in pass 2.
+fn by_sources(pass: usize, forwards: bool) -> bool
+    ensures { λ r. ⌜ r ≡ (forwards && eqb pass 2) ⌝ }
 {
-    if l.pass == 2 {
-        scatter(buf, scratch, s, l);
+    if forwards {
+        return pass == 2;
+    }
+    false
+}
+
+// Scratch receives, in rising place, the first `until` words of the line: forwards as its pass leaves it, else those that its places are paired with.
+pub(crate) fn lift(
+    buf: &[u32],
+    scratch: &mut [u32],
+    s: GroupedSides,
+    l: Line,
+    until: usize,
+    forwards: bool,
+)
+    requires { ⌜ Grouped s × Fits (s .m) (s .n) l (now buf) (now scratch) × (until ≤ l .count) ⌝ }
+    ensures { λ _. ⌜ Filled (λ k. k) (λ k. getD (now (buf .entry)) (posOn l (taken (s .m) (s .n) l forwards k)) 0) until (now (scratch .entry)) (now (scratch .exit)) ⌝ }
+{
+    if by_sources(l.pass, forwards) {
+        gather_row(buf, scratch, s, l, until);
         return;
     }
-    gather(buf, scratch, s, l);
+    gather(buf, scratch, s, l, until);
 }
 
 // Scratch receives the line as its pass found it.
@@ -141,19 +216,19 @@ fn lift_home(buf: &[u32], scratch: &mut [u32], s: GroupedSides, l: Line)
     ensures { λ _. ⌜ Lifted l (fromPlace (s .m) (s .n) l) (toPlace (s .m) (s .n) l) (now (buf .entry)) (now (scratch .entry)) (now (scratch .exit)) ⌝ }
 {
     if l.pass == 2 {
-        gather(buf, scratch, s, l);
+        lift(buf, scratch, s, l, l.count, false);
         return;
     }
     scatter(buf, scratch, s, l);
 }
 
-// The line moves as its pass says.
+// The line moves as its pass says, and stands finished in scratch.
 pub(crate) fn forth(buf: &mut [u32], scratch: &mut [u32], s: GroupedSides, l: Line)
     requires { ⌜ Grouped s × Fits (s .m) (s .n) l (now buf) (now scratch) ⌝ }
     ensures { λ _. ⌜ LineMoved (s .m) (s .n) l (now (buf .entry)) (now (buf .exit)) × Past (l .count) (now (scratch .entry)) (now (scratch .exit)) ⌝ }
 {
-    lift(buf, scratch, s, l);
-    put_back(buf, scratch, l);
+    lift(buf, scratch, s, l, l.count, true);
+    put_back(buf, scratch, l, l.count);
 }
 
 // The line moves back to where its pass found it.
@@ -162,5 +237,5 @@ pub(crate) fn back(buf: &mut [u32], scratch: &mut [u32], s: GroupedSides, l: Lin
     ensures { λ _. ⌜ LineMoved (s .m) (s .n) l (now (buf .exit)) (now (buf .entry)) × Past (l .count) (now (scratch .entry)) (now (scratch .exit)) ⌝ }
 {
     lift_home(buf, scratch, s, l);
-    put_back(buf, scratch, l);
+    put_back(buf, scratch, l, l.count);
 }

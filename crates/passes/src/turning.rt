@@ -31,14 +31,17 @@ pub(crate) fn group_sides(m: usize, n: usize) -> GroupedSides
     ensures { λ r. ⌜ (r .m ≡ m) × (r .n ≡ n) × Grouped r ⌝ }
 {
     let c = gcd::gcd(m, n);
+    let a = m / c;
+    let b = n / c;
     GroupedSides {
         m,
         n,
-        a: m / c,
-        b: n / c,
+        a,
+        b,
         c,
         down: n % m,
         across: m % n,
+        inverse: gcd::inverse(a, b),
         skipped: left_out(n, c),
     }
 }

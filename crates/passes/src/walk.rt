@@ -55,7 +55,7 @@ pub(crate) fn straight(w: Walk) -> bool
 }
 
 // A walk in one group, over as many places as its modulus.
-fn one_group(first: usize, step: usize, modulus: usize) -> Walk
+pub(crate) fn one_group(first: usize, step: usize, modulus: usize) -> Walk
     ensures { λ r. ⌜ r ≡ alone first step modulus ⌝ }
 {
     Walk {

@@ -15,12 +15,12 @@ use Rattle.walks.specs.Walk.{walk, starts}
 use Rattle.walks.proofs.Steps.{walk-reduced, starts-again, starts-on}
 
 -- whole groups of b, times m, are whole lines of n
-laps : (a b m n g t : ℕ) → b * m ≡ a * n → (g * b + t) * m ≡ t * m + g * a * n
+pub laps : (a b m n g t : ℕ) → b * m ≡ a * n → (g * b + t) * m ≡ t * m + g * a * n
 laps a b m n g t e =
     add-mul (g * b) t m ∙ ap (λ (z : ℕ). z + t * m) (mul-assoc g b m ∙ ap (λ (z : ℕ). g * z) e ∙ sym (mul-assoc g a n)) ∙ add-comm (g * a * n) (t * m)
 
 module _ {m n : ℕ} (s : Sides m n) where
-  crossed : columnGroup m n * m ≡ rowGroup m n * n
+  pub crossed : columnGroup m n * m ≡ rowGroup m n * n
   crossed =
       let a = rowGroup m n in
       let b = columnGroup m n in
@@ -68,13 +68,18 @@ module _ {m n : ℕ} (s : Sides m n) where
       (eq-or-ne (g + 1) (m - i))
 
   -- place t of group g
-  pub column2-walk : (i g t : ℕ) → i < m → g < gcdOf m n → t < columnGroup m n
-      → column2 m n i (g * columnGroup m n + t) ≡ walk (starts (i % n) 1 n (m - i) g) (m % n) n t
-  unfolding column2 walk
-  column2-walk i g t hi hg ht =
-      ap₂ (λ (y z : ℕ). ((i + y) % m + z) % n) (digits-div g ht) (laps (rowGroup m n) (columnGroup m n) m n g t crossed)
+  pub column2-at : (i g t : ℕ) → t < columnGroup m n → column2 m n i (g * columnGroup m n + t) ≡ ((i + g) % m + t * m) % n
+  unfolding column2
+  column2-at i g t h =
+      ap₂ (λ (y z : ℕ). ((i + y) % m + z) % n) (digits-div g h) (laps (rowGroup m n) (columnGroup m n) m n g t crossed)
       ∙ ap (λ (z : ℕ). z % n) (sym (add-assoc ((i + g) % m) (t * m) (g * rowGroup m n * n)))
       ∙ add-mul-mod-self-right ((i + g) % m + t * m) (g * rowGroup m n) n
+
+  pub column2-walk : (i g t : ℕ) → i < m → g < gcdOf m n → t < columnGroup m n
+      → column2 m n i (g * columnGroup m n + t) ≡ walk (starts (i % n) 1 n (m - i) g) (m % n) n t
+  unfolding walk
+  column2-walk i g t hi hg ht =
+      column2-at i g t ht
       ∙ walk-reduced ((i + g) % m) m n t
       ∙ ap (λ (z : ℕ). walk z (m % n) n t) (sym (column2-starts i g hi hg))
 

@@ -1,27 +1,30 @@
--- `gather` meets its contract: after g groups of the walk the first g · size words are in scratch.
-use mathlib.Core.Path.{_≡_, refl, sym, ap, _∙_}
+-- `gather` meets its contract: after g groups of the walk the first g · size words are in scratch, or the first `until` if those are fewer.
+use mathlib.Core.Path.{_≡_, refl, sym, ap, _∙_, subst}
+use mathlib.Core.Logic.{⊎-elim}
 use Prim.Native.Nat.{ℕ, _+_, _*_, _-_, _<_, _≤_}
 use native.Mathlib.Omega.{arith}
 use native.Mathlib.Nat.{add-mul, one-mul, zero-mul}
 use borrow.Author.Needs.{needs}
 use lib.ListN.{length, getD}
+use Rattle.lists.proofs.Decide.{lt-or-ge}
 use Rattle.passes.specs.Lines.{posOn, paired}
 use Rattle.passes.specs.ThroughScratch.{Follows, GroupFits, Filled, startOf, stands}
 use Rattle.walks.specs.Walk.{starts}
-use Rattle.passes.proofs.Filled.{filled-none, filled-on, all-lifted}
-use Rattle.passes.proofs.Walks.{straight-gathered, start-on, group-inside, group-fits}
+use Rattle.passes.proofs.Filled.{filled-none, filled-on}
+use Rattle.passes.proofs.Walks.{first-run, second-run, start-on, group-fits}
 use Rattle.passes.proofs.line.gather.Statement.{statement}
 use Rattle.passes.proofs.line.gather.Tie as tie
 
 abbrev Inv-loop : tie.InvT-loop
-Inv-loop buf scratch₀ l w from₀ place₀ g₀ g-end scratch from place g =
+Inv-loop buf scratch₀ l until w from₀ place₀ g₀ g-end scratch from place g =
     (g ≤ w .groups)
-    × (from ≡ g * w .size)
+    × (from ≤ until)
+    × (from < until → from ≡ g * w .size)
     × (place ≡ startOf w g)
-    × ((f : ℕ → ℕ) → Follows w (l .count) f → Filled (λ k. k) (λ k. getD buf (posOn l (f k)) 0) (g * w .size) scratch₀ scratch)
+    × ((f : ℕ → ℕ) → Follows w (l .count) f → Filled (λ k. k) (λ k. getD buf (posOn l (f k)) 0) from scratch₀ scratch)
 
 abbrev μ-loop : tie.MeasureT-loop
-μ-loop buf scratch₀ l w from₀ place₀ g₀ g-end scratch from place g = w .groups - g
+μ-loop buf scratch₀ l until w from₀ place₀ g₀ g-end scratch from place g = w .groups - g
 
 -- the places that the answers look back to
 abbrev Start : Type 0
@@ -33,86 +36,85 @@ Walked = tie.After-walk-of Inv-loop μ-loop
 abbrev Loop : Type 0
 Loop = tie.At-loop Inv-loop μ-loop
 
+abbrev Size : Type 0
+Size = tie.After-smaller Inv-loop μ-loop
+
+copy-runs-requires : tie.Need-copy-runs-requires Inv-loop μ-loop
+copy-runs-requires c κs =
+    let w : Walked = search in
+    let x : Start = search in
+    let y = w .walk-of .ensures in
+    (λ k h. x .pre .1 .inside k (omega (arith, y)), omega (arith, y), omega (arith, y))
+
+returns : tie.Need-returns Inv-loop μ-loop
+returns c =
+    let r : tie.After-copy-runs Inv-loop μ-loop = search in
+    let t : tie.Then1 Inv-loop μ-loop = search in
+    let s : tie.After-straight Inv-loop μ-loop = search in
+    let w : Walked = search in
+    let x : Start = search in
+    let y = w .walk-of .ensures in
+    let e = sym (s .straight .ensures) ∙ t .if1 .taken in
+    r .copy-runs .ensures .1 _ (first-run (x .args .l) y e) (second-run (x .args .l) y e)
+
+loop-holds : tie.Need-loop-holds Inv-loop μ-loop
+unfolding starts
+loop-holds c =
+    let w : Walked = search in
+    (omega arith, omega arith, λ _. sym (zero-mul _), refl, λ f h. filled-none _ _ _)
+
 -- the group at hand
-fits : (c : tie.In-loop Inv-loop μ-loop)
-    → let l = c .before in
+fits : (c : Size)
+    → let l = c .before .before in
     let w = l .before .before .before in
     let a = w .before .before .before .args in
-    GroupFits (a .l) (w .walk-of .result) (l .loop .from) (l .loop .place) (a .buf .now) (l .loop .scratch)
+    GroupFits (a .l) (w .walk-of .result) (l .loop .from) (l .loop .place) (c .smaller .result) (a .buf .now) (l .loop .scratch)
 fits c =
     let l : Loop = search in
     let w : Walked = search in
     let x : Start = search in
     let y = w .walk-of .ensures in
     let v = l .loop .inv in
-    group-fits y (l .loop .g) (omega arith) (v .1) (v .2) (x .pre .1 .inside) (rw (v .3 _ y .same) (x .pre .1 .room))
-
--- the two runs of a straight walk
-abbrev First : Type 0
-First = tie.After-copy-run Inv-loop μ-loop
-
-abbrev Second : Type 0
-Second = tie.After-copy-run2 Inv-loop μ-loop
-
-copy-run-requires : tie.Need-copy-run-requires Inv-loop μ-loop
-copy-run-requires c κs =
-    let w : Walked = search in
-    let x : Start = search in
-    let y = w .walk-of .ensures in
-    (λ k h. x .pre .1 .inside k (omega (arith, y)), omega (arith, y), omega (arith, y))
-
-copy-run-requires-2 : tie.Need-copy-run-requires-2 Inv-loop μ-loop
-copy-run-requires-2 c κs =
-    let a : First = search in
-    let w : Walked = search in
-    let x : Start = search in
-    let y = w .walk-of .ensures in
-    let e = a .copy-run .ensures .same in
-    (λ k h. x .pre .1 .inside k (omega (arith, y)), omega (arith, y, e), omega (arith, y, e))
-
-returns : tie.Need-returns Inv-loop μ-loop
-returns c =
-    let b : Second = search in
-    let a : First = search in
-    let t : tie.Then1 Inv-loop μ-loop = search in
-    let s : tie.After-straight Inv-loop μ-loop = search in
-    let w : Walked = search in
-    let x : Start = search in
-    straight-gathered (x .args .l) (w .walk-of .ensures) (sym (s .straight .ensures) ∙ t .if1 .taken) (a .copy-run .ensures) (b .copy-run2 .ensures)
-
-loop-holds : tie.Need-loop-holds Inv-loop μ-loop
-unfolding starts
-loop-holds c =
-    let w : Walked = search in
-    (omega arith, sym (zero-mul _), refl, λ f h. rw (zero-mul (w .walk-of .result .size)) (filled-none _ _ _))
+    group-fits y (l .loop .g) (omega arith) (omega (arith, c .smaller .ensures .1, x .pre .2)) (v .3) (x .pre .1 .inside) (rw (v .4 _ y .same) (x .pre .1 .room))
 
 loop-again : tie.Need-loop-again Inv-loop μ-loop
 loop-again c =
     let n : tie.After-gather-group Inv-loop μ-loop = search in
+    let z : Size = search in
     let l : Loop = search in
     let w : Walked = search in
     let x : Start = search in
     let v = l .loop .inv in
     let g = l .loop .g in
     let size = w .walk-of .result .size in
-    let e : g * size + size ≡ (g + 1) * size = omega (arith, add-mul g 1 size, one-mul size) in
-    let b = x .args .buf .now in (
+    let b = x .args .buf .now in
+    let e = z .smaller .ensures in (
       omega arith,
-      ap (λ (z : ℕ). z + size) (v .1) ∙ e,
-      start-on (w .walk-of .result) g (v .2) (c .next-start .ensures),
+      omega (arith, e .1),
+      λ h.
+          let q = v .2 (omega arith) in
+          let w-is : z .smaller .result ≡ size = e .2 (omega arith) in
+          omega (arith, add-mul g 1 size, one-mul size),
+      start-on (w .walk-of .result) g (v .3) (c .next-start .ensures),
       λ f y.
-          rw (← e) (filled-on (λ i j _ _ q. q) (group-inside y g (omega arith)) (λ t d. ap (λ (z : ℕ). z + t) (sym (v .1)))
-          (λ t d. ap (λ (z : ℕ). getD b (posOn (x .args .l) z) 0) (y .pairs g t (omega arith) d ∙ ap (λ (z : ℕ). stands (w .walk-of .result) z t) (sym (v .2))))
-          (v .3 f y) (n .gather-group .ensures)),
+          filled-on {count = x .args .l .count} (λ i j _ _ q. q) (omega (arith, e .1, x .pre .2)) (λ t d. refl)
+          (λ t d.
+          let q = v .2 (omega (arith, e .1)) in
+          ap (λ (k : ℕ). getD b (posOn (x .args .l) k) 0)
+          (ap (λ (k : ℕ). f (k + t)) q ∙ y .pairs g t (omega arith) (omega (arith, e .0)) ∙ ap (λ (k : ℕ). stands (w .walk-of .result) k t) (sym (v .3))))
+          (v .4 f y) (n .gather-group .ensures),
     )
 
 returns-2 : tie.Need-returns-2 Inv-loop μ-loop
 returns-2 c =
     let l : Loop = search in
     let w : Walked = search in
+    let x : Start = search in
     let y = w .walk-of .ensures in
-    let e : l .loop .g ≡ w .walk-of .result .groups = omega arith in
-    all-lifted (λ j d. d) (l .loop .inv .3 _ y) (ap (λ (z : ℕ). z * w .walk-of .result .size) e ∙ y .whole)
+    let v = l .loop .inv in
+    let all : l .loop .g * w .walk-of .result .size ≡ x .args .l .count = ap (λ (z : ℕ). z * w .walk-of .result .size) (omega arith) ∙ y .whole in
+    let e : l .loop .from ≡ x .args .until = ⊎-elim (λ (h : l .loop .from < x .args .until). omega (arith, v .2 h, x .pre .2)) (λ (h : x .args .until ≤ l .loop .from). omega arith) (lt-or-ge (l .loop .from) (x .args .until)) in
+    rw e at (v .4 _ y)
 
 pub gather-spec : {M : Type 1} → statement M
 gather-spec =
@@ -123,17 +125,18 @@ gather-spec =
     (λ c κs. let x : Start = search in (x .pre .0, x .pre .1 .of-pass))
     (λ c κs. search needs)
     (λ c. let w : Walked = search in omega (arith, w .walk-of .ensures))
-    copy-run-requires
-    copy-run-requires-2
-    (λ c. let b : Second = search in let a : First = search in b .copy-run2 .ensures .same ∙ a .copy-run .ensures .same)
+    copy-runs-requires
+    (search needs)
     returns
     loop-holds
+    (search needs)
+    (λ c κs. search needs)
     (λ c κs. fits (search))
-    (λ c. omega (arith, fits (search)))
+    (λ c. let l : Loop = search in let z : Size = search in let x : Start = search in omega (arith, z .smaller .ensures .1, fits (search), x .pre))
     (search needs)
     (λ c κs. let w : Walked = search in (fits (search) .low, w .walk-of .ensures .shifts))
     (search needs)
     (search needs)
     loop-again
-    (λ c. let l : Loop = search in let w : Walked = search in l .loop .inv .3 _ (w .walk-of .ensures) .same)
+    (λ c. let l : Loop = search in let w : Walked = search in l .loop .inv .4 _ (w .walk-of .ensures) .same)
     returns-2)

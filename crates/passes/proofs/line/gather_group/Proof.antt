@@ -12,11 +12,11 @@ use Rattle.passes.proofs.line.gather_group.Statement.{statement}
 use Rattle.passes.proofs.line.gather_group.Tie as tie
 
 abbrev Inv-loop : tie.InvT-loop
-Inv-loop buf scratch₀ w from place start stride p₀ t₀ t-end scratch p t =
-    (t ≤ w .size) × (p ≡ stands w place t) × Filled (λ j. from + j) (λ j. getD buf (start + stride * stands w place j) 0) t scratch₀ scratch
+Inv-loop buf scratch₀ w from place size start stride p₀ t₀ scratch p t =
+    (t ≤ size) × (p ≡ stands w place t) × Filled (λ j. from + j) (λ j. getD buf (start + stride * stands w place j) 0) t scratch₀ scratch
 
 abbrev μ-loop : tie.MeasureT-loop
-μ-loop buf scratch₀ w from place start stride p₀ t₀ t-end scratch p t = w .size - t
+μ-loop buf scratch₀ w from place size start stride p₀ t₀ scratch p t = size - t
 
 -- the places that the answers look back to
 abbrev Start : Type 0
@@ -42,14 +42,14 @@ loop-again c =
     let w = x .args .w in (
       omega arith,
       c .step-on .ensures ∙ ap (λ (z : ℕ). (z + w .step) % w .modulus) (l .loop .inv .1) ∙ sym (walk-more _ _ _ _),
-      rw (l .loop .inv .1) (filled-more {count = w .size} (λ i j _ _ e. omega arith) (omega arith) (omega arith) (l .loop .inv .2)),
+      rw (l .loop .inv .1) (filled-more {count = x .args .size} (λ i j _ _ e. omega arith) (omega arith) (omega arith) (l .loop .inv .2)),
     )
 
 returns : tie.Need-returns Inv-loop μ-loop
 returns c =
     let l : Loop = search in
     let x : Start = search in
-    let e : l .loop .t ≡ x .args .w .size = omega arith in
+    let e : l .loop .t ≡ x .args .size = omega arith in
     rw e at (l .loop .inv .2)
 
 pub gather-group-spec : {M : Type 1} → statement M

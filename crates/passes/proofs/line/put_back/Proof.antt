@@ -12,10 +12,10 @@ use Rattle.passes.proofs.line.put_back.Statement.{statement}
 use Rattle.passes.proofs.line.put_back.Tie as tie
 
 abbrev Inv-loop : tie.InvT-loop
-Inv-loop buf₀ scratch start stride k₀ k-end buf k = (k ≤ k-end) × Filled (λ j. start + stride * j) (λ j. getD scratch j 0) k buf₀ buf
+Inv-loop buf₀ scratch until start stride k₀ buf k = (k ≤ until) × Filled (λ j. start + stride * j) (λ j. getD scratch j 0) k buf₀ buf
 
 abbrev μ-loop : tie.MeasureT-loop
-μ-loop buf₀ scratch start stride k₀ k-end buf k = k-end - k
+μ-loop buf₀ scratch until start stride k₀ buf k = until - k
 
 -- the place that is written lies in the buffer
 inside : (c : tie.In-loop Inv-loop μ-loop) → let a = c .before .before .args in posOn (a .l) (c .before .loop .k) < length (a .buf .now)
@@ -29,13 +29,13 @@ loop-again : tie.Need-loop-again Inv-loop μ-loop
 loop-again c =
     let l : tie.At-loop Inv-loop μ-loop = search in
     let x : tie.Start Inv-loop μ-loop = search in
-    (omega arith, filled-more (apart (x .args .l .start) (x .args .l .stride) (x .args .l .count) (x .pre .1)) (omega arith) (inside (search)) (l .loop .inv .1))
+    (omega arith, filled-more (apart (x .args .l .start) (x .args .l .stride) (x .args .until) (x .pre .1)) (omega arith) (inside (search)) (l .loop .inv .1))
 
 returns : tie.Need-returns Inv-loop μ-loop
 returns c =
     let l : tie.At-loop Inv-loop μ-loop = search in
     let x : tie.Start Inv-loop μ-loop = search in
-    let e : l .loop .k ≡ x .args .l .count = omega arith in
+    let e : l .loop .k ≡ x .args .until = omega arith in
     rw e at (l .loop .inv .1)
 
 pub put-back-spec : {M : Type 1} → statement M

@@ -38,14 +38,14 @@ fits : (c : tie.In-loop Inv-loop μ-loop)
     → let l = c .before in
     let w = l .before .before .before in
     let a = w .before .before .before .args in
-    GroupFits (a .l) (w .walk-of .result) (l .loop .from) (l .loop .place) (a .buf .now) (l .loop .scratch)
+    GroupFits (a .l) (w .walk-of .result) (l .loop .from) (l .loop .place) (w .walk-of .result .size) (a .buf .now) (l .loop .scratch)
 fits c =
     let l : Loop = search in
     let w : Walked = search in
     let x : Start = search in
     let y = w .walk-of .ensures in
     let v = l .loop .inv in
-    group-fits y (l .loop .g) (omega arith) (v .1) (v .2) (x .pre .1 .inside) (rw (v .3 _ y (x .pre .1 .apart) .same) (x .pre .1 .room))
+    group-fits y (l .loop .g) (omega arith) (omega (arith, v .1, group-inside y (l .loop .g) (omega arith))) (v .2) (x .pre .1 .inside) (rw (v .3 _ y (x .pre .1 .apart) .same) (x .pre .1 .room))
 
 -- the two runs of a straight walk
 abbrev First : Type 0

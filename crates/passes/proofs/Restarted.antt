@@ -1,0 +1,172 @@
+-- Restart: a mapped turn begun at progress 0, stopped by any run of budgets and gone on with, leaves the flat turn once a budget is enough.
+-- Every call of the run is accepted, so it leaves what `run` of crate stages leaves; its stages can be begun again; and uncut they
+-- move the lines of the turn one after the other. A budget of 10,000,000 is enough from every stage on.
+use mathlib.Core.Path.{_≡_, refl, sym, ap, _∙_, subst}
+use mathlib.Core.List.{List, [], _∷_}
+use Prim.Native.Nat.{ℕ, suc, _+_, _*_, _<_, _≤_}
+use native.Mathlib.Omega.{arith}
+use native.Mathlib.Nat.{eq-of-mul-eq-mul-left}
+use lib.ListN.{length, take}
+use Rattle.refusals.specs.FirstOf.{firstOf}
+use Rattle.refusals.specs.Calls.{blockChecks, passesChecks}
+use Rattle.refusals.specs.Scratch.{need, cleared}
+use Rattle.refusals.proofs.Calls.{block-good, room-passed}
+use Rattle.flat.specs.Turn.{sides, Turn}
+use Rattle.flat.proofs.Turn.{one-turn}
+use Rattle.flat.proofs.Sides.{Sides, sides-are}
+use Rattle.stages.specs.Stages.{Memory, after, remaining, call, finish, run}
+use Rattle.stages.specs.Lines.{stagesOf}
+use Rattle.stages.specs.Stops.{Stops}
+use Rattle.stages.proofs.Stores.{after-long}
+use Rattle.stages.proofs.Calls.{call-done, call-enough, finish-counts}
+use Rattle.stages.proofs.Lines.{steady}
+use Rattle.stages.proofs.Restart.{call-within, still-enough, restart}
+use Rattle.stages.proofs.Stops.{loose, stops-resumed, stops-within, stops-long}
+use Rattle.stages.proofs.Moves as moves
+use Rattle.passes.specs.Lines.{Moved, lineCount, lineOf, lineAt, skipped, posOn, received, LineMoved}
+use Rattle.passes.specs.ThroughScratch.{Fits}
+use Rattle.passes.specs.Promises.{TurnPromise}
+use Rattle.passes.specs.Restart.{memory, turnLines, turnStages, resumeChecks, ResumePromise, Finished, Restarts}
+use Rattle.passes.specs.Restart.Restarts.{none, more}
+use Rattle.passes.proofs.Accepted.{Accepted, flat-accepted, flat-lies, flat-turned}
+use Rattle.passes.proofs.Fits.{line-fits, line-short}
+use Rattle.passes.proofs.Lifted.{received-moved}
+use Rattle.passes.proofs.Strided.{LineStep, skipped-le, skipped-few, lines-turn}
+use Rattle.passes.proofs.Ran.{Ran, ran-more}
+use Rattle.passes.proofs.Ran.Ran.{done}
+use Rattle.passes.proofs.Stores.{at-most}
+use Rattle.passes.proofs.Resumed.{flat-passed, in-range, within-range}
+
+-- a memory that a call of the turn of m by n accepts
+record Good (m n : ℕ) (x : Memory) : Type 0 where
+  pub flat : firstOf (passesChecks (sides m n) (x .buffer) (x .scratch)) ≡ 0
+  pub few : x .progress ≤ lineCount m n * 2 + 1
+
+-- from every stage on 10,000,000 stores are enough
+pub enough : (m n : ℕ) (x : Memory) → firstOf (resumeChecks m n x) ≡ 0 → length (remaining (turnStages m n) x) ≤ 10000000
+enough m n x e =
+    let a = flat-accepted m n (x .buffer) (x .scratch) (flat-passed m n x e) in
+    omega (arith, at-most m n (skipped-few m n (a .m-pos) (a .n-pos)) (a .m-few) (a .n-few) (a .few) x)
+
+-- the checks read lengths
+same-lengths : (m n : ℕ) (x y : Memory) → length (y .buffer) ≡ length (x .buffer) → length (y .scratch) ≡ length (x .scratch)
+    → firstOf (passesChecks (sides m n) (x .buffer) (x .scratch)) ≡ 0 → firstOf (passesChecks (sides m n) (y .buffer) (y .scratch)) ≡ 0
+same-lengths m n x y e f good =
+    let a = flat-accepted m n (x .buffer) (x .scratch) good in
+    let block : firstOf (blockChecks (sides m n) (y .buffer)) ≡ 0 = rw e (block-good (sides m n) (x .buffer) (x .scratch) good) in
+    sym (room-passed (sides m n) (y .buffer) (y .scratch) block (rw f (a .room)))
+
+module _ {m n : ℕ} where
+  good-accepted : {x : Memory} → Good m n x → firstOf (resumeChecks m n x) ≡ 0
+  good-accepted {x} g = in-range m n x (g .flat) (g .few)
+
+  accepted-good : (x : Memory) → firstOf (resumeChecks m n x) ≡ 0 → Good m n x
+  accepted-good x e = record { flat = flat-passed m n x e; few = within-range m n x e }
+
+  -- stores change no length
+  good-call : (b : ℕ) {x : Memory} → Good m n x → Good m n (call (turnStages m n) b x)
+  unfolding stagesOf
+  good-call b {x} g =
+      let long = after-long (take b (remaining (turnStages m n) x)) x in
+      record {
+        flat = same-lengths m n x (call (turnStages m n) b x) (long .0) (long .1) (g .flat);
+        few = call-within (steady (turnLines m n)) x b (g .few);
+      }
+
+  -- every call of a run is accepted
+  restarts-run : {bs : List ℕ} {x y : Memory} → Good m n x → Restarts m n bs x y → (y ≡ run (turnStages m n) bs x) × Good m n y
+  restarts-run g none = (refl, g)
+  restarts-run {x = x} g (more {b = b} {bs = bs} {y = y} {z = z} p r) =
+      let e : y ≡ call (turnStages m n) b x = p .stored (p .number-is ∙ good-accepted g) in
+      let i = restarts-run (subst (Good m n) (sym e) (good-call b g)) r in
+      (i .0 ∙ ap (run (turnStages m n) bs) e, i .1)
+
+  module _ {b₀ sc₀ : List ℕ} (a : Accepted m n b₀ sc₀) where
+    flat-sides : Sides m n
+    flat-sides = sides-are m n (a .m-pos) (a .n-pos)
+
+    fits : (t : ℕ) → t < lineCount m n → Fits m n (lineOf m n 0 1 t) b₀ sc₀
+    fits t h = line-fits (a .m-pos) (a .n-pos) (flat-lies a) (skipped m n + t) (omega (arith, skipped-few m n (a .m-pos) (a .n-pos)))
+
+    -- the lines lie in the buffer
+    lines-fit : moves.Fit (turnLines m n) b₀ sc₀
+    lines-fit = record {
+      inside = λ t k h d. fits t h .inside k d;
+      apart = λ t j k h _ _ e. eq-of-mul-eq-mul-left (lineOf m n 0 1 t .stride) (fits t h .step) j k (omega arith);
+      short = λ t h. line-short m n 0 1 (skipped m n + t) (omega (arith, skipped-few m n (a .m-pos) (a .n-pos)));
+      room = a .room;
+    }
+
+    -- the lines so far have moved, one after the other
+    abbrev Through : ℕ → List ℕ → Type 0
+    Through t xs = Ran (LineStep m n 0 1) (skipped m n + t) (skipped m n) b₀ xs
+
+    through-none : Through 0 b₀
+    through-none = subst (λ (d : ℕ). Ran (LineStep m n 0 1) d (skipped m n) b₀ b₀) (omega arith) done
+
+    through-more : (t : ℕ) (xs ys : List ℕ) → t < lineCount m n → Through t xs → moves.LineMoved (turnLines m n) t xs ys → Through (suc t) ys
+    through-more t xs ys h r p =
+        let l = lineOf m n 0 1 t in
+        let q : Moved (l .count) (posOn l) (λ k. k) (received m n (l .pass) (l .index)) xs ys = record { same = p .same; placed = p .placed; others = p .others } in
+        subst (λ (d : ℕ). Ran (LineStep m n 0 1) d (skipped m n) b₀ ys) (omega arith)
+        (ran-more r (received-moved l flat-sides (fits t h .of-pass) (fits t h .within) q))
+
+    -- so an uncut turn from the start is finished
+    uncut : Finished m n b₀ sc₀ (finish (turnStages m n) (memory b₀ sc₀ 0))
+    uncut =
+        let e = moves.turn-ends lines-fit Through through-more through-none in
+        let y = finish (turnStages m n) (memory b₀ sc₀ 0) in
+        let all : skipped m n + lineCount m n ≡ n + m + n = omega (arith, skipped-few m n (a .m-pos) (a .n-pos)) in
+        record {
+          turned = flat-turned m n b₀ (y .buffer)
+              (lines-turn m n 0 1 (a .m-pos) (a .n-pos) (omega arith) (skipped m n) (skipped-le m n (a .m-pos) (a .n-pos))
+              (subst (λ (d : ℕ). Ran (LineStep m n 0 1) d (skipped m n) b₀ (y .buffer)) all (e .moved)));
+          zeroed = e .cleared;
+          counted = e .counted;
+        }
+
+  -- after any run of budgets from progress 0, one that is enough for what then remains finishes the turn, with the very words of an uncut one
+  pub restarted : {bs : List ℕ} {b r : ℕ} {b₀ sc₀ : List ℕ} {x y : Memory} → firstOf (passesChecks (sides m n) b₀ sc₀) ≡ 0
+      → Restarts m n bs (memory b₀ sc₀ 0) x → ResumePromise m n b x r y → length (remaining (turnStages m n) x) ≤ b
+      → (r ≡ 0) × (y ≡ finish (turnStages m n) (memory b₀ sc₀ 0)) × Finished m n b₀ sc₀ y
+  restarted {bs} {b} {r} {b₀} {sc₀} {x} {y} good rs p enough =
+      let i = restarts-run (record { flat = good; few = omega arith }) rs in
+      let z : r ≡ 0 = p .number-is ∙ good-accepted (i .1) in
+      let h : length (remaining (turnStages m n) (run (turnStages m n) bs (memory b₀ sc₀ 0))) ≤ b = rw (i .0) at enough in
+      let e : y ≡ finish (turnStages m n) (memory b₀ sc₀ 0) =
+      p .stored z ∙ ap (call (turnStages m n) b) (i .0) ∙ restart (steady (turnLines m n)) bs b (memory b₀ sc₀ 0) h in
+      (z, e, subst (Finished m n b₀ sc₀) (sym e) (uncut (flat-accepted m n b₀ sc₀ good)))
+
+  -- the same where the stops kept no order within a stage, as a machine may
+  pub restarted-from : {b r : ℕ} {b₀ sc₀ : List ℕ} {x y : Memory} → firstOf (passesChecks (sides m n) b₀ sc₀) ≡ 0
+      → Stops (turnStages m n) (memory b₀ sc₀ 0) x → ResumePromise m n b x r y → 10000000 ≤ b
+      → (r ≡ 0) × (y ≡ finish (turnStages m n) (memory b₀ sc₀ 0)) × Finished m n b₀ sc₀ y
+  unfolding stagesOf
+  restarted-from {b} {r} {b₀} {sc₀} {x} {y} good stops p h =
+      let long = stops-long stops in
+      let flat = same-lengths m n (memory b₀ sc₀ 0) x (long .0) (long .1) good in
+      let few : x .progress ≤ lineCount m n * 2 + 1 = stops-within (loose (turnLines m n)) stops (omega arith) in
+      let z : r ≡ 0 = p .number-is ∙ in-range m n x flat few in
+      let e : y ≡ finish (turnStages m n) (memory b₀ sc₀ 0) =
+      p .stored z ∙ call-enough (turnStages m n) b x (omega (arith, enough m n x (in-range m n x flat few))) ∙ stops-resumed (loose (turnLines m n)) stops .ends in
+      (z, e, subst (Finished m n b₀ sc₀) (sym e) (uncut (flat-accepted m n b₀ sc₀ good)))
+
+  -- which are the words that the flat turn leaves, in the buffer and in scratch
+  pub as-the-turn : {b₀ sc₀ b sc : List ℕ} {y : Memory} → Finished m n b₀ sc₀ y → TurnPromise m n b₀ sc₀ 0 b sc → (y .buffer ≡ b) × (y .scratch ≡ sc)
+  as-the-turn f t = (one-turn (f .turned) (t .words refl), f .zeroed ∙ sym (t .zeroed refl))
+
+  -- so a budget of 10,000,000 always finishes: every stage is counted
+  pub always-finishes : {b : ℕ} {x y : Memory} → 10000000 ≤ b → ResumePromise m n b x 0 y → (y ≡ finish (turnStages m n) x) × (y .progress ≡ lineCount m n * 2 + 1)
+  unfolding stagesOf
+  always-finishes {b} {x} {y} h p =
+      let good = sym (p .number-is) in
+      let e : y ≡ finish (turnStages m n) x = p .stored refl ∙ call-enough (turnStages m n) b x (omega (arith, enough m n x good)) in
+      (e, ap (λ (z : Memory). z .progress) e ∙ finish-counts (turnStages m n) x (accepted-good x good .few))
+
+  -- a budget of 0 changes nothing; where every stage is counted nothing is stored, and scratch is not cleared again
+  pub no-budget : {x y : Memory} → ResumePromise m n 0 x 0 y → y ≡ x
+  no-budget p = p .stored refl
+
+  pub nothing-left : {b : ℕ} {x y : Memory} → ResumePromise m n b x 0 y → x .progress ≡ lineCount m n * 2 + 1 → y ≡ x
+  unfolding stagesOf
+  nothing-left {b} {x} p e = p .stored refl ∙ call-done (turnStages m n) b x (omega arith)

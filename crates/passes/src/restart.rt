@@ -1,0 +1,79 @@
+// A turn in stages: two a line, into scratch and back, then the clearing. Each stage is counted in the progress word after its words.
+use crate::line;
+use crate::line::GroupedSides;
+use crate::scratch;
+use crate::turning;
+ghost use mathlib.Core.Path.{_≡_};
+ghost use Prim.Native.Nat.{_+_, _*_, _≤_};
+ghost use lib.ListN.{take};
+ghost use Rattle.stages.specs.Stages.{after, call};
+ghost use Rattle.stages.specs.Lines.{stagesOf};
+ghost use Rattle.passes.specs.Lines.{lineCount};
+ghost use Rattle.passes.specs.ThroughScratch.{Grouped, Mapped, stageWords};
+ghost use Rattle.passes.specs.Restart.{memory, turnStages};
+
+// How many stages a turn has.
+pub(crate) fn stage_count(s: GroupedSides) -> usize
+    requires { ⌜ Grouped s ⌝ }
+    ensures { λ r. ⌜ r ≡ lineCount (s .m) (s .n) * 2 + 1 ⌝ }
+{
+    turning::line_count(s) * 2 + 1
+}
+
+// How many words stage p stores.
+fn stage_words(s: GroupedSides, p: usize) -> usize
+    requires { ⌜ Grouped s ⌝ }
+    ensures { λ r. ⌜ r ≡ stageWords (s .m) (s .n) p ⌝ }
+{
+    if p < turning::line_count(s) * 2 {
+        let line = turning::line_of(s, 0, 1, p / 2);
+        return line.count;
+    }
+    let lens = [s.m, s.n];
+    checks::longest_of(&lens)
+}
+
+// The first `until` words of stage p are stored.
+fn store(buf: &mut [u32], scratch: &mut [u32], s: GroupedSides, p: usize, until: usize)
+    requires { ⌜ Mapped s (now buf) (now scratch) × (until ≤ stageWords (s .m) (s .n) p) ⌝ }
+    ensures { λ _. ⌜ memory (now (buf .exit)) (now (scratch .exit)) p ≡ after (take until (turnStages (s .m) (s .n) .words p (memory (now (buf .entry)) (now (scratch .entry)) p))) (memory (now (buf .entry)) (now (scratch .entry)) p) ⌝ }
+{
+    if turning::line_count(s) * 2 <= p {
+        scratch::zero(scratch, until);
+        return;
+    }
+    let line = turning::line_of(s, 0, 1, p / 2);
+    if p % 2 == 0 {
+        line::lift(buf, scratch, s, line, until, true);
+        return;
+    }
+    line::put_back(buf, scratch, line, until);
+}
+
+// The turn goes on from the stage that the progress word names, and stops after `budget` stores.
+pub(crate) fn go_on(
+    buf: &mut [u32],
+    scratch: &mut [u32],
+    progress: &mut u32,
+    s: GroupedSides,
+    budget: usize,
+)
+    requires { ⌜ Mapped s (now buf) (now scratch) × (now progress ≤ lineCount (s .m) (s .n) * 2 + 1) ⌝ }
+    ensures { λ _. ⌜ memory (now (buf .exit)) (now (scratch .exit)) (now (progress .exit)) ≡ call (turnStages (s .m) (s .n)) budget (memory (now (buf .entry)) (now (scratch .entry)) (now (progress .entry))) ⌝ }
+{
+    let total = stage_count(s);
+    let mut left = budget;
+    let mut p = *progress as usize;
+    while 0 < left && p < total {
+        let words = stage_words(s, p);
+        if left <= words {
+            store(buf, scratch, s, p, left);
+            left = 0;
+        } else {
+            store(buf, scratch, s, p, words);
+            p += 1;
+            *progress = p as u32;
+            left = left - words - 1;
+        }
+    }
+}

@@ -1,0 +1,18 @@
+-- stores one after the other, and stores made again from the first
+pub mod Stores
+-- what a call leaves, stage by stage, and how many stores are enough
+pub mod Calls
+-- calls stopped anywhere whose last is not leave what one uncut call leaves
+pub mod Restart
+-- stores in rising place into one list, and what it then holds
+pub mod Filled
+-- the stages of lines can be begun again, and what the first words of one leave
+pub mod Lines
+-- the stages of lines, uncut: every line has moved, and scratch is cleared
+pub mod Moves
+-- stops that keep no order within a stage are made good too
+pub mod Stops
+-- how many stores are enough where stages come in blocks of one size
+pub mod Blocks
+-- one line of two words that change places, stopped at each kind of store
+pub mod Examples
