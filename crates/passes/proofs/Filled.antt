@@ -3,8 +3,8 @@
 use mathlib.Core.Path.{_≡_, refl, sym, ap, _∙_, subst}
 use mathlib.Core.List.{List}
 use mathlib.Core.Logic.{⊎-elim}
-use Prim.Native.Nat.{ℕ, _+_, _-_, _<_, _≤_}
-use native.Mathlib.Nat.{not-suc-le-zero, zero-add, le-trans}
+use Prim.Native.Nat.{ℕ, _+_, _*_, _-_, _<_, _≤_}
+use native.Mathlib.Nat.{not-suc-le-zero, zero-add, le-trans, eq-of-mul-eq-mul-left}
 use native.Mathlib.Omega.{arith}
 use lib.ListN.{length, getD, set, length-set}
 use lib.Dec.{eqb}
@@ -32,6 +32,46 @@ filled-more {to} {word} {count} {k} {before} {now} apart h inside f = record {
       (eq-or-ne j k);
   others = λ p g. getD-set-other now (to k) p (word k) 0 (λ e. g k (omega arith) (sym e)) ∙ f .others p (λ j l. g j (omega arith));
 }
+
+-- the same stores by other names of their places and words
+pub filled-as : {to word to′ word′ : ℕ → ℕ} {count : ℕ} {xs ys : List ℕ} → ((k : ℕ) → k < count → to k ≡ to′ k) → ((k : ℕ) → k < count → word k ≡ word′ k)
+    → Filled to′ word′ count xs ys → Filled to word count xs ys
+filled-as {ys = ys} to-is word-is f = record {
+  same = f .same;
+  placed = λ k h. ap (λ (z : ℕ). getD ys z 0) (to-is k h) ∙ f .placed k h ∙ sym (word-is k h);
+  others = λ p h. f .others p (λ k l e. h k l (to-is k l ∙ e));
+}
+
+-- the same loop from the last word down to word k
+pub record FilledFrom (to word : ℕ → ℕ) (k count : ℕ) (before after : List ℕ) : Type 0 where
+  pub same : length after ≡ length before
+  pub placed : (j : ℕ) → k ≤ j → j < count → getD after (to j) 0 ≡ word j
+  pub others : (p : ℕ) → ((j : ℕ) → k ≤ j → j < count → to j ≡ p → ⊥) → getD after p 0 ≡ getD before p 0
+
+module _ {to word : ℕ → ℕ} {count : ℕ} {before : List ℕ} where
+  pub none-from : FilledFrom to word count count before before
+  none-from = record { same = refl; placed = λ j a h. absurd (omega arith); others = λ p h. refl }
+
+  pub more-from : {k next : ℕ} {now : List ℕ} → Apart to count → next ≡ k + 1 → k < count → to k < length before
+      → FilledFrom to word next count before now → FilledFrom to word k count before (set now (to k) (word k))
+  more-from {k} {next} {now} apart e h inside f = record {
+    same = length-set now (to k) (word k) ∙ f .same;
+    placed = λ j a l. ⊎-elim
+        (λ (q : j ≡ k). rw q (getD-set-same now (to k) (word k) 0 (rw (f .same) inside)))
+        (λ (d : j ≡ k → ⊥). getD-set-other now (to k) (to j) (word k) 0 (λ q. d (apart j k l h q)) ∙ f .placed j (omega arith) l)
+        (eq-or-ne j k);
+    others = λ p g. getD-set-other now (to k) p (word k) 0 (λ q. g k (omega arith) h (sym q)) ∙ f .others p (λ j a l. g j (omega arith) l);
+  }
+
+  pub all-from : {k : ℕ} {now : List ℕ} → k ≡ 0 → FilledFrom to word k count before now → Filled to word count before now
+  all-from e f = record { same = f .same; placed = λ j h. f .placed j (omega arith) h; others = λ p g. f .others p (λ j a l. g j l) }
+
+-- no two places of a line are one
+pub line-apart : (start stride count : ℕ) → 0 < stride → Apart (λ j. start + stride * j) count
+line-apart start stride count h i j _ _ e = eq-of-mul-eq-mul-left stride h i j (omega arith)
+
+pub part-apart : (start stride from count : ℕ) → 0 < stride → Apart (λ j. start + stride * (from + j)) count
+part-apart start stride from count h i j _ _ e = let q = eq-of-mul-eq-mul-left stride h (from + i) (from + j) (omega arith) in omega arith
 
 -- two outcomes of such a loop are one, and that is the list stored into one word after the other
 pub one-filled : {to word : ℕ → ℕ} {count : ℕ} {xs ys zs : List ℕ} → Filled to word count xs ys → Filled to word count xs zs → ys ≡ zs

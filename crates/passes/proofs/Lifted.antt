@@ -3,18 +3,26 @@ use mathlib.Core.Path.{_≡_, refl, sym, ap, _∙_, subst}
 use mathlib.Core.Bool.{Bool, true, false, cond, _&&_, true≢false}
 use mathlib.Core.List.{List}
 use mathlib.Core.Logic.{⊎-elim}
-use Prim.Native.Nat.{ℕ, _<_}
+use Prim.Native.Nat.{ℕ, _<_, _≤_}
+use native.Mathlib.Omega.{arith}
 use lib.Dec.{eqb}
-use lib.ListN.{getD}
+use lib.ListN.{length, getD}
 use borrow.Author.Tests.{eq-eqb, ne-eqb, eqb-true, eqb-false}
 use Rattle.lists.proofs.Decide.{eq-or-ne}
 use Rattle.flat.specs.Passes.{row1, column2, source2, row3}
 use Rattle.flat.proofs.Sides.{Sides}
 use Rattle.flat.proofs.Passes.{source-is}
 use Rattle.passes.specs.Lines.{Moved, LineMoved, posOn, paired, received, toPlace, fromPlace}
-use Rattle.passes.specs.ThroughScratch.{OfPass, taken, Filled, Lifted, Fits, Past}
+use Rattle.passes.specs.ThroughScratch.{OfPass, Inside, taken, Filled, Lifted, Fits, Past, scratchLine}
 use Rattle.passes.specs.declared.line.Line.{Line}
 use Rattle.passes.proofs.Filled.{all-lifted}
+
+-- scratch as a line: its places lie in it, and each is where it says
+pub scratch-inside : (held : List ℕ) {count : ℕ} → count ≤ length held → Inside (scratchLine count) count held
+scratch-inside held h k d = omega arith
+
+pub scratch-place : (held : List ℕ) (count k : ℕ) → getD held k 0 ≡ getD held (posOn (scratchLine count) k) 0
+scratch-place held count k = ap (λ (z : ℕ). getD held z 0) (omega arith)
 
 -- the test of the pass decided, in what holds of the places that a line's words go to and come from
 decided : (F : (ℕ → ℕ) → (ℕ → ℕ) → Type 0) (p : ℕ → ℕ) {t b : Bool} → t ≡ b
@@ -117,3 +125,24 @@ module _ {m n : ℕ} {l : Line} {xs scratch : List ℕ} (f : Fits m n l xs scrat
       → Lifted l (fromPlace m n l) (toPlace m n l) xs scratch held → Filled (posOn l) (λ k. getD held k 0) (l .count) xs ys
       → LineMoved m n l ys xs × Past (l .count) scratch held
   moved-back h r = (moved-home (moved-through from-within h r), lifted-past h)
+
+  -- held as it stood, then given back from the places that its own are paired with
+  pub moved-swept : Sides m n → (l .pass ≡ 2 → ⊥) → {held ys : List ℕ} → Filled (λ k. k) (λ k. getD xs (posOn l k) 0) (l .count) scratch held
+      → Filled (posOn l) (λ k. getD held (paired m n (l .pass) (l .index) k) 0) (l .count) xs ys → LineMoved m n l xs ys × Past (l .count) scratch held
+  moved-swept d e {held} {ys} h r =
+      let moved : Moved (l .count) (posOn l) (λ k. k) (paired m n (l .pass) (l .index)) xs ys = record {
+        same = r .same;
+        placed = λ k a. r .placed k a ∙ h .placed (paired m n (l .pass) (l .index) k) (f .within k a);
+        others = r .others;
+      } in (
+        decided (λ (to from : ℕ → ℕ). Moved (l .count) (posOn l) to from xs ys) (paired m n (l .pass) (l .index)) (ne-eqb _ _ e) moved,
+        record { same = h .same; rest = λ p a. h .others p (λ k b q. omega arith) },
+      )
+
+  -- a row whose words stand in scratch where its pass sends them
+  pub moved-scattered : l .pass ≡ 2 → {held ys : List ℕ} → Lifted l (paired m n (l .pass) (l .index)) (λ k. k) xs scratch held
+      → Filled (posOn l) (λ k. getD held k 0) (l .count) xs ys → LineMoved m n l xs ys × Past (l .count) scratch held
+  moved-scattered e {ys = ys} h r = (
+    decided (λ (to from : ℕ → ℕ). Moved (l .count) (posOn l) to from xs ys) (paired m n (l .pass) (l .index)) (eq-eqb _ _ e) (moved-through (f .within) h r),
+    lifted-past h,
+  )

@@ -1,4 +1,5 @@
 // The flat turn by passes, in one call, one line a call or stages that a stop may cut, its reverse, and the adjacent swap of four axes.
+mod column;
 mod gcd;
 mod line;
 mod refusal;

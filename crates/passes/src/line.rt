@@ -1,4 +1,5 @@
 // Lines: one row or column of a block, moved through scratch.
+use crate::column;
 use crate::source;
 use crate::walk;
 use crate::walk::Walk;
@@ -149,7 +150,7 @@ fn scatter_group(buf: &[u32], scratch: &mut [u32], l: Line, w: Walk, from: usize
 }
 
 // Each word of the line goes to the place of scratch that its own is paired with.
-fn scatter(buf: &[u32], scratch: &mut [u32], s: GroupedSides, l: Line)
+pub(crate) fn scatter(buf: &[u32], scratch: &mut [u32], s: GroupedSides, l: Line)
     requires { ⌜ Grouped s × Fits (s .m) (s .n) l (now buf) (now scratch) ⌝ }
     ensures { λ _. ⌜ Lifted l (paired (s .m) (s .n) (l .pass) (l .index)) (λ k. k) (now (buf .entry)) (now (scratch .entry)) (now (scratch .exit)) ⌝ }
 {
@@ -237,5 +238,6 @@ pub(crate) fn back(buf: &mut [u32], scratch: &mut [u32], s: GroupedSides, l: Lin
     ensures { λ _. ⌜ LineMoved (s .m) (s .n) l (now (buf .exit)) (now (buf .entry)) × Past (l .count) (now (scratch .entry)) (now (scratch .exit)) ⌝ }
 {
     lift_home(buf, scratch, s, l);
-    put_back(buf, scratch, l, l.count);
+    let held = column::in_scratch(l.count);
+    column::copy_down(scratch, buf, held, l, l.count);
 }

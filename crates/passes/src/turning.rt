@@ -1,4 +1,5 @@
 // Blocks turned where they lie, line by line.
+use crate::column;
 use crate::gcd;
 use crate::line;
 use crate::line::GroupedSides;
@@ -114,7 +115,7 @@ pub(crate) fn turn_at(
     let count = line_count(s);
     for l in first..count {
         let line = line_of(s, base, chunk, l);
-        line::forth(buf, scratch, s, line);
+        column::forth(buf, scratch, s, line);
     }
 }
 

@@ -1,13 +1,12 @@
 -- `put_back` meets its contract: the line is filled place by place from scratch.
 use mathlib.Core.Path.{_≡_}
 use Prim.Native.Nat.{ℕ, _+_, _*_, _-_, _<_, _≤_}
-use native.Mathlib.Nat.{eq-of-mul-eq-mul-left}
 use native.Mathlib.Omega.{arith}
 use borrow.Author.Needs.{needs}
 use lib.ListN.{length, getD}
 use Rattle.passes.specs.Lines.{posOn}
-use Rattle.passes.specs.ThroughScratch.{Apart, Filled}
-use Rattle.passes.proofs.Filled.{filled-none, filled-more}
+use Rattle.passes.specs.ThroughScratch.{Filled}
+use Rattle.passes.proofs.Filled.{filled-none, filled-more, line-apart}
 use Rattle.passes.proofs.line.put_back.Statement.{statement}
 use Rattle.passes.proofs.line.put_back.Tie as tie
 
@@ -21,15 +20,11 @@ abbrev μ-loop : tie.MeasureT-loop
 inside : (c : tie.In-loop Inv-loop μ-loop) → let a = c .before .before .args in posOn (a .l) (c .before .loop .k) < length (a .buf .now)
 inside c = let x : tie.Start Inv-loop μ-loop = search in x .pre .0 _ (omega arith)
 
--- no two places of a line are one
-apart : (start stride count : ℕ) → 0 < stride → Apart (λ j. start + stride * j) count
-apart start stride count h i j _ _ e = eq-of-mul-eq-mul-left stride h i j (omega arith)
-
 loop-again : tie.Need-loop-again Inv-loop μ-loop
 loop-again c =
     let l : tie.At-loop Inv-loop μ-loop = search in
     let x : tie.Start Inv-loop μ-loop = search in
-    (omega arith, filled-more (apart (x .args .l .start) (x .args .l .stride) (x .args .until) (x .pre .1)) (omega arith) (inside (search)) (l .loop .inv .1))
+    (omega arith, filled-more (line-apart (x .args .l .start) (x .args .l .stride) (x .args .until) (x .pre .1)) (omega arith) (inside (search)) (l .loop .inv .1))
 
 returns : tie.Need-returns Inv-loop μ-loop
 returns c =

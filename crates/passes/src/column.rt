@@ -1,0 +1,99 @@
+// Columns moved so that the words that are read last are written first: of a long column those are what the cache still holds. A column is
+// walked in order both ways, and the places that its pass pairs are walked in scratch, which is small.
+use crate::line;
+use crate::line::GroupedSides;
+use crate::line::Line;
+use crate::walk;
+use crate::walk::Walk;
+ghost use mathlib.Core.Path.{_≡_};
+ghost use Prim.Native.Nat.{ℕ, _+_, _<_, _≤_};
+ghost use lib.ListN.{length, getD};
+ghost use Rattle.passes.specs.Lines.{paired, posOn, LineMoved};
+ghost use Rattle.passes.specs.ThroughScratch.{Grouped, Inside, GroupFits, stands, scratchLine, Fits, Filled, Past};
+
+// Scratch as a line.
+pub(crate) fn in_scratch(count: usize) -> Line
+    ensures { λ r. ⌜ r ≡ scratchLine count ⌝ }
+{
+    Line {
+        pass: 0,
+        index: 0,
+        start: 0,
+        stride: 1,
+        count,
+    }
+}
+
+// The first `count` places of one line receive those of another, the last first.
+pub(crate) fn copy_down(src: &[u32], dst: &mut [u32], from: Line, to: Line, count: usize)
+    requires { ⌜ Inside from count (now src) × Inside to count (now dst) × (0 < to .stride) ⌝ }
+    ensures { λ _. ⌜ Filled (posOn to) (λ k. getD (now (src .entry)) (posOn from k) 0) count (now (dst .entry)) (now (dst .exit)) ⌝ }
+{
+    let mut k = count;
+    while 0 < k {
+        k -= 1;
+        dst[to.start + to.stride * k] = src[from.start + from.stride * k];
+    }
+}
+
+// The line's places from `to` on receive the words of scratch from place `from` on.
+fn give_run(buf: &mut [u32], scratch: &[u32], l: Line, from: usize, to: usize, size: usize)
+    requires { ⌜ Inside l (to + size) (now buf) × (to + size ≤ length (now scratch)) × (from + size ≤ length (now scratch)) × (0 < l .stride) ⌝ }
+    ensures { λ _. ⌜ Filled (λ t. posOn l (to + t)) (λ t. getD (now (scratch .entry)) (from + t) 0) size (now (buf .entry)) (now (buf .exit)) ⌝ }
+{
+    let start = l.start;
+    let stride = l.stride;
+    for t in 0..size {
+        buf[start + stride * (to + t)] = scratch[from + t];
+    }
+}
+
+// The line's places from `from` on receive the words of scratch at a group that starts at `place`.
+fn give_group(buf: &mut [u32], scratch: &[u32], l: Line, w: Walk, from: usize, place: usize)
+    requires { ⌜ GroupFits l w from place (w .size) (now buf) (now scratch) × (0 < l .stride) ⌝ }
+    ensures { λ _. ⌜ Filled (λ t. posOn l (from + t)) (λ t. getD (now (scratch .entry)) (stands w place t) 0) (w .size) (now (buf .entry)) (now (buf .exit)) ⌝ }
+{
+    let start = l.start;
+    let stride = l.stride;
+    let mut p = place;
+    for t in 0..w.size {
+        buf[start + stride * (from + t)] = scratch[p];
+        p = walk::step_on(p, w.step, w.modulus);
+    }
+}
+
+// The line receives, place by place, the words of scratch at the places that its own are paired with.
+fn give(buf: &mut [u32], scratch: &[u32], s: GroupedSides, l: Line)
+    requires { ⌜ Grouped s × Fits (s .m) (s .n) l (now buf) (now scratch) ⌝ }
+    ensures { λ _. ⌜ Filled (posOn l) (λ k. getD (now (scratch .entry)) (paired (s .m) (s .n) (l .pass) (l .index) k) 0) (l .count) (now (buf .entry)) (now (buf .exit)) ⌝ }
+{
+    let w = walk::walk_of(s, l);
+    if walk::straight(w) {
+        let rest = w.modulus - w.first;
+        give_run(buf, scratch, l, w.first, 0, rest);
+        give_run(buf, scratch, l, 0, rest, w.first);
+        return;
+    }
+    let mut from = 0;
+    let mut place = w.first;
+    for g in 0..w.groups {
+        give_group(buf, scratch, l, w, from, place);
+        from += w.size;
+        place = walk::next_start(w, g + 1, place);
+    }
+}
+
+// The line moves as its pass says: a row is sent into scratch and put back; a column stands in scratch as it stood, and receives its words from there.
+pub(crate) fn forth(buf: &mut [u32], scratch: &mut [u32], s: GroupedSides, l: Line)
+    requires { ⌜ Grouped s × Fits (s .m) (s .n) l (now buf) (now scratch) ⌝ }
+    ensures { λ _. ⌜ LineMoved (s .m) (s .n) l (now (buf .entry)) (now (buf .exit)) × Past (l .count) (now (scratch .entry)) (now (scratch .exit)) ⌝ }
+{
+    if l.pass == 2 {
+        line::scatter(buf, scratch, s, l);
+        line::put_back(buf, scratch, l, l.count);
+        return;
+    }
+    let held = in_scratch(l.count);
+    copy_down(buf, scratch, l, held, l.count);
+    give(buf, scratch, s, l);
+}
