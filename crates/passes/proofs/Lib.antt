@@ -26,3 +26,11 @@ pub mod OneOutcome
 pub mod OneTick
 -- a turn and its reverse, either one first, restore every word
 pub mod ThereAndBack
+-- two words, and two stretches, exchanged
+pub mod Exchanged
+-- how many places of a table do not name themselves
+pub mod Loose
+-- chunks on their way along a table: one exchange more, and all at home
+pub mod Settling
+-- the table of a line, as its walk fills it
+pub mod Names

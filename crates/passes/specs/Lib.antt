@@ -2,3 +2,4 @@ pub mod Lines
 pub mod ThroughScratch
 pub mod Promises
 pub mod Ticks
+pub mod Chunks

@@ -1,8 +1,10 @@
 // The flat turn by passes, in one call or one line a call, its reverse, and the adjacent swap of four axes.
+mod chunks;
 mod gcd;
 mod line;
 mod refusal;
 mod scratch;
+mod table;
 mod turning;
 mod walk;
 
