@@ -34,3 +34,7 @@ pub mod Loose
 pub mod Settling
 -- the table of a line, as its walk fills it
 pub mod Names
+-- a line of chunks: its table, its moves, and each word of the chunks as a flat block
+pub mod ChunkLines
+-- blocks of chunks on their way, line by line and block by block
+pub mod ChunkBlocks

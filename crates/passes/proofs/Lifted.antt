@@ -50,14 +50,14 @@ lifted-past h = record { same = h .same; rest = h .rest }
 
 module _ {m n : ℕ} {l : Line} {xs scratch : List ℕ} (f : Fits m n l xs scratch) where
   -- a word goes to a place of the line, and comes from one
-  to-within : (k : ℕ) → k < l .count → toPlace m n l k < l .count
+  pub to-within : (k : ℕ) → k < l .count → toPlace m n l k < l .count
   to-within k h = go (eqb (l .pass) 2)
     where
       go : (t : Bool) → cond t (paired m n (l .pass) (l .index) k) k < l .count
       go true = f .within k h
       go false = h
 
-  from-within : (k : ℕ) → k < l .count → fromPlace m n l k < l .count
+  pub from-within : (k : ℕ) → k < l .count → fromPlace m n l k < l .count
   from-within k h = go (eqb (l .pass) 2)
     where
       go : (t : Bool) → cond t k (paired m n (l .pass) (l .index) k) < l .count

@@ -4,6 +4,7 @@ mod gcd;
 mod line;
 mod refusal;
 mod scratch;
+mod swapping;
 mod table;
 mod turning;
 mod walk;
@@ -112,7 +113,7 @@ pub fn swap(
         return number;
     }
     let s = turning::group_sides(m, n);
-    turning::turn_all(buf, scratch, s, outer, chunk);
+    swapping::turn_every(buf, scratch, s, outer, chunk);
     scratch::clear_longest(scratch, m, n);
     0
 }
