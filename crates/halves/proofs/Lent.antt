@@ -1,29 +1,32 @@
 -- A buffer that passes the checks is a block, and the outcomes that the promise allows.
 use mathlib.Core.Path.{_≡_, refl, sym, _∙_}
 use mathlib.Core.List.{List, []}
-use Prim.Native.Nat.{ℕ, _<_}
+use Prim.Native.Nat.{ℕ, _<_, _*_}
+use native.Mathlib.Nat.{mul-one}
+use native.Mathlib.Omega.{arith}
 use Rattle.refusals.specs.FirstOf.{firstOf}
 use Rattle.refusals.specs.Calls.{recursionChecks}
 use Rattle.refusals.proofs.Conditions.{InRange, valid}
 use Rattle.refusals.proofs.Conditions.InRange.{none, more}
-use Rattle.flat.specs.Turn.{sides, Turn}
+use Rattle.flat.specs.Turn.{sides}
 use Rattle.flat.proofs.Turn.{volume-two}
-use Rattle.halves.specs.LentSlices.{Block}
+use Rattle.halves.specs.LentSlices.{Block, ChunksTurned}
+use Rattle.halves.proofs.Chunks.{words-turned}
 use Rattle.halves.specs.Promise.{TurnPromise}
 
 some-sides : {m n : ℕ} → InRange (sides m n) → (0 < m) × (0 < n)
 some-sides (more p _ (more q _ none)) = (p, q)
 
 -- a buffer that passes the checks is a block
-pub checked-block : (m n : ℕ) (xs : List ℕ) → firstOf (recursionChecks (sides m n) xs) ≡ 0 → Block m n xs
+pub checked-block : (m n : ℕ) (xs : List ℕ) → firstOf (recursionChecks (sides m n) xs) ≡ 0 → Block m n 1 xs
 checked-block m n xs e =
     let v = valid (sides m n) xs [] e .0 in
     let s = some-sides (v .lengths) in
-    record { rows = s .0; columns = s .1; fill = v .exact ∙ volume-two m n }
+    record { rows = s .0; columns = s .1; words = omega arith; fill = v .exact ∙ volume-two m n ∙ sym (mul-one (m * n)) }
 
 -- a refused outcome, and an accepted one
 pub turn-refused : {m n r : ℕ} {xs : List ℕ} → r ≡ firstOf (recursionChecks (sides m n) xs) → (r ≡ 0 → ⊥) → TurnPromise m n xs r xs
 turn-refused e n = record { number = e; words = λ z. absurd (n z); kept = λ _. refl }
 
-pub turn-accepted : {m n : ℕ} {xs ys : List ℕ} → firstOf (recursionChecks (sides m n) xs) ≡ 0 → Turn m n xs ys → TurnPromise m n xs 0 ys
-turn-accepted e t = record { number = sym e; words = λ _. t; kept = λ n. absurd (n refl) }
+pub turn-accepted : {m n : ℕ} {xs ys : List ℕ} → firstOf (recursionChecks (sides m n) xs) ≡ 0 → ChunksTurned m n 1 xs ys → TurnPromise m n xs 0 ys
+turn-accepted {m} {n} {xs} {ys} e t = record { number = sym e; words = λ _. words-turned (checked-block m n xs e .fill) t; kept = λ n. absurd (n refl) }

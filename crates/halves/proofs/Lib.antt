@@ -11,7 +11,11 @@ mod Four
 -- one level of merge and of split
 mod Halving
 -- the exchange across the diagonal, word by word and row by row
-mod Diagonal
+pub mod Diagonal
+-- two equal stretches exchanged, one word more
+pub mod Exchanges
+-- blocks of chunks by their words
+pub mod Chunks
 -- a block cut in two, each part lent and turned
 mod Cuts
 -- parts turned and merged, or split and turned, are the block turned

@@ -17,9 +17,9 @@ pub fn turn(buf: &mut [u32], m: usize, n: usize) -> u32
         return number;
     }
     if n <= m {
-        tall(buf, m, n);
+        tall(buf, m, n, 1);
     } else {
-        wide(buf, m, n);
+        wide(buf, m, n, 1);
     }
     0
 }
