@@ -5,7 +5,7 @@ mod Parts
 -- rotation by exchanges of the shorter side
 mod Rotations
 -- words in front of and behind a cut, and runs merged half by half
-mod Merges
+pub mod Merges
 -- a list in four parts of which the middle two change places
 mod Four
 -- one level of merge and of split
@@ -20,9 +20,9 @@ pub mod Chunks
 mod Cuts
 -- parts turned and merged, or split and turned, are the block turned
 mod Turns
--- the block at the start of a buffer, lent and turned
-mod Lent
+-- a buffer that passes the checks is a block, and the outcomes that the promises allow
+pub mod Lent
 -- split undoes merge, and merge undoes split
 pub mod Undo
--- any two outcomes that the promise of `turn` allows coincide
+-- any two outcomes that a promise allows coincide
 pub mod OneOutcome
