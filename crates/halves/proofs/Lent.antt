@@ -42,7 +42,7 @@ volume-three : (m n w : ℕ) → volume (chunked m n w) ≡ m * n * w
 unfolding volume
 volume-three m n w = omega arith
 
-at-three : (m n w i j u : ℕ) → at (chunked m n w) (i ∷ j ∷ u ∷ []) ≡ (i * n + j) * w + u
+pub at-three : (m n w i j u : ℕ) → at (chunked m n w) (i ∷ j ∷ u ∷ []) ≡ (i * n + j) * w + u
 unfolding at volume
 at-three m n w i j u = omega arith
 

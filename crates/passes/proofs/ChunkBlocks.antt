@@ -15,7 +15,7 @@ use Rattle.flat.specs.Turn.{sides}
 use Rattle.flat.specs.Passes.{columnGroup}
 use Rattle.passes.specs.Lines.{skipped, lineCount, lineOf, lineAt}
 use Rattle.passes.specs.ThroughScratch.{Grouped, Lies, Fits, Past, AllLie}
-use Rattle.passes.specs.Chunks.{ChunksLie, ChunkLineMoved, ChunksTurned, BlockLies}
+use Rattle.passes.specs.Chunks.{ChunksLie, ChunkLineMoved, ChunksTurnedAt, BlockLies, PartLies}
 use Rattle.passes.specs.declared.line.GroupedSides.{GroupedSides}
 use Rattle.passes.proofs.Fits.{side-need, past-none, past-more}
 use Rattle.passes.proofs.Strided.{LineStep, skipped-le, groups-le, lines-turn}
@@ -29,14 +29,14 @@ use Rattle.passes.proofs.Swaps.{posOf, toOf, fromOf, swapBase, words-fe
 -- a block of chunks is, for its first words, a block whose words lie `chunk` apart
 pub strided : {m n base chunk : ℕ} {xs scratch : List ℕ} → 0 < m → 0 < n → BlockLies m n base chunk xs scratch → Lies m n base chunk xs scratch
 strided {m} {n} {base} {chunk} hm hn y = record {
-  apart = y .some;
+  apart = y .part .some;
   inside = λ p h.
       let d : chunk * (p + 1) ≤ chunk * (m * n) = mul-le-mul-left chunk (omega arith) in
-      omega (arith, y .inside, y .some);
+      omega (arith, y .part);
   rows = y .rows;
   columns = y .columns;
-  near = omega (arith, y .few);
-  close = omega (arith, y .few, le-mul-of-pos-right {m = m * n} chunk (mul-pos hm hn));
+  near = omega (arith, y .part);
+  close = omega (arith, y .part, le-mul-of-pos-right {m = m * n} chunk (mul-pos hm hn));
 }
 
 -- no word of the block stands at offset i
@@ -65,20 +65,14 @@ module _ {s : GroupedSides} {base chunk : ℕ} {b₀ sc₀ : List ℕ} (sound : 
   flat : Lies (s .m) (s .n) base chunk b₀ sc₀
   flat = strided (sound .m-pos) (sound .n-pos) lies
 
-  still-lies : (b sc : List ℕ) → length b ≡ length b₀ → length sc ≡ length sc₀ → BlockLies (s .m) (s .n) base chunk b sc
-  still-lies b sc e d = record {
-    some = lies .some;
-    inside = rw e (lies .inside);
-    few = lies .few;
-    rows = rw d (lies .rows);
-    columns = rw d (lies .columns);
-  }
+  still-lies : (b : List ℕ) → length b ≡ length b₀ → PartLies (s .m) (s .n) base chunk b
+  still-lies b e = record { some = lies .part .some; inside = rw e (lies .part .inside); few = lies .part .few }
 
   -- a line that is left fits, and its chunks lie in the buffer
   pub next-fits : (l : ℕ) (b sc : List ℕ) → l < lineCount (s .m) (s .n) → Forth s base chunk b₀ sc₀ l b sc
       → let line = lineOf (s .m) (s .n) base chunk l in Fits (s .m) (s .n) line b sc × ChunksLie (line .start) (line .stride) (line .count) chunk b
   next-fits l b sc h f =
-      (going-fits sound flat l b sc h (f .same) (f .past), chunks-lie (here l h) (still-lies b sc (f .same) (f .past .same)))
+      (going-fits sound flat l b sc h (f .same) (f .past), chunks-lie (here l h) (still-lies b (f .same)))
 
   pub forth-none : {l : ℕ} → skipped (s .m) (s .n) + l ≡ columnGroup (s .m) (s .n) → Forth s base chunk b₀ sc₀ l b₀ sc₀
   forth-none e = record {
@@ -103,7 +97,7 @@ module _ {s : GroupedSides} {base chunk : ℕ} {b₀ sc₀ : List ℕ} (sound : 
     past = past-more (going-short sound flat l h) (f .past) p;
   }
 
-  pub forth-all : {l : ℕ} {b sc : List ℕ} → l ≡ lineCount (s .m) (s .n) → Forth s base chunk b₀ sc₀ l b sc → ChunksTurned (s .m) (s .n) base chunk b₀ b
+  pub forth-all : {l : ℕ} {b sc : List ℕ} → l ≡ lineCount (s .m) (s .n) → Forth s base chunk b₀ sc₀ l b sc → ChunksTurnedAt (s .m) (s .n) base chunk b₀ b
   forth-all {l} {b} e f = record {
     same = f .same;
     placed = λ p u h d.
@@ -144,7 +138,7 @@ module _ (outer m n chunk : ℕ) (hc : 0 < chunk) where
       sym (digits-div e hp) ∙ ap (λ (z : ℕ). z / (m * n)) w ∙ digits-div d hq
 
   module _ (hn : 0 < n) {e : ℕ} {xs ys zs : List ℕ} (h : e < outer)
-      (f : Some (outer * chunk) (m * n) (posOf m n chunk) (toOf m n) fromOf (e * chunk) xs ys) (t : ChunksTurned m n (e * (m * n * chunk)) chunk ys zs) where
+      (f : Some (outer * chunk) (m * n) (posOf m n chunk) (toOf m n) fromOf (e * chunk) xs ys) (t : ChunksTurnedAt m n (e * (m * n * chunk)) chunk ys zs) where
     -- a block of words that is in another block of chunks stands
     elsewhere : (b p : ℕ) → (b / chunk ≡ e → ⊥) → p < m * n → getD zs (posOf m n chunk b p) 0 ≡ getD ys (posOf m n chunk b p) 0
     elsewhere b p ne hp =
@@ -196,9 +190,7 @@ block-lies {outer} {m} {n} {chunk} hm hn y e ys held h same same′ =
     let all : outer * (m * n * chunk) ≡ outer * chunk * (m * n) = ap (λ (z : ℕ). outer * z) (mul-comm (m * n) chunk) ∙ sym (mul-assoc outer chunk (m * n)) in
     let end : e * (m * n * chunk) + chunk * (m * n) ≤ outer * chunk * (m * n) = omega (arith, add-mul e 1 (m * n * chunk), one-mul (m * n * chunk), mul-comm (m * n) chunk) in
     record {
-      some = y .words;
-      inside = omega (arith, y .enough, same);
-      few = omega (arith, y .few);
+      part = record { some = y .words; inside = omega (arith, y .enough, same); few = omega (arith, y .few) };
       rows = rw same′ (le-trans (side-need m n .0) (y .room));
       columns = rw same′ (le-trans (side-need m n .1) (y .room));
     }

@@ -16,7 +16,7 @@ use Rattle.lists.proofs.Decide.{lt-or-ge}
 use Rattle.orbits.specs.Orbit.{Permutes}
 use Rattle.passes.specs.Lines.{Moved, LineMoved, column, row, lineAt, paired, posOn, toPlace, fromPlace}
 use Rattle.passes.specs.ThroughScratch.{Apart, Fits, Lies, Past}
-use Rattle.passes.specs.Chunks.{ChunksLie, Table, ChunksMoved, Settled, Named, ChunkLineMoved, BlockLies}
+use Rattle.passes.specs.Chunks.{ChunksLie, Table, ChunksMoved, Settled, Named, ChunkLineMoved, PartLies}
 use Rattle.passes.specs.declared.line.Line.{Line}
 use Rattle.passes.proofs.Lifted.{to-within, from-within}
 use Rattle.passes.proofs.OneTick.{reached, line-permutes}
@@ -161,7 +161,7 @@ module _ (m n base chunk : ℕ) (hn : 0 < n) where
       both e e′ x = subst₂ (Beside m n base chunk) e e′ x
 
 -- the line's chunks lie in the buffer, apart
-pub chunks-lie : {m n base chunk : ℕ} {l l′ : Line} {xs scratch : List ℕ} → Beside m n base chunk l l′ → BlockLies m n base chunk xs scratch
+pub chunks-lie : {m n base chunk : ℕ} {l l′ : Line} {xs : List ℕ} → Beside m n base chunk l l′ → PartLies m n base chunk xs
     → ChunksLie (l .start) (l .stride) (l .count) chunk xs
 chunks-lie {m} {n} {base} {chunk} {l} {l′} b y = record {
   apart = b .wide;

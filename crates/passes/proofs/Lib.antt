@@ -26,8 +26,8 @@ pub mod OneOutcome
 pub mod OneTick
 -- a turn and its reverse, either one first, restore every word
 pub mod ThereAndBack
--- two words, and two stretches, exchanged
-pub mod Exchanged
+-- two places taken for each other
+pub mod Across
 -- how many places of a table do not name themselves
 pub mod Loose
 -- chunks on their way along a table: one exchange more, and all at home
@@ -38,3 +38,5 @@ pub mod Names
 pub mod ChunkLines
 -- blocks of chunks on their way, line by line and block by block
 pub mod ChunkBlocks
+-- a block of chunks turned by recursion, and a swap that moves nothing
+pub mod Halved

@@ -8,8 +8,11 @@ use native.Mathlib.Nat.{mul-comm, mul-le-mul-left}
 use lib.Arith.{digits-div}
 use lib.ListN.{length, getD}
 use Rattle.lists.proofs.Decide.{lt-or-ge}
-use Rattle.passes.specs.Chunks.{swapped, Exchanged, ChunksLie, Table, ChunksMoved, Settled}
-use Rattle.passes.proofs.Exchanged.{swapped-same, at-first, at-second, elsewhere, across, cases, across-back}
+use Rattle.halves.specs.LentSlices.{swapped, Exchanged}
+use Rattle.halves.proofs.Diagonal.{at-first, at-second, elsewhere}
+use Rattle.halves.proofs.Exchanges.{swapped-same}
+use Rattle.passes.specs.Chunks.{ChunksLie, Table, ChunksMoved, Settled}
+use Rattle.passes.proofs.Across.{across, cases, across-back}
 use Rattle.passes.proofs.Loose.{loose, loose-falls}
 
 -- t and xs are the table and the buffer at entry, t′ and ys as they are now. A chunk and its entry of the table move together: where
@@ -64,7 +67,7 @@ module _ {start stride count chunk : ℕ} {t xs : List ℕ} where
     y = getD t′ k 0
 
     abbrev after : List ℕ
-    after = swapped k y t′
+    after = swapped t′ k y
 
     y-below : y < count
     y-below = g .table .below k within
@@ -79,6 +82,12 @@ module _ {start stride count chunk : ℕ} {t xs : List ℕ} where
     beyond : k < y
     beyond = ⊎-elim (λ (h : y < k). absurd (away (only y y-below (home y h)))) (λ (h : k ≤ y). omega arith) (lt-or-ge y k)
 
+    different : k ≡ y → ⊥
+    different e = omega (arith, beyond)
+
+    first : k < length t′
+    first = omega (arith, entry, beyond)
+
     pub ready : ChunksLie start stride count chunk xs → Ready start stride chunk k y t′ ys
     ready l = record {
       beyond = beyond;
@@ -89,16 +98,16 @@ module _ {start stride count chunk : ℕ} {t xs : List ℕ} where
 
     -- a place that names itself still does, and y does now
     stays : (z : ℕ) → z < count → getD t′ z 0 ≡ z → getD after z 0 ≡ z
-    stays z h e = elsewhere k y t′ z (λ i. away (rw i at e)) (λ i. away (sym i ∙ only z h (e ∙ i))) ∙ e
+    stays z h e = elsewhere t′ k y different first entry z (λ i. away (rw i at e)) (λ i. away (sym i ∙ only z h (e ∙ i))) ∙ e
 
     pub home-still : (z : ℕ) → z < k → getD after z 0 ≡ z
     home-still z h = stays z (omega arith) (home z h)
 
     pub falls : loose count after < loose count t′
-    falls = loose-falls t′ after count y y-below (λ e. away (only y y-below e)) (at-second k y t′ entry) stays
+    falls = loose-falls t′ after count y y-below (λ e. away (only y y-below e)) (at-second t′ k y different first entry) stays
 
     table-at : (z : ℕ) → getD after z 0 ≡ getD t′ (across k y z) 0
-    table-at = cases (λ z v. getD after z 0 ≡ getD t′ v 0) (at-first k y t′ beyond entry) (at-second k y t′ entry) (elsewhere k y t′)
+    table-at = cases (λ z v. getD after z 0 ≡ getD t′ v 0) (at-first t′ k y different first entry) (at-second t′ k y different first entry) (elsewhere t′ k y different first entry)
 
     across-below : (z : ℕ) → z < count → across k y z < count
     across-below = cases (λ z v. z < count → v < count) (λ h. y-below) (λ h. within) (λ z a b h. h)
@@ -115,7 +124,7 @@ module _ {start stride count chunk : ℕ} {t xs : List ℕ} where
       pub settling-more : Settling start stride count chunk t xs after zs
       settling-more = record {
         table = record {
-          room = rw (swapped-same k y t′) (g .table .room);
+          room = rw (swapped-same t′ k y) (g .table .room);
           below = λ z h. rw (table-at z) (g .table .below (across k y z) (across-below z h));
           apart = λ a b ha hb i.
               across-back k y a b (g .table .apart (across k y a) (across k y b) (across-below a ha) (across-below b hb) (sym (table-at a) ∙ i ∙ table-at b));
@@ -123,6 +132,6 @@ module _ {start stride count chunk : ℕ} {t xs : List ℕ} where
         belongs = λ w z u hw hz hu i. chunk-at u hu z ∙ g .belongs w (across k y z) u hw (across-below z hz) hu (i ∙ table-at z);
         others = λ i f. e .others i (λ u h. ((λ j. f k u within h (sym j)), (λ j. f y u y-below h (sym j)))) ∙ g .others i f;
         same = e .same ∙ g .same;
-        rest = λ z h. elsewhere k y t′ z (λ i. omega arith) (λ i. omega (arith, y-below)) ∙ g .rest z h;
-        same-table = swapped-same k y t′ ∙ g .same-table;
+        rest = λ z h. elsewhere t′ k y different first entry z (λ i. omega arith) (λ i. omega (arith, y-below)) ∙ g .rest z h;
+        same-table = swapped-same t′ k y ∙ g .same-table;
       }

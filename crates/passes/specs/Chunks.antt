@@ -5,22 +5,11 @@ use mathlib.Core.Bool.{Bool, cond}
 use mathlib.Core.Path.{_≡_}
 use mathlib.Core.List.{List}
 use Prim.Native.Nat.{ℕ, _+_, _*_, _/_, _%_, _<_, _≤_}
-use lib.ListN.{length, getD, set}
+use lib.ListN.{length, getD}
 use Rattle.passes.specs.Lines.{toPlace, fromPlace, posOn}
 use Rattle.passes.specs.ThroughScratch.{Apart, Filled, stands}
 use Rattle.passes.specs.declared.line.Line.{Line}
 use Rattle.passes.specs.declared.walk.Walk.{Walk}
-
--- xs with the words at a and at b exchanged
-abbrev pub swapped : ℕ → ℕ → List ℕ → List ℕ
-swapped a b xs = set (set xs a (getD xs b 0)) b (getD xs a 0)
-
--- ys is xs with the w words from p on and the w words from q on exchanged; every other word stands
-pub record Exchanged (w p q : ℕ) (xs ys : List ℕ) : Type 0 where
-  pub same : length ys ≡ length xs
-  pub first : (u : ℕ) → u < w → getD ys (p + u) 0 ≡ getD xs (q + u) 0
-  pub second : (u : ℕ) → u < w → getD ys (q + u) 0 ≡ getD xs (p + u) 0
-  pub others : (i : ℕ) → ((u : ℕ) → u < w → (i ≡ p + u → ⊥) × (i ≡ q + u → ⊥)) → getD ys i 0 ≡ getD xs i 0
 
 -- the chunks lie in the buffer, apart from each other
 pub record ChunksLie (start stride count chunk : ℕ) (xs : List ℕ) : Type 0 where
@@ -73,15 +62,19 @@ pub record ChunkLineMoved (m n : ℕ) (l : Line) (chunk : ℕ) (xs ys : List ℕ
   pub others : (i : ℕ) → ((k u : ℕ) → k < l .count → u < chunk → posOn l k + u ≡ i → ⊥) → getD ys i 0 ≡ getD xs i 0
 
 -- the block of chunks has been turned where it lies: the chunk of offset i·n + j stands at offset j·m + i, every other word of the buffer stands
-pub record ChunksTurned (m n base chunk : ℕ) (xs ys : List ℕ) : Type 0 where
+pub record ChunksTurnedAt (m n base chunk : ℕ) (xs ys : List ℕ) : Type 0 where
   pub same : length ys ≡ length xs
   pub placed : (p u : ℕ) → p < m * n → u < chunk → getD ys (base + chunk * ((p % n) * m + p / n) + u) 0 ≡ getD xs (base + chunk * p + u) 0
   pub others : (i : ℕ) → ((p u : ℕ) → p < m * n → u < chunk → base + chunk * p + u ≡ i → ⊥) → getD ys i 0 ≡ getD xs i 0
 
--- an m by n block of chunks lies in the buffer at base, and scratch has room for its longer side
-pub record BlockLies (m n base chunk : ℕ) (xs scratch : List ℕ) : Type 0 where
+-- an m by n block of chunks lies in the buffer at base
+pub record PartLies (m n base chunk : ℕ) (xs : List ℕ) : Type 0 where
   pub some : 0 < chunk
   pub inside : base + chunk * (m * n) ≤ length xs
   pub few : base + chunk * (m * n) ≤ 1048576
+
+-- and scratch has room for its longer side
+pub record BlockLies (m n base chunk : ℕ) (xs scratch : List ℕ) : Type 0 where
+  pub part : PartLies m n base chunk xs
   pub rows : m ≤ length scratch
   pub columns : n ≤ length scratch

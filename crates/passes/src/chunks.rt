@@ -2,12 +2,13 @@
 ghost use mathlib.Core.Path.{_≡_};
 ghost use Prim.Native.Nat.{_+_, _<_, _≤_};
 ghost use lib.ListN.{length};
-ghost use Rattle.passes.specs.Chunks.{swapped, Exchanged, ChunksLie, Table, ChunksMoved, Settled};
+ghost use Rattle.halves.specs.LentSlices.{swapped, Exchanged};
+ghost use Rattle.passes.specs.Chunks.{ChunksLie, Table, ChunksMoved, Settled};
 
 // Exchanges the words at a and at b.
 fn trade(s: &mut [u32], a: usize, b: usize)
     requires { ⌜ (a < length (now s)) × (b < length (now s)) ⌝ }
-    ensures { λ _. ⌜ now (s .exit) ≡ swapped a b (now (s .entry)) ⌝ }
+    ensures { λ _. ⌜ now (s .exit) ≡ swapped (now (s .entry)) a b ⌝ }
 {
     let word = s[a];
     s[a] = s[b];

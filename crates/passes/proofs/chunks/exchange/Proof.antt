@@ -3,8 +3,8 @@ use mathlib.Core.Path.{subst}
 use Prim.Native.Nat.{ℕ, _-_, _≤_}
 use native.Mathlib.Omega.{arith}
 use borrow.Author.Needs.{needs}
-use Rattle.passes.specs.Chunks.{Exchanged}
-use Rattle.passes.proofs.Exchanged.{exchanged-none, exchanged-more}
+use Rattle.halves.specs.LentSlices.{Exchanged}
+use Rattle.halves.proofs.Exchanges.{exchanged-none, exchanged-more}
 use Rattle.passes.proofs.chunks.exchange.Statement.{statement}
 use Rattle.passes.proofs.chunks.exchange.Tie as tie
 

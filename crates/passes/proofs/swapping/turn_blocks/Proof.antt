@@ -15,14 +15,14 @@ use Rattle.passes.proofs.swapping.turn_blocks.Statement.{statement}
 use Rattle.passes.proofs.swapping.turn_blocks.Tie as tie
 
 abbrev Inv-loop : tie.InvT-loop
-Inv-loop buf₀ scratch₀ s outer chunk words base₀ e₀ buf scratch base e =
+Inv-loop buf₀ scratch₀ s outer chunk halving words base₀ e₀ buf scratch base e =
     (e ≤ outer)
     × (base ≡ e * (s .m * s .n * chunk))
     × Some (outer * chunk) (s .m * s .n) (posOf (s .m) (s .n) chunk) (toOf (s .m) (s .n)) fromOf (e * chunk) buf₀ buf
     × Past (need (sides (s .m) (s .n))) scratch₀ scratch
 
 abbrev μ-loop : tie.MeasureT-loop
-μ-loop buf₀ scratch₀ s outer chunk words base₀ e₀ buf scratch base e = outer - e
+μ-loop buf₀ scratch₀ s outer chunk halving words base₀ e₀ buf scratch base e = outer - e
 
 -- the places that the answers look back to
 abbrev Start : Type 0
@@ -51,7 +51,7 @@ turn-block-requires c κs =
     let x : Start = search in
     let g = x .pre .0 in
     let v = l .loop .inv in
-    (g, rw (v .1) (block-lies (g .m-pos) (g .n-pos) (x .pre .1) (l .loop .e) (l .loop .buf) (l .loop .scratch) (omega arith) (v .2 .same) (v .3 .same)))
+    (g, rw (v .1) (block-lies (g .m-pos) (g .n-pos) (x .pre .1) (l .loop .e) (l .loop .buf) (l .loop .scratch) (omega arith) (v .2 .same) (v .3 .same)), x .pre .2)
 
 -- where the block at hand lies
 near : (c : tie.In-loop Inv-loop μ-loop) → c .before .loop .base ≤ 1048576
@@ -61,7 +61,7 @@ near c =
     let g = x .pre .0 in
     let v = l .loop .inv in
     let y = block-lies (g .m-pos) (g .n-pos) (x .pre .1) (l .loop .e) (l .loop .buf) (l .loop .scratch) (omega arith) (v .2 .same) (v .3 .same) in
-    rw (v .1) (omega (arith, y .few))
+    rw (v .1) (omega (arith, y .part))
 
 loop-again : tie.Need-loop-again Inv-loop μ-loop
 loop-again c =
