@@ -26,7 +26,7 @@ fn exchange(s: &mut [u32], p: usize, q: usize, w: usize)
 }
 
 // Moves the chunk of each place to the place that the table names. A chunk that is not at home is exchanged with the one that
-// stands at its home, and the table's entries go with them; the table ends as 0, 1, 2 and so on.
+// stands at its home: k has then the entry of that one, whose home is closed. The table ends as 0, 1, 2 and so on.
 pub(crate) fn settle(
     buf: &mut [u32],
     table: &mut [u32],
@@ -46,6 +46,7 @@ pub(crate) fn settle(
             continue;
         }
         exchange(buf, start + stride * k, start + stride * y, chunk);
-        trade(table, k, y);
+        table[k] = table[y];
+        table[y] = y as u32;
     }
 }
