@@ -1,6 +1,6 @@
 -- Blocks of chunks on their way. After some lines each word of the chunks is a flat block after those lines, and after all of them a turned
 -- one, so the block of chunks is turned; and blocks that are turned one after the other are the swap.
-use mathlib.Core.Path.{_≡_, refl, sym, ap, ap₂, _∙_, subst}
+use mathlib.Core.Path.{_≡_, refl, sym, ap, _∙_, subst}
 use mathlib.Core.List.{List}
 use mathlib.Core.Logic.{⊎-elim}
 use Prim.Native.Nat.{ℕ, _+_, _*_, _-_, _/_, _%_, _<_, _≤_}
@@ -13,7 +13,7 @@ use Rattle.lists.proofs.Decide.{lt-or-ge}
 use Rattle.refusals.specs.Scratch.{need}
 use Rattle.flat.specs.Turn.{sides}
 use Rattle.flat.specs.Passes.{columnGroup}
-use Rattle.passes.specs.Lines.{skipped, lineCount, lineOf, lineAt}
+use Rattle.passes.specs.Lines.{skipped, lineCount, lineOf}
 use Rattle.passes.specs.ThroughScratch.{Grouped, Lies, Fits, Past, AllLie}
 use Rattle.passes.specs.Chunks.{ChunksLie, ChunkLineMoved, ChunksTurnedAt, BlockLies, PartLies}
 use Rattle.passes.specs.declared.line.GroupedSides.{GroupedSides}
@@ -24,7 +24,7 @@ use Rattle.passes.proofs.Ran.Ran.{done}
 use Rattle.passes.proofs.Going.{going-fits, going-short}
 use Rattle.passes.proofs.Family.{Some}
 use Rattle.passes.proofs.ChunkLines.{ofChunks, Beside, beside, chunks-lie, line-of-words}
-use Rattle.passes.proofs.Swaps.{posOf, toOf, fromOf, swapBase, words-few}
+use Rattle.passes.proofs.Swaps.{posOf, toOf, fromOf}
 
 -- a block of chunks is, for its first words, a block whose words lie `chunk` apart
 pub strided : {m n base chunk : ℕ} {xs scratch : List ℕ} → 0 < m → 0 < n → BlockLies m n base chunk xs scratch → Lies m n base chunk xs scratch

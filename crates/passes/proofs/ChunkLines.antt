@@ -6,16 +6,16 @@ use mathlib.Core.List.{List}
 use mathlib.Core.Logic.{⊎-elim}
 use Prim.Native.Nat.{ℕ, _+_, _*_, _-_, _/_, _<_, _≤_}
 use native.Mathlib.Omega.{arith}
-use native.Mathlib.Nat.{mul-comm, mul-le-mul-left, mul-one, le-refl, le-mul-of-pos-right}
+use native.Mathlib.Nat.{mul-comm, mul-le-mul-left, le-refl, le-mul-of-pos-right}
 use lib.Dec.{eqb}
-use lib.ListN.{length, getD, List·getD-eq-default}
+use lib.ListN.{getD, List·getD-eq-default}
 use lib.Arith.{digits-div, digits-lt}
 use Rattle.lists.specs.Tab.{tab}
 use Rattle.lists.proofs.Tab.{length-tab, getD-tab}
 use Rattle.lists.proofs.Decide.{lt-or-ge}
 use Rattle.orbits.specs.Orbit.{Permutes}
 use Rattle.passes.specs.Lines.{Moved, LineMoved, column, row, lineAt, paired, posOn, toPlace, fromPlace}
-use Rattle.passes.specs.ThroughScratch.{Apart, Fits, Lies, Past}
+use Rattle.passes.specs.ThroughScratch.{Fits, Past}
 use Rattle.passes.specs.Chunks.{ChunksLie, Table, ChunksMoved, Settled, Named, ChunkLineMoved, PartLies}
 use Rattle.passes.specs.declared.line.Line.{Line}
 use Rattle.passes.proofs.Lifted.{to-within, from-within}

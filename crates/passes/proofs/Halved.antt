@@ -1,17 +1,17 @@
 -- A block of chunks turned by recursion on its part of the buffer is turned where it lies, every word outside it stands. And where a side is 1
 -- the words of an adjacent swap stand as they are to stand.
-use mathlib.Core.Path.{_≡_, refl, sym, ap, _∙_, subst}
+use mathlib.Core.Path.{_≡_, refl, sym, ap, _∙_}
 use mathlib.Core.List.{List, [], _∷_, _++_}
 use mathlib.Core.Logic.{⊎-elim}
 use Prim.Native.Nat.{ℕ, _+_, _*_, _-_, _/_, _%_, _<_, _≤_}
 use native.Mathlib.Omega.{arith}
-use native.Mathlib.Nat.{mul-comm, mod-lt, div-lt-iff-lt-mul, div-add-mod', le-refl, le-trans, le-mul-of-pos-right, mul-pos}
-use lib.ListN.{length, getD, take, drop, length-drop}
+use native.Mathlib.Nat.{mul-comm, mod-lt, div-lt-iff-lt-mul, div-add-mod', le-mul-of-pos-right}
+use lib.ListN.{length, getD, take, drop}
 use lib.Seq.{length-take-le, getD-take, getD-drop}
 use lib.Arith.{digits-lt}
 use borrow.Rule.Slice.PartMut.{midOf, putMid, postOf, mid-len, same-len-mid}
 use Rattle.lists.proofs.Decide.{lt-or-ge}
-use Rattle.layout.specs.Layout.{Laid, Within, at, pick, volume}
+use Rattle.layout.specs.Layout.{Laid, Within, at, pick}
 use Rattle.layout.specs.Layout.Within.{none, more}
 use Rattle.refusals.specs.FirstOf.{firstOf}
 use Rattle.refusals.specs.Calls.{recursionChecks}

@@ -1,10 +1,10 @@
 -- The table of a line, as its walk fills it: group by group no entry is filled twice, and the whole names for each place where its chunk goes.
-use mathlib.Core.Path.{_≡_, refl, sym, ap, ap₂, _∙_, subst}
+use mathlib.Core.Path.{_≡_, sym, ap, _∙_}
 use mathlib.Core.Bool.{Bool, true, false, cond}
 use mathlib.Core.List.{List}
 use Prim.Native.Nat.{ℕ, _+_, _*_, _<_, _≤_}
 use native.Mathlib.Omega.{arith}
-use lib.ListN.{length, getD}
+use lib.ListN.{length}
 use Rattle.walks.proofs.Steps.{starts-lt}
 use lib.Dec.{eqb}
 use Rattle.passes.specs.ThroughScratch.{Apart, Filled, Follows, Grouped, OfPass, startOf, stands}

@@ -10,7 +10,6 @@ ghost use Prim.Native.Nat.{_<_, _≤_};
 ghost use Rattle.layout.specs.Layout.{Laid};
 ghost use Rattle.flat.specs.Turn.{sides};
 ghost use Rattle.refusals.specs.Scratch.{need};
-ghost use Rattle.passes.specs.Lines.{paired};
 ghost use Rattle.passes.specs.ThroughScratch.{Grouped, Fits, AllLie, Past};
 ghost use Rattle.passes.specs.Chunks.{ChunksLie, ChunkLineMoved, PartLies, BlockLies, ChunksTurnedAt};
 ghost use Rattle.passes.specs.Promises.{swapBlock, middle};

@@ -1,5 +1,5 @@
 -- `square` meets its contract: both ways exchange the block across its diagonal.
-use mathlib.Core.Path.{_≡_, sym, ap, _∙_}
+use mathlib.Core.Path.{ap, _∙_}
 use Prim.Native.Nat.{ℕ, _*_}
 use native.Mathlib.Nat.{mul-one}
 use borrow.Author.Needs.{needs}

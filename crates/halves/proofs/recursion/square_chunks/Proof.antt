@@ -1,6 +1,6 @@
 -- `square_chunks` meets its contract: after i turns of the loop the first i rows and columns of chunks stand exchanged.
 use Prim.Native.Nat.{_-_, _≤_, _*_}
-use native.Mathlib.Nat.{le-mul-of-pos-right, le-trans}
+use native.Mathlib.Nat.{le-mul-of-pos-right}
 use native.Mathlib.Omega.{arith}
 use Rattle.halves.proofs.Diagonal.{side-few}
 use Rattle.halves.proofs.Chunks.{DoneChunks, chunks-none, chunks-row, chunks-all}

@@ -1,5 +1,5 @@
 -- `doubles` meets its contract, which asks nothing of its answer: the side grows until it is no shorter than the longer one.
-use Prim.Native.Nat.{_-_, _<_, _≤_}
+use Prim.Native.Nat.{_-_, _<_}
 use native.Mathlib.Omega.{arith}
 use borrow.Author.Needs.{needs}
 use Rattle.passes.proofs.swapping.doubles.Statement.{statement}

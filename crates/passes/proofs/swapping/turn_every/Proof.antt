@@ -1,8 +1,6 @@
 -- `turn_every` meets its contract: where a side is 1 nothing is to move, and each other way turns every block.
 use mathlib.Core.Bool.{true≢false}
-use mathlib.Core.Path.{_≡_, sym, ap, _∙_}
-use Prim.Native.Nat.{ℕ, _+_, _*_, _<_}
-use native.Mathlib.Omega.{arith}
+use mathlib.Core.Path.{sym}
 use borrow.Author.Needs.{needs}
 use Rattle.passes.proofs.Fits.{past-none}
 use Rattle.passes.proofs.Halved.{stands-still, one-row, one-column}

@@ -2,7 +2,7 @@
 use mathlib.Core.Path.{refl}
 use native.Mathlib.Omega.{arith}
 use borrow.Author.Needs.{needs}
-use Rattle.passes.proofs.Halved.{part-inside, part-few, part-long, part-turned}
+use Rattle.passes.proofs.Halved.{part-inside, part-few, part-turned}
 use Rattle.passes.proofs.swapping.turn_part.Statement.{statement}
 use Rattle.passes.proofs.swapping.turn_part.Tie as tie
 

@@ -1,6 +1,6 @@
 -- `table::name` meets its contract: after g groups of the walk the first g · size places have filled their entries, no two the same one.
 use mathlib.Core.Path.{_≡_, refl, sym, ap, _∙_}
-use Prim.Native.Nat.{ℕ, _+_, _*_, _-_, _<_, _≤_}
+use Prim.Native.Nat.{ℕ, _+_, _*_, _-_, _≤_}
 use native.Mathlib.Omega.{arith}
 use native.Mathlib.Nat.{add-mul, one-mul, zero-mul}
 use borrow.Author.Needs.{needs}
@@ -8,7 +8,7 @@ use lib.Dec.{eqb}
 use Rattle.walks.specs.Walk.{starts}
 use Rattle.walks.proofs.Steps.{starts-lt}
 use Rattle.passes.specs.ThroughScratch.{Follows, Apart, Filled, startOf}
-use Rattle.passes.specs.Chunks.{entryOf, nameOf, GroupNamed}
+use Rattle.passes.specs.Chunks.{entryOf, nameOf}
 use Rattle.passes.proofs.Filled.{filled-none}
 use Rattle.passes.proofs.Walks.{start-on, group-inside}
 use Rattle.passes.proofs.Names.{group-named, names-on, line-few}
