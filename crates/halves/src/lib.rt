@@ -29,9 +29,9 @@ pub fn turn_chunks(buf: &mut [u32], m: usize, n: usize, w: usize) -> u32
     ensures { λ r. ⌜ TurnChunksPromise m n w (now (buf .entry)) r (now (buf .exit)) ⌝ }
 {
     let lens = [m, n, w];
-    let number = checks::block_number(&lens, buf);
-    if number != 0 {
-        return number;
+    let refusal = checks::block_number(&lens, buf);
+    if refusal != 0 {
+        return refusal;
     }
     if n <= m {
         tall(buf, m, n, w);

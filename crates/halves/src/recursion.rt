@@ -67,10 +67,10 @@ fn square_chunks(s: &mut [u32], n: usize, w: usize)
     requires { ⌜ (length (now s) ≡ n * n * w) × (0 < w) ⌝ }
     ensures { λ _. ⌜ ChunksTurned n n w (now (s .entry)) (now (s .exit)) ⌝ }
 {
-    let mut i = 0;
-    while i + 1 < n {
-        cross_chunks(s, n, w, i);
-        i += 1;
+    let mut row = 0;
+    while row + 1 < n {
+        cross_chunks(s, n, w, row);
+        row += 1;
     }
 }
 
