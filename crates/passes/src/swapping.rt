@@ -146,7 +146,7 @@ pub(crate) fn turn_every(
         turn_blocks(buf, scratch, s, outer, chunk, true);
         return;
     }
-    if chunk < 8 {
+    if chunk < 7 {
         turning::turn_all(buf, scratch, s, outer, chunk);
         return;
     }
