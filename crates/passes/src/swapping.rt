@@ -95,27 +95,13 @@ fn doubles(shorter: usize, longer: usize) -> bool
     side == longer
 }
 
-// Whether a block is two columns of single words, and long: such columns the recursion merges word by word.
-fn thin(m: usize, n: usize, chunk: usize) -> bool {
-    if chunk != 1 {
-        return false;
-    }
-    if n != 2 {
-        return false;
-    }
-    16 < m
-}
-
-// Whether the recursion turns a block: where halving the longer side again and again ends in squares it is the faster way, but for
-// thin blocks. Its chunks have as many words as an axis may have, or fewer.
+// Whether the recursion turns a block: where halving the longer side again and again ends in squares it is the faster way. Its chunks have
+// as many words as an axis may have, or fewer.
 fn by_halves(m: usize, n: usize, chunk: usize) -> bool
     requires { ⌜ (0 < m) × (0 < n) × (m ≤ 4096) × (n ≤ 4096) ⌝ }
     ensures { λ r. ⌜ (r ≡ true → chunk ≤ 4096) ⌝ }
 {
     if 4096 < chunk {
-        return false;
-    }
-    if thin(m, n, chunk) {
         return false;
     }
     if m < n {

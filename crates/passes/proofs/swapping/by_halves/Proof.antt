@@ -12,8 +12,6 @@ by-halves-spec =
     (tie.spec
     (λ c e. absurd (true≢false (sym e)))
     (λ c κs. search needs)
-    (λ c e. absurd (true≢false (sym e)))
-    (λ c κs. search needs)
     (λ c e. omega arith)
     (λ c κs. search needs)
     (λ c e. omega arith))
