@@ -136,6 +136,49 @@ fn every_order(t: &mut Bench, r: &mut Random) {
     t.group("every order of many shapes, by request and by chain");
 }
 
+// One swap with every chunk length that is moved in a way of its own (single words, a few, many, more than an axis has), on two axes whose lengths
+// share a factor, share none, double to each other or are 1: exhaustive on small ones, then larger ones.
+fn chunks(t: &mut Bench, r: &mut Random) {
+    let side = if t.short { 5 } else { 9 };
+    let lengths: &[u64] = if t.short { &[2, 3, 4, 7, 8, 16] } else { &[1, 2, 3, 4, 5, 7, 8, 9, 15, 16, 17, 33] };
+    for &chunk in lengths {
+        for m in 1..=side {
+            for n in 1..=side {
+                for outer in [1, 3] {
+                    try_swap(t, r, [outer, m, n, chunk], 1);
+                }
+            }
+        }
+    }
+    let mut larger: Vec<Lengths> = Vec::new();
+    for &chunk in &[1, 2, 3, 4, 7, 8, 16, 31] {
+        larger.extend([[2, 15, 16, chunk], [2, 12, 18, chunk], [1, 64, 15, chunk], [2, 32, 8, chunk], [1, 17, 1, chunk], [3, 1, 17, chunk], [1, 100, 90, chunk]]);
+    }
+    if !t.short {
+        for &chunk in &[2, 4, 7, 8, 16] {
+            larger.extend([[1, 500, 52, chunk], [1, 4096, 2, chunk], [1, 2, 4096, chunk], [2, 256, 64, chunk], [1, 97, 211, chunk]]);
+        }
+        larger.extend([[3, 100, 90, 37], [16, 64, 256, 4], [64, 15, 16, 16], [64, 16, 16, 16]]);
+    }
+    for shape in larger {
+        try_swap(t, r, shape, 1);
+    }
+    // chunks of more words than an axis has: the first swap of a block, with two axes behind it
+    for shape in [[2, 2, 2, 4096], [3, 2, 64, 128], [2, 3, 5, 1000], [6, 4, 100, 50], [4, 4, 65, 64], [3, 3, 4096, 2]] {
+        try_swap(t, r, shape, 0);
+    }
+    t.group("swaps of chunks of every kind");
+}
+
+// One swap, with scratch of exactly what it needs and two words more.
+fn try_swap(t: &mut Bench, r: &mut Random, lengths: Lengths, k: u64) {
+    let buffer = r.words(volume(&lengths) as usize);
+    for spare in [0, 2] {
+        let scratch = r.words((need(lengths, &[k]) + spare) as usize);
+        try_chain(t, lengths, &[k], &buffer, &scratch);
+    }
+}
+
 fn random_chains(t: &mut Bench, r: &mut Random) {
     for _ in 0..if t.short { 100 } else { 2000 } {
         let lengths = random_shape(r, 9);
@@ -424,4 +467,5 @@ pub fn all(t: &mut Bench, seed: u64) {
     if !t.short {
         largest(t, &mut r);
     }
+    chunks(t, &mut r);
 }

@@ -12,20 +12,16 @@ use lib.Arith.{digits-lt, digits-div, digits-mod}
 use Rattle.lists.proofs.Decide.{lt-or-ge}
 use Rattle.flat.specs.Turn.{Turn}
 use Rattle.flat.proofs.Turn.{from-literal}
-use Rattle.halves.specs.LentSlices.{Crossed}
-
--- the words at x and at y exchanged
-abbrev pub swapped : List ℕ → ℕ → ℕ → List ℕ
-swapped xs x y = set (set xs x (getD xs y 0)) y (getD xs x 0)
+use Rattle.halves.specs.LentSlices.{Crossed, swapped}
 
 module _ (xs : List ℕ) (x y : ℕ) (apart : x ≡ y → ⊥) (hx : x < length xs) (hy : y < length xs) where
-  at-first : getD (swapped xs x y) x 0 ≡ getD xs y 0
+  pub at-first : getD (swapped xs x y) x 0 ≡ getD xs y 0
   at-first = getD-set-other (set xs x (getD xs y 0)) y x (getD xs x 0) 0 apart ∙ getD-set-same xs x (getD xs y 0) 0 hx
 
-  at-second : getD (swapped xs x y) y 0 ≡ getD xs x 0
+  pub at-second : getD (swapped xs x y) y 0 ≡ getD xs x 0
   at-second = getD-set-same (set xs x (getD xs y 0)) y (getD xs x 0) 0 (rw length-set hy)
 
-  elsewhere : (k : ℕ) → (k ≡ x → ⊥) → (k ≡ y → ⊥) → getD (swapped xs x y) k 0 ≡ getD xs k 0
+  pub elsewhere : (k : ℕ) → (k ≡ x → ⊥) → (k ≡ y → ⊥) → getD (swapped xs x y) k 0 ≡ getD xs k 0
   elsewhere k u v = getD-set-other (set xs x (getD xs y 0)) y k (getD xs x 0) 0 v ∙ getD-set-other xs x k (getD xs y 0) 0 u
 
 -- an offset has one row and one column

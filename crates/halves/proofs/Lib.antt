@@ -5,20 +5,24 @@ mod Parts
 -- rotation by exchanges of the shorter side
 mod Rotations
 -- words in front of and behind a cut, and runs merged half by half
-mod Merges
+pub mod Merges
 -- a list in four parts of which the middle two change places
 mod Four
 -- one level of merge and of split
 mod Halving
 -- the exchange across the diagonal, word by word and row by row
-mod Diagonal
+pub mod Diagonal
+-- two equal stretches exchanged, one word more
+pub mod Exchanges
+-- blocks of chunks by their words
+pub mod Chunks
 -- a block cut in two, each part lent and turned
 mod Cuts
 -- parts turned and merged, or split and turned, are the block turned
 mod Turns
--- the block at the start of a buffer, lent and turned
-mod Lent
+-- a buffer that passes the checks is a block, and the outcomes that the promises allow
+pub mod Lent
 -- split undoes merge, and merge undoes split
 pub mod Undo
--- any two outcomes that the promise of `turn` allows coincide
+-- any two outcomes that a promise allows coincide
 pub mod OneOutcome

@@ -16,6 +16,8 @@ use Rattle.passes.proofs.clear.Kinds as clear-kinds
 use Rattle.passes.proofs.clear.Reads as clear
 use Rattle.halves.proofs.turn.Kinds as halves-kinds
 use Rattle.halves.proofs.turn.Reads as halves-turn
+use Rattle.halves.proofs.turn_chunks.Kinds as chunks-kinds
+use Rattle.halves.proofs.turn_chunks.Reads as chunks-turn
 
 pub turn-once : (κs : Lfts 2) (a : Dens κs turn-kinds.ps) (r r′ : ℕ) (s s′ : AtExit (endedOf 2 turn-kinds.ps turn-kinds.r) κs)
     → turn.Post κs a r s → turn.Post κs a r′ s′ → (r ≡ r′) × (s .0 .now ≡ s′ .0 .now) × (s .1 .0 .now ≡ s′ .1 .0 .now)
@@ -36,3 +38,7 @@ clear-once κs a r r′ s s′ p q = passes.clear-once p q
 pub halves-turn-once : (κs : Lfts 1) (a : Dens κs halves-kinds.ps) (r r′ : ℕ) (s s′ : AtExit (endedOf 1 halves-kinds.ps halves-kinds.r) κs)
     → halves-turn.Post κs a r s → halves-turn.Post κs a r′ s′ → (r ≡ r′) × (s .0 .now ≡ s′ .0 .now)
 halves-turn-once κs a r r′ s s′ p q = halves.turn-once p q
+
+pub turn-chunks-once : (κs : Lfts 1) (a : Dens κs chunks-kinds.ps) (r r′ : ℕ) (s s′ : AtExit (endedOf 1 chunks-kinds.ps chunks-kinds.r) κs)
+    → chunks-turn.Post κs a r s → chunks-turn.Post κs a r′ s′ → (r ≡ r′) × (s .0 .now ≡ s′ .0 .now)
+turn-chunks-once κs a r r′ s s′ p q = halves.turn-chunks-once p q

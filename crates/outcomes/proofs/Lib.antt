@@ -20,6 +20,8 @@ pub mod RefutedTurn
 pub mod RefutedTurnBack
 pub mod RefutedSwap
 pub mod RefutedRecursion
+-- and of the turn of chunks by recursion
+pub mod RefutedChunks
 pub mod RefutedChain
 pub mod RefutedRequest
 pub mod RefutedPlan

@@ -1,4 +1,4 @@
--- Wrong outcomes of the adjacent swap and of clearing scratch: each breaks the promise. The case is two blocks of 2 by 2 with one word
+-- Wrong outcomes of the adjacent swap and of clearing scratch: each breaks the promise. Where none is named the case is two blocks of 2 by 2 with one word
 -- after the two axes, 0 to 7; the right outcome is 0 2 1 3 4 6 5 7.
 use mathlib.Core.Path.{_≡_, refl}
 use mathlib.Core.List.{List, [], _∷_}
@@ -13,6 +13,12 @@ use Rattle.outcomes.proofs.Wrong.{other-number, other-list, misplaced, 
 
 abbrev block : List ℕ
 block = 0 ∷ 1 ∷ 2 ∷ 3 ∷ 4 ∷ 5 ∷ 6 ∷ 7 ∷ []
+
+abbrev sixteen : List ℕ
+sixteen = 0 ∷ 1 ∷ 2 ∷ 3 ∷ 4 ∷ 5 ∷ 6 ∷ 7 ∷ 8 ∷ 9 ∷ 10 ∷ 11 ∷ 12 ∷ 13 ∷ 14 ∷ 15 ∷ []
+
+abbrev eighteen : List ℕ
+eighteen = 0 ∷ 1 ∷ 2 ∷ 3 ∷ 4 ∷ 5 ∷ 6 ∷ 7 ∷ 8 ∷ 9 ∷ 10 ∷ 11 ∷ 12 ∷ 13 ∷ 14 ∷ 15 ∷ 16 ∷ 17 ∷ []
 
 abbrev scratch : List ℕ
 scratch = 9 ∷ 9 ∷ 9 ∷ []
@@ -39,6 +45,22 @@ first-block-only p = misplaced (p .words refl) (1 ∷ 0 ∷ 1 ∷ 0 ∷ []) tt t
 pub first-word-of-the-chunk-only : {s : List ℕ} → SwapPromise 1 2 2 2 block scratch 0 (0 ∷ 1 ∷ 4 ∷ 3 ∷ 2 ∷ 5 ∷ 6 ∷ 7 ∷ []) s → ⊥
 unfolding at pick volume longest
 first-word-of-the-chunk-only p = misplaced (p .words refl) (0 ∷ 0 ∷ 1 ∷ 1 ∷ []) tt tt
+
+-- one that leaves the last word of each chunk out: 2 by 2 chunks of four words
+pub last-word-of-the-chunk-left-out : {s : List ℕ} → SwapPromise 1 2 2 4 sixteen scratch 0 (0 ∷ 1 ∷ 2 ∷ 3 ∷ 8 ∷ 9 ∷ 10 ∷ 7 ∷ 4 ∷ 5 ∷ 6 ∷ 11 ∷ 12 ∷ 13 ∷ 14 ∷ 15 ∷ []) s → ⊥
+unfolding at pick volume longest
+last-word-of-the-chunk-left-out p = misplaced (p .words refl) (0 ∷ 0 ∷ 1 ∷ 3 ∷ []) tt tt
+
+-- one whose passes that receive move chunks along the table of what each place receives, not of where each goes: 3 by 3 chunks of two words. Where
+-- a side is below 3 this cannot be told
+pub receiving-table-not-inverted : {s : List ℕ} → SwapPromise 1 3 3 2 eighteen scratch 0 (0 ∷ 1 ∷ 6 ∷ 7 ∷ 12 ∷ 13 ∷ 8 ∷ 9 ∷ 14 ∷ 15 ∷ 2 ∷ 3 ∷ 16 ∷ 17 ∷ 4 ∷ 5 ∷ 10 ∷ 11 ∷ []) s → ⊥
+unfolding at pick volume longest
+receiving-table-not-inverted p = misplaced (p .words refl) (0 ∷ 0 ∷ 1 ∷ 0 ∷ []) tt tt
+
+-- scratch that still holds a table, 0 1 2, at the end
+pub table-left : {b : List ℕ} → SwapPromise 1 3 3 2 eighteen scratch 0 b (0 ∷ 1 ∷ 2 ∷ []) → ⊥
+unfolding longest
+table-left p = other-list (p .zeroed refl) tt
 
 -- scratch left as it was, and cleared one word too far
 pub scratch-left : {b : List ℕ} → Leaves 0 b scratch → ⊥

@@ -27,7 +27,7 @@ use Rattle.passes.specs.declared.LineCount.{LineCount}
 use Rattle.passes.proofs.Ticks.{flat-passed, line-there}
 
 -- a map that permutes the places of a line leaves none out
-reached : {N : ℕ} {f : ℕ → ℕ} → Permutes N f → (x : ℕ) → x < N → (k : ℕ) × (k < N) × (f k ≡ x)
+pub reached : {N : ℕ} {f : ℕ → ℕ} → Permutes N f → (x : ℕ) → x < N → (k : ℕ) × (k < N) × (f k ≡ x)
 unfolding iter
 reached {N} {f} s x l = let c = comes-home s x l in go (c .0) (c .1) (c .3)
   where
@@ -56,7 +56,7 @@ one-move {count} {pos} {to} {ys = ys} {zs} s f g =
         f .others p none ∙ sym (g .others p none)
 
 -- a line's places, as its pass pairs them, are permuted
-line-permutes : {m n : ℕ} {l : Line} {xs ss : List ℕ} → Fits m n l xs ss → Permutes (l .count) (toPlace m n l)
+pub line-permutes : {m n : ℕ} {l : Line} {xs ss : List ℕ} → Fits m n l xs ss → Permutes (l .count) (toPlace m n l)
 line-permutes {m} {n} {l} f = go (eqb (l .pass) 2)
   where
     go : (t : Bool) → Permutes (l .count) (λ k. cond t (paired m n (l .pass) (l .index) k) k)

@@ -3,3 +3,4 @@ pub mod ThroughScratch
 pub mod Promises
 pub mod Ticks
 pub mod Restart
+pub mod Chunks

@@ -1,4 +1,5 @@
 // The flat turn by passes, in one call, one line a call or stages that a stop may cut, its reverse, and the adjacent swap of four axes.
+mod chunks;
 mod column;
 mod gcd;
 mod line;
@@ -6,6 +7,8 @@ mod refusal;
 mod restart;
 mod scratch;
 mod source;
+mod swapping;
+mod table;
 mod turning;
 mod walk;
 
@@ -138,7 +141,7 @@ pub fn swap(
         return number;
     }
     let s = turning::group_sides(m, n);
-    turning::turn_all(buf, scratch, s, outer, chunk);
+    swapping::turn_every(buf, scratch, s, outer, chunk);
     scratch::clear_longest(scratch, m, n);
     0
 }

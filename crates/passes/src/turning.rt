@@ -56,7 +56,7 @@ pub(crate) fn line_count(s: GroupedSides) -> usize
 }
 
 // The first line that moves: the columns of pass 1 before column b stand still, and where pass 1 is left out b is n.
-fn first_moved(s: GroupedSides) -> usize
+pub(crate) fn first_moved(s: GroupedSides) -> usize
     requires { ⌜ Grouped s ⌝ }
     ensures { λ r. ⌜ skipped (s .m) (s .n) + r ≡ columnGroup (s .m) (s .n) ⌝ }
 {

@@ -17,8 +17,8 @@ checked : (x : tie.Start) → let a = x .args in firstOf (swapChecks (a .outer) 
     → There (a .outer) (a .m) (a .n) (a .chunk) × AllLie (a .outer) (a .m) (a .n) (a .chunk) (a .buf .now) (a .scratch .now)
 checked x = swap-accepted _ _ _ _ _ _
 
-turn-all-requires : tie.Need-turn-all-requires
-turn-all-requires c κs =
+turn-every-requires : tie.Need-turn-every-requires
+turn-every-requires c κs =
     let s : tie.After-group-sides = search in
     let is = s .group-sides .ensures in
     (is .2, rw (is .0, is .1) (checked (search) (search via) .1))
@@ -26,9 +26,9 @@ turn-all-requires c κs =
 returns-2 : tie.Need-returns-2
 returns-2 c =
     let z : tie.After-clear-longest = search in
-    let t : tie.After-turn-all = search in
+    let t : tie.After-turn-every = search in
     let s : tie.After-group-sides = search in
-    let turned = rw (s .group-sides .ensures .0, s .group-sides .ensures .1) at (t .turn-all .ensures) in
+    let turned = rw (s .group-sides .ensures .0, s .group-sides .ensures .1) at (t .turn-every .ensures) in
     accepted (search via) (turned .0) (z .clear-longest .ensures ∙ past-cleared (turned .1))
 
 pub swap-spec : {M : Type 1} → statement M
@@ -40,7 +40,7 @@ swap-spec =
     (search needs)
     (λ c. search refused)
     (λ c κs. omega (arith, checked (search) (search via) .0))
-    turn-all-requires
+    turn-every-requires
     (λ c κs. omega (arith, checked (search) (search via) .1))
     (search needs)
     (search needs)

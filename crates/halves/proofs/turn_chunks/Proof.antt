@@ -1,0 +1,37 @@
+-- `turn_chunks` meets its promise: where a check holds nothing is touched, and where none does the buffer is a block and is turned.
+use mathlib.Core.Path.{_≡_}
+use native.Mathlib.Omega.{arith}
+use borrow.Author.Needs.{needs}
+use Rattle.lists.proofs.Via.{via}
+use Rattle.refusals.specs.FirstOf.{firstOf}
+use Rattle.refusals.specs.Calls.{recursionChecks}
+use Rattle.halves.specs.Promise.{chunked}
+use Rattle.halves.specs.LentSlices.{Block}
+use Rattle.halves.proofs.Lent.{checked-chunks, chunks-refused, chunks-accepted}
+use Rattle.halves.proofs.turn_chunks.Statement.{statement}
+use Rattle.halves.proofs.turn_chunks.Tie as tie
+
+-- what the checks tell of the arguments where none holds
+checked : (x : tie.Start) → let a = x .args in firstOf (recursionChecks (chunked (a .m) (a .n) (a .w)) (a .buf .now)) ≡ 0 → Block (a .m) (a .n) (a .w) (a .buf .now)
+checked x = checked-chunks _ _ _ _
+
+returns-2 : tie.Need-returns-2
+returns-2 c = let t : tie.After-tall = search in chunks-accepted (search via) (t .tall .ensures)
+
+returns-3 : tie.Need-returns-3
+returns-3 c = let t : tie.After-wide = search in chunks-accepted (search via) (t .wide .ensures)
+
+pub turn-chunks-spec : {M : Type 1} → statement M
+turn-chunks-spec =
+    tie.close
+    (tie.spec
+    (search needs)
+    (search needs)
+    (search needs)
+    (λ c. search chunks-refused)
+    (λ c κs. (checked (search) (search via), omega arith))
+    (λ c κs. (checked (search) (search via), omega arith))
+    (search needs)
+    returns-2
+    (search needs)
+    returns-3)
