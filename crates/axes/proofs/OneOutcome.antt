@@ -15,9 +15,8 @@ use Rattle.refusals.specs.FirstOf.{Check, firstOf}
 use Rattle.refusals.specs.Promise.{Rearranged}
 use Rattle.refusals.proofs.Promise.{one-outcome}
 use Rattle.axes.specs.declared.Answer.{Answer}
-use Rattle.axes.specs.declared.Planned.{Planned}
-use Rattle.axes.specs.Answers.{refused, refusedPlace, noPlan}
-use Rattle.axes.specs.Promises.{ChainPromise, RequestPromise, PlanPromise}
+use Rattle.axes.specs.Answers.{refused, refusedPlace}
+use Rattle.axes.specs.Promises.{ChainPromise, RequestPromise}
 use Rattle.axes.proofs.Accepted.{request-order}
 
 -- what is equal where a number is 0 and where it is not
@@ -31,7 +30,7 @@ chain-once {r} {ds} {chain} axes p q =
     let (number, words, scratch) = one-outcome (λ ys zs f g. layouts.chain-once ds axes chain f g) (p .block) (q .block) in (
       either-way number
           (λ e e′. p .given e ∙ sym (q .given e′))
-          (λ n n′. p .refusal n ∙ ap (λ (k : ℕ). refused r k (refusedPlace r k chain)) number ∙ sym (q .refusal n′)),
+          (λ n n′. p .refusal n ∙ ap (λ (k : ℕ). refused k (refusedPlace r k chain)) number ∙ sym (q .refusal n′)),
       words,
       scratch,
     )
@@ -60,14 +59,7 @@ request-once {r} {ds} {release} {order} {xs} {ss} axes p q =
     one-outcome (λ ys zs f g. once release order axes (request-order r ds xs ss release order (f .1)) (f .0) (g .0)) (with-checks (p .block)) (with-checks (q .block)) in (
       either-way number
           (λ e e′. p .given e ∙ sym (q .given e′))
-          (λ n n′. p .refusal n ∙ ap (λ (k : ℕ). refused r k 0) number ∙ sym (q .refusal n′)),
+          (λ n n′. p .refusal n ∙ ap (λ (k : ℕ). refused k 0) number ∙ sym (q .refusal n′)),
       words,
       scratch,
     )
-
-pub plan-once : {r order : ℕ} {p p′ : Planned} → PlanPromise r order p → PlanPromise r order p′ → p ≡ p′
-plan-once {r} p q =
-    let same = p .number-is ∙ sym (q .number-is) in
-    either-way same
-    (λ e e′. p .given e ∙ sym (q .given e′))
-    (λ n n′. p .refusal n ∙ ap (noPlan r) same ∙ sym (q .refusal n′))
