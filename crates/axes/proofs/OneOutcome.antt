@@ -2,10 +2,8 @@
 -- layouts of one order are equal; where it is refused, all is as it was.
 use mathlib.Core.Path.{_≡_, sym, ap, _∙_, subst}
 use mathlib.Core.List.{List}
-use mathlib.Core.Logic.{⊎-elim}
 use Prim.Native.Nat.{ℕ, _<_}
 use lib.ListN.{length}
-use Rattle.lists.proofs.Decide.{eq-or-ne}
 use Rattle.layout.specs.Layout.{Laid}
 use Rattle.orders.specs.Numbers.{orderCount}
 use Rattle.orders.specs.Releases.{orderBy}
@@ -14,15 +12,11 @@ use Rattle.orders.proofs.Releases.{by-named}
 use Rattle.refusals.specs.FirstOf.{Check, firstOf}
 use Rattle.refusals.specs.Promise.{Rearranged}
 use Rattle.refusals.proofs.Promise.{one-outcome}
+use Rattle.plans.proofs.OneOutcome.{either-way}
 use Rattle.axes.specs.declared.Answer.{Answer}
 use Rattle.axes.specs.Answers.{refused, refusedPlace}
 use Rattle.axes.specs.Promises.{ChainPromise, RequestPromise}
 use Rattle.axes.proofs.Accepted.{request-order}
-
--- what is equal where a number is 0 and where it is not
-either-way : {A : Type 0} {x y : A} {n m : ℕ} → n ≡ m → (n ≡ 0 → m ≡ 0 → x ≡ y) → ((n ≡ 0 → ⊥) → (m ≡ 0 → ⊥) → x ≡ y) → x ≡ y
-either-way {n = n} same taken left =
-    ⊎-elim (λ (e : n ≡ 0). taken e (sym same ∙ e)) (λ (k : n ≡ 0 → ⊥). left k (λ e. k (same ∙ e))) (eq-or-ne n 0)
 
 pub chain-once : {r : ℕ} {ds chain xs ss : List ℕ} → length ds ≡ r → {a a′ : Answer} {ys ys′ ts ts′ : List ℕ}
     → ChainPromise r ds chain xs ss a ys ts → ChainPromise r ds chain xs ss a′ ys′ ts′ → (a ≡ a′) × (ys ≡ ys′) × (ts ≡ ts′)

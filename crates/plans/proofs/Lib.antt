@@ -4,3 +4,5 @@ pub mod Rows
 pub mod PlanSteps
 -- what makes the promise of a plan
 pub mod Given
+-- any two outcomes that the promise of a plan allows coincide
+pub mod OneOutcome

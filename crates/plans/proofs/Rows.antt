@@ -9,7 +9,7 @@ use lib.Dec.{eqb}
 use lib.ListN.{length, getD, List·getD-eq-default}
 use Rattle.layout.specs.Layout.{placeOf, places}
 use Rattle.orders.specs.Chains.{exchange}
-use Rattle.orders.specs.Numbers.{orders, orderCount, orderOf, numberOf}
+use Rattle.orders.specs.Numbers.{arrangements, orders, orderCount, orderOf, rank, numberOf}
 use Rattle.orders.specs.Releases.{numberBy}
 use Rattle.orders.proofs.Swaps.{exchange-past}
 use Rattle.orders.proofs.Chains.{length-named}
@@ -31,7 +31,16 @@ pub no-row : (r k : ℕ) → orderCount r ≤ k → orderOf r k ≡ []
 unfolding orderOf
 no-row r k h = List·getD-eq-default (orders r) [] (rw (count-orders r) h)
 
--- a swap makes of it none either
+-- and what is none of the orders has for a number how many there are
+pub none-of-four : numberOf 4 [] ≡ 24
+unfolding numberOf orders arrangements rank
+none-of-four = refl
+
+pub none-of-five : numberOf 5 [] ≡ 120
+unfolding numberOf orders arrangements rank
+none-of-five = refl
+
+-- a swap makes of none none
 pub no-next : (r order k : ℕ) → orderCount r ≤ order → numberOf r (exchange k (orderOf r order)) ≡ numberOf r []
 unfolding exchange
 no-next r order k h = ap (λ (o : List ℕ). numberOf r (exchange k o)) (no-row r order h)

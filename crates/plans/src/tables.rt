@@ -488,6 +488,14 @@ pub(crate) fn order_of5(order: usize) -> [usize; 5]
     ]
 }
 
+// The number of the order of four axes that one of their swaps makes of one of their orders.
+fn successor(order: usize, k: usize) -> usize
+    requires { ⌜ (order < 24) × (k < 3) ⌝ }
+    ensures { λ r. ⌜ r ≡ numberOf 4 (exchange k (orderOf 4 order)) ⌝ }
+{
+    NEXT[order][k]
+}
+
 // The number of the order of four axes that a swap makes of an order; 24 where there is no such order.
 pub fn next_order(order: usize, k: usize) -> usize
     ensures { λ r. ⌜ r ≡ numberOf 4 (exchange k (orderOf 4 order)) ⌝ }
@@ -498,7 +506,7 @@ pub fn next_order(order: usize, k: usize) -> usize
     if 2 < k {
         return order;
     }
-    NEXT[order][k]
+    successor(order, k)
 }
 
 // The number of the order of five axes that a swap makes of an order; 120 where there is no such order.

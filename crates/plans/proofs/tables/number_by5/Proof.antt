@@ -1,6 +1,6 @@
 -- `plans::tables::number_by5` meets its contract: in release 2 the table has, for each of the orders, the number of the order with each axis at the
 -- place that it names; the tables are compared once, as a whole. In release 1 a number is its own. Past the last order there is none in either.
-use mathlib.Core.Path.{sym}
+use mathlib.Core.Path.{sym, _∙_}
 use mathlib.Core.List.{[]}
 use native.Mathlib.Omega.{arith}
 use borrow.Author.Needs.{needs}
@@ -8,13 +8,12 @@ use borrow.Author.Tests.{ne-eqb}
 use Rattle.layout.specs.Layout.{placeOf, places}
 use Rattle.orders.specs.Numbers.{orderOf, numberOf, orders, arrangements, rank}
 use Rattle.orders.proofs.Numbers.{number-order}
-use Rattle.plans.proofs.Rows.{row-at, no-inverse}
+use Rattle.plans.proofs.Rows.{row-at, none-of-five, no-inverse}
 use Rattle.plans.proofs.tables.number_by5.Statement.{statement}
 use Rattle.plans.proofs.tables.number_by5.Tie as tie
 
 returns : tie.Need-returns
-unfolding numberOf orders arrangements rank
-returns c = let x : tie.Start = search in sym (no-inverse 5 (x .args .release) (x .args .order) (omega arith))
+returns c = let x : tie.Start = search in sym (no-inverse 5 (x .args .release) (x .args .order) (omega arith) ∙ none-of-five)
 
 returns-2 : tie.Need-returns-2
 unfolding orderOf numberOf orders arrangements rank placeOf places
