@@ -1,6 +1,6 @@
 -- The records of the C interface read as those of the calls below, field by field. Assumes nothing: these are definitions.
 use Rattle.axes.specs.declared.Answer.{Answer as Below-Answer}
-use Rattle.axes.specs.declared.Planned.{Planned as Below-Planned}
+use Rattle.plans.specs.declared.Planned.{Planned as Below-Planned}
 use Rattle.sheet.specs.declared.Sheet.{Sheet as Below-Sheet}
 use Rattle.printer.specs.declared.Written.{Written as Below-Written}
 use Rattle.home.specs.declared.Home.{Home as Below-Home}
