@@ -6,6 +6,7 @@ mod cameras;
 mod cycles;
 mod desk;
 mod driver;
+mod five;
 mod flat;
 mod guards;
 mod random;
@@ -25,7 +26,7 @@ fn main() {
     if short {
         command.remove(0);
     }
-    println!("seeds {} to {}{}", SEED, SEED + 9, if short { ", short form" } else { "" });
+    println!("seeds {} to {}{}", SEED, SEED + 10, if short { ", short form" } else { "" });
     let mut t = bench::Bench::new(driver::Driver::new(&command), short);
     guards::all(&mut t);
     flat::all(&mut t, SEED);
@@ -38,6 +39,7 @@ fn main() {
     desk::all(&mut t, SEED + 7);
     ticks::all(&mut t, SEED + 8);
     cycles::all(&mut t, SEED + 9);
+    five::all(&mut t, SEED + 10);
     let well = t.driver.end();
     t.verdict(well, || "the driver did not end well".to_string());
     println!("{} passed, {} failed", t.passed, t.failed);

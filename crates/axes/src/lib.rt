@@ -10,6 +10,7 @@ mod chains;
 mod sizes;
 
 // The lengths of up to five axes, last axis fastest. A call on four axes does not read the fifth.
+#[repr(C)]
 pub struct Shape {
     pub lens: [usize; 5],
 }
@@ -50,6 +51,7 @@ impl Shape {
 }
 
 // What a call on a block answers: its number, its place, the five new lengths (of four axes the last is 0), the number of the new order, the swaps done.
+#[repr(C)]
 pub struct Answer {
     pub number: u32,
     pub place: usize,

@@ -1,5 +1,4 @@
 // The C interface: each public call under a C name, with the promise of the call below it.
-ghost use mathlib.Core.Path.{_≡_};
 ghost use lib.ListN.{take};
 ghost use Rattle.passes.specs.Promises.{TurnPromise, TurnBackPromise};
 ghost use Rattle.halves.specs.Promise.{TurnPromise as HalvesPromise};
@@ -17,36 +16,12 @@ ghost use Rattle.choice.specs.Promises.{ChosenAs, NumberAs};
 ghost use Rattle.passes.specs.Ticks.{LinesPromise};
 ghost use Rattle.ticks.specs.Steps.{StepPromise};
 ghost use Rattle.cycles.specs.Promise.{JudgedAs, RunAs};
-ghost use Rattle.exports.specs.Records.{answered, planned, sheetRead, sheetWritten, homeAfter, resultRead, linesCounted, cyclesJudged};
-
-// The lengths of up to five axes, last axis fastest; a call on four axes does not read the fifth.
-#[repr(C)]
-pub struct Shape {
-    pub lens: [usize; 5],
-}
+ghost use Rattle.exports.specs.Records.{sheetRead, sheetWritten, homeAfter, resultRead, linesCounted, cyclesJudged};
 
 // The lengths of a sheet's four axes.
 #[repr(C)]
 pub struct SheetShape {
     pub lens: [usize; 4],
-}
-
-// What a call on a block of four or five axes answers.
-#[repr(C)]
-pub struct Answer {
-    pub number: u32,
-    pub place: usize,
-    pub lens: [usize; 5],
-    pub order: usize,
-    pub swaps: usize,
-}
-
-// What the plan for an order answers.
-#[repr(C)]
-pub struct Planned {
-    pub number: u32,
-    pub swaps: [usize; 10],
-    pub len: usize,
 }
 
 // What the sheet reader answers.
@@ -121,44 +96,17 @@ pub extern "C" fn zib_turn_halves(buf: &mut [u32], m: usize, n: usize) -> u32
     halves::turn(buf, m, n)
 }
 
-// The answer of a call on a block as a record of the interface.
-fn answer_of(a: axes::Answer) -> Answer
-    ensures { λ r. ⌜ answered r ≡ a ⌝ }
-{
-    let lens = a.lens;
-    Answer {
-        number: a.number,
-        place: a.place,
-        lens: lens,
-        order: a.order,
-        swaps: a.swaps,
-    }
-}
-
-// A plan as a record of the interface.
-fn plan_of(p: plans::Planned) -> Planned
-    ensures { λ r. ⌜ planned r ≡ p ⌝ }
-{
-    let swaps = p.swaps;
-    Planned {
-        number: p.number,
-        swaps: swaps,
-        len: p.len,
-    }
-}
-
 // A chain of swaps on a block of four axes.
 #[no_mangle]
 pub extern "C" fn zib_chain(
     buf: &mut [u32],
     scratch: &mut [u32],
-    shape: Shape,
+    shape: axes::Shape,
     swaps: &[usize],
-) -> Answer
-    ensures { λ r. ⌜ ChainPromise 4 (take 4 (shape .lens)) (now (swaps .entry)) (now (buf .entry)) (now (scratch .entry)) (answered r) (now (buf .exit)) (now (scratch .exit)) ⌝ }
+) -> axes::Answer
+    ensures { λ r. ⌜ ChainPromise 4 (take 4 (shape .lens)) (now (swaps .entry)) (now (buf .entry)) (now (scratch .entry)) r (now (buf .exit)) (now (scratch .exit)) ⌝ }
 {
-    let lens = shape.lens;
-    answer_of(axes::chain(buf, scratch, axes::Shape { lens: lens }, swaps))
+    axes::chain(buf, scratch, shape, swaps)
 }
 
 // The direct request for the order of four axes that a number names by its release.
@@ -166,22 +114,21 @@ pub extern "C" fn zib_chain(
 pub extern "C" fn zib_request(
     buf: &mut [u32],
     scratch: &mut [u32],
-    shape: Shape,
+    shape: axes::Shape,
     release: usize,
     order: usize,
-) -> Answer
-    ensures { λ r. ⌜ RequestPromise 4 (take 4 (shape .lens)) release order (now (buf .entry)) (now (scratch .entry)) (answered r) (now (buf .exit)) (now (scratch .exit)) ⌝ }
+) -> axes::Answer
+    ensures { λ r. ⌜ RequestPromise 4 (take 4 (shape .lens)) release order (now (buf .entry)) (now (scratch .entry)) r (now (buf .exit)) (now (scratch .exit)) ⌝ }
 {
-    let lens = shape.lens;
-    answer_of(axes::request(buf, scratch, axes::Shape { lens: lens }, release, order))
+    axes::request(buf, scratch, shape, release, order)
 }
 
 // The plan for an order of four axes.
 #[no_mangle]
-pub extern "C" fn zib_plan(order: usize) -> Planned
-    ensures { λ r. ⌜ PlanPromise 4 order (planned r) ⌝ }
+pub extern "C" fn zib_plan(order: usize) -> plans::Planned
+    ensures { λ r. ⌜ PlanPromise 4 order r ⌝ }
 {
-    plan_of(plans::plan(order))
+    plans::plan(order)
 }
 
 // A chain of swaps on a block of five axes.
@@ -189,13 +136,12 @@ pub extern "C" fn zib_plan(order: usize) -> Planned
 pub extern "C" fn zib_chain5(
     buf: &mut [u32],
     scratch: &mut [u32],
-    shape: Shape,
+    shape: axes::Shape,
     swaps: &[usize],
-) -> Answer
-    ensures { λ r. ⌜ ChainPromise 5 (take 5 (shape .lens)) (now (swaps .entry)) (now (buf .entry)) (now (scratch .entry)) (answered r) (now (buf .exit)) (now (scratch .exit)) ⌝ }
+) -> axes::Answer
+    ensures { λ r. ⌜ ChainPromise 5 (take 5 (shape .lens)) (now (swaps .entry)) (now (buf .entry)) (now (scratch .entry)) r (now (buf .exit)) (now (scratch .exit)) ⌝ }
 {
-    let lens = shape.lens;
-    answer_of(axes::chain5(buf, scratch, axes::Shape { lens: lens }, swaps))
+    axes::chain5(buf, scratch, shape, swaps)
 }
 
 // The direct request for the order of five axes that a number names by its release.
@@ -203,22 +149,21 @@ pub extern "C" fn zib_chain5(
 pub extern "C" fn zib_request5(
     buf: &mut [u32],
     scratch: &mut [u32],
-    shape: Shape,
+    shape: axes::Shape,
     release: usize,
     order: usize,
-) -> Answer
-    ensures { λ r. ⌜ RequestPromise 5 (take 5 (shape .lens)) release order (now (buf .entry)) (now (scratch .entry)) (answered r) (now (buf .exit)) (now (scratch .exit)) ⌝ }
+) -> axes::Answer
+    ensures { λ r. ⌜ RequestPromise 5 (take 5 (shape .lens)) release order (now (buf .entry)) (now (scratch .entry)) r (now (buf .exit)) (now (scratch .exit)) ⌝ }
 {
-    let lens = shape.lens;
-    answer_of(axes::request5(buf, scratch, axes::Shape { lens: lens }, release, order))
+    axes::request5(buf, scratch, shape, release, order)
 }
 
 // The plan for an order of five axes.
 #[no_mangle]
-pub extern "C" fn zib_plan5(order: usize) -> Planned
-    ensures { λ r. ⌜ PlanPromise 5 order (planned r) ⌝ }
+pub extern "C" fn zib_plan5(order: usize) -> plans::Planned
+    ensures { λ r. ⌜ PlanPromise 5 order r ⌝ }
 {
-    plan_of(plans::plan5(order))
+    plans::plan5(order)
 }
 
 // Reads a sheet into a word buffer.

@@ -9,6 +9,7 @@ mod steps;
 pub mod tables;
 
 // A plan: its number, ten swap places of which the first `len` are used, and their count.
+#[repr(C)]
 pub struct Planned {
     pub number: u32,
     pub swaps: [usize; 10],
