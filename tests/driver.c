@@ -56,6 +56,9 @@ enum {
     CHOOSE = 23,
     CHOOSE_NUMBER = 24,
     WRITE_RELEASE = 30,
+    CHAIN5 = 31,
+    REQUEST5 = 32,
+    PLAN5 = 33,
     /* these touch what they must not, to show that the guards bite */
     WRITE_PAST_END = 100,
     READ_PAST_END = 101,

@@ -30,7 +30,8 @@ scratch = replicate 4 9
 abbrev Leaves : ℕ → Answer → List ℕ → Type 0
 Leaves fifth a b = ChainPromise 4 (take 4 (1 ∷ 1 ∷ 2 ∷ 3 ∷ fifth ∷ [])) (2 ∷ []) block scratch a b (0 ∷ 0 ∷ 0 ∷ 9 ∷ [])
 
-accepts : {fifth : ℕ} {a : Answer} {b : List ℕ} → Leaves fifth a b → a .number ≡ 0
+-- it is the same whatever that length is: the promise does not speak of it
+accepts : {a : Answer} {b : List ℕ} → Leaves 7 a b → a .number ≡ 0
 unfolding volume exchanged chainNeed
 accepts p = p .block .number-is
 
