@@ -12,7 +12,7 @@ use Rattle.lists.specs.Tab.{tab}
 use Rattle.lists.proofs.Tab.{tab-more, tab-getD}
 use Rattle.lists.proofs.Front.{drop-end}
 use Rattle.orders.specs.Chains.{exchange}
-use Rattle.orders.proofs.Swaps.{length-exchange, exchange-set, exchange-past}
+use Rattle.orders.proofs.Swaps.{length-exchange, exchange-past}
 use Rattle.axes.specs.Answers.{fiveLengths}
 
 -- of the five the first are those of the axes
@@ -37,10 +37,8 @@ taken r l e = rw e at (length-take r l)
 
 -- a swap, where the axes have the two places and where they have not
 module _ (r k : ℕ) (l : List ℕ) (long : length l ≡ 5) {now : List ℕ} (e : now ≡ fiveLengths (take r l)) where
-  pub two-exchanged : k < 4 → k + 1 < r → length now ≡ 5
-      → set (set now k (getD now (k + 1) 0)) (k + 1) (getD now k 0) ≡ fiveLengths (exchange k (take r l))
-  two-exchanged h i f =
-      sym (exchange-set k now (omega arith)) ∙ ap (exchange k) e ∙ exchange-five k (take r l) (omega (arith, taken r l long))
+  pub two-exchanged : k < 4 → k + 1 < r → {after : List ℕ} → after ≡ exchange k now → after ≡ fiveLengths (exchange k (take r l))
+  two-exchanged h i f = f ∙ ap (exchange k) e ∙ exchange-five k (take r l) (omega (arith, taken r l long))
 
   pub none-exchanged : (r ≤ k + 1) ⊎ (4 ≤ k) → now ≡ fiveLengths (exchange k (take r l))
   none-exchanged past =

@@ -1,6 +1,7 @@
 // Four and five axes: swaps, chains of swaps, and direct requests for an order by its number.
 ghost use mathlib.Core.Path.{_≡_};
-ghost use lib.ListN.{take};
+ghost use Prim.Native.Nat.{_+_, _<_};
+ghost use lib.ListN.{length, take};
 ghost use Rattle.orders.specs.Chains.{exchange};
 ghost use Rattle.axes.specs.Answers.{fiveLengths, refused};
 ghost use Rattle.axes.specs.Private.{FourOrFive, askedFor};
@@ -42,12 +43,19 @@ impl Shape {
             return stands;
         }
         let mut lens = stands.lens;
-        let first = lens[k];
-        let second = lens[k + 1];
-        lens[k] = second;
-        lens[k + 1] = first;
+        exchange_at(&mut lens, k);
         Shape { lens: lens }
     }
+}
+
+// Exchanges the lengths at places k and k + 1.
+fn exchange_at(lens: &mut [usize], k: usize)
+    requires { ⌜ k + 1 < length (now lens) ⌝ }
+    ensures { λ _. ⌜ now (lens .exit) ≡ exchange k (now (lens .entry)) ⌝ }
+{
+    let first = lens[k];
+    lens[k] = lens[k + 1];
+    lens[k + 1] = first;
 }
 
 // What a call on a block answers: its number, its place, the five new lengths (of four axes the last is 0), the number of the new order, the swaps done.

@@ -1,4 +1,4 @@
--- `axes::Shape::swapped` meets its contract: a swap is two stores, and where the axes have no such places there is nothing to exchange.
+-- `axes::Shape::swapped` meets its contract: the places are exchanged where the axes have them; where they have not there is nothing to exchange.
 use mathlib.Core.Path.{_≡_}
 use mathlib.Core.Logic.{inl, inr}
 use native.Mathlib.Omega.{arith}
@@ -28,9 +28,10 @@ returns-2 c =
 
 returns-3 : tie.Need-returns-3
 returns-3 c =
+    let e : tie.After-exchange-at = search in
     let f : tie.After-first = search in
     let x : tie.Start = search in
-    two-exchanged (x .args .axes) (x .args .k) (x .args .self .lens) (five x) (f .first .ensures) (omega arith) (omega arith) (still-five f)
+    two-exchanged (x .args .axes) (x .args .k) (x .args .self .lens) (five x) (f .first .ensures) (omega arith) (omega arith) (e .exchange-at .ensures)
 
 pub swapped-spec : {M : Type 1} → statement M
 swapped-spec =
@@ -40,14 +41,6 @@ swapped-spec =
     returns
     (search needs)
     returns-2
-    (search needs)
-    (search needs)
-    (search needs)
-    (search needs)
-    (search needs)
-    (search needs)
-    (search needs)
-    (search needs)
-    (search needs)
-    (search needs)
+    (λ c. search needs)
+    (λ c κs. let f : tie.After-first = search in omega (arith, still-five f))
     returns-3)
