@@ -113,7 +113,7 @@ static void tiles(size_t m, size_t n, size_t r, size_t s) {
 /* The longest result sheet, 1,024 rows of one word of ten digits, written and read back, beside memmove of its bytes. */
 static void results(void) {
     static uint8_t text[16384], copy[16384];
-    struct zib_shape shape = {{1024, 1, 1, 1}};
+    struct zib_sheet_shape shape = {{1024, 1, 1, 1}};
     double least[3] = {1e18, 1e18, 1e18};
     size_t bytes = 0;
     for (size_t k = 0; k < 1024; k++) column[k] = UINT32_MAX;
@@ -135,6 +135,37 @@ static void results(void) {
     }
     printf("result sheet of %zu bytes: written %6.3f ns a byte, read back %6.3f, memmove %6.3f\n", bytes, least[0] / (double)bytes,
            least[1] / (double)bytes, least[2] / (double)bytes);
+}
+
+/* A block of five axes whose first two and last two are exchanged: copied to another buffer so laid out and back as it then stands, and by the chain 0, 3. */
+static void five(size_t d0, size_t d1, size_t d2, size_t d3, size_t d4) {
+    struct zib_shape shape = {{d0, d1, d2, d3, d4}};
+    static const size_t swaps[2] = {0, 3};
+    size_t words = d0 * d1 * d2 * d3 * d4;
+    double least[2] = {1e18, 1e18};
+    uint32_t refused = 0;
+    for (int round = 0; round < ROUNDS; round++) {
+        double start = now();
+        const uint32_t *from = block;
+        for (size_t a = 0; a < d0; a++)
+            for (size_t b = 0; b < d1; b++)
+                for (size_t c = 0; c < d2; c++)
+                    for (size_t d = 0; d < d3; d++)
+                        for (size_t e = 0; e < d4; e++) other[(((b * d0 + a) * d2 + c) * d4 + e) * d3 + d] = *from++;
+        memcpy(block, other, words * sizeof *block);
+        __asm__ volatile("" ::: "memory");
+        double copied = now();
+        refused |= zib_chain5(block, words, column, 4096, shape, swaps, 2).number;
+        double run = now();
+        if (copied - start < least[0]) least[0] = copied - start;
+        if (run - copied < least[1]) least[1] = run - copied;
+    }
+    if (refused) { /* as for result sheets */
+        puts("five axes: not timed on this machine, whose C passes a struct by value otherwise than the module takes it");
+        return;
+    }
+    printf("five axes, %zu by %zu by %zu by %zu by %zu, chain 0, 3: copied and back %6.3f ns a word, within the buffer %6.3f (%.2f times)\n", d0, d1, d2, d3, d4,
+           least[0] / (double)words, least[1] / (double)words, least[1] / least[0]);
 }
 
 /* The right list of the cycles of m by n, found with a table of the offsets that were seen; how many words it has. */
@@ -185,6 +216,7 @@ int main(void) {
     tiles(1000, 1047, 16, 16);
     tiles(64, 16, 8, 8);
     results();
+    five(2, 64, 16, 16, 32);
     cycles(1000, 1047);
     cycles(1024, 1024);
     return 0;

@@ -23,7 +23,7 @@
 #include <stdint.h>
 
 /* Raised where a call or a record changes. */
-#define ZIB_VERSION "1.1"
+#define ZIB_VERSION "2.0"
 
 #ifdef __cplusplus
 extern "C" {
@@ -37,8 +37,8 @@ enum {
     ZIB_SHORT_BUFFER = 3,   /* the buffer has fewer words than the block */
     ZIB_SHORT_SCRATCH = 4,  /* scratch has fewer words than the call needs */
     ZIB_LONG_CHAIN = 5,     /* the chain has more than 32 swaps */
-    ZIB_BAD_SWAP = 6,       /* a swap number is above 2; place is the first such, from 0 */
-    ZIB_BAD_ORDER = 7,      /* the order number is above 23 */
+    ZIB_BAD_SWAP = 6,       /* a swap number is above 2, on five axes above 3; place is the first such, from 0 */
+    ZIB_BAD_ORDER = 7,      /* the order number is above 23, of five axes above 119 */
     ZIB_LONG_SHEET = 9,     /* a sheet has more than 16,384 bytes */
     ZIB_BAD_LINE = 10,      /* a sheet line is malformed, missing or left over; place is its line number, from 1 */
     ZIB_LARGE_SHEET = 11,   /* a sheet's lengths multiply to more than 1,024 */
@@ -183,27 +183,31 @@ uint32_t zib_from_tiles(uint32_t *buffer, size_t buffer_words, uint32_t *scratch
                         size_t s);
 
 /*
- * Four axes. A block has axes 0 to 3 with these lengths, the last fastest. Swap k (0, 1 or 2) exchanges the axes at
- * places k and k+1 of the shape as it then stands. An order lists which original axis stands at each place; orders are
- * numbered 0 (axes 0123) to 23 (axes 3210) in dictionary order, and count from the shape that the call is given.
+ * Four axes and five. A block has axes 0 to 3 (five: 0 to 4) with these lengths, the last axis fastest. Swap k (0, 1 or 2; five: or 3) exchanges the
+ * axes at places k and k+1 of the shape as it then stands. An order lists which original axis stands at each place; orders are numbered 0 (axes 0123)
+ * to 23 (axes 3210), of five axes 0 (01234) to 119 (43210), in dictionary order, and count from the shape that the call is given.
+ * The four-axis calls do not read the fifth length, whatever it holds, and answer it 0.
  */
 struct zib_shape {
-    size_t lengths[4];
+    size_t lengths[5];
 };
 
 /* What a chain or a direct request answers. In a refusal all but number and place is 0; place is 0 unless number is 6. */
 struct zib_answer {
     uint32_t number;
     size_t place;
-    size_t lengths[4]; /* of the block as it now stands */
+    size_t lengths[5]; /* of the block as it now stands; of four axes the fifth is 0 */
     size_t order;      /* the number of the order in which its axes now stand; of a direct request the number that it was given */
     size_t swaps;      /* how many were done */
 };
 
-/* A plan: the first `length` of six swap places; unused ones are 0, and so is everything besides the number in a refusal. */
+/*
+ * A plan: the first `length` of ten swap places, of four axes at most six; unused ones are 0, and so is everything besides the number in a
+ * refusal.
+ */
 struct zib_planned {
     uint32_t number;
-    size_t swaps[6];
+    size_t swaps[10];
     size_t length;
 };
 
@@ -229,10 +233,25 @@ struct zib_answer zib_request(uint32_t *buffer, size_t buffer_words, uint32_t *s
 struct zib_planned zib_plan(size_t order);
 
 /*
+ * The same on five axes: all five lengths are read, a swap above 3 is 6, an order number above 119 is 7. Checks, their order and the need of scratch
+ * are as above; a chain has at most 32 swaps here too.
+ */
+struct zib_answer zib_chain5(uint32_t *buffer, size_t buffer_words, uint32_t *scratch, size_t scratch_words, struct zib_shape shape,
+                             const size_t *swaps, size_t swap_count);
+struct zib_answer zib_request5(uint32_t *buffer, size_t buffer_words, uint32_t *scratch, size_t scratch_words, struct zib_shape shape,
+                               size_t release, size_t order);
+struct zib_planned zib_plan5(size_t order);
+
+/*
  * Sheets: lines of text, fields parted by one tab, each line closed by one LF. `shape` and four lengths; `chain` and the
  * swaps; then for each row `row` and its words. A result sheet has `order` and the order's number for its second line,
- * or `order`, the release and the number.
+ * or `order`, the release and the number. Sheets have four axes.
  */
+
+/* The lengths of a sheet's block, for the writers. */
+struct zib_sheet_shape {
+    size_t lengths[4];
+};
 
 /* What the reader answers: lengths, swaps (unused ones 0) and how many they are. In a refusal all but number and place is 0. */
 struct zib_sheet {
@@ -260,15 +279,15 @@ struct zib_sheet zib_read_sheet(const uint8_t *text, size_t text_bytes, uint32_t
  * Writes the result sheet of a block with these lengths from the start of the byte buffer; bytes after it stay.
  * The words are only read; there may be more of them. 16,384 bytes always suffice. Answers 0, or the first of 1, 11, 3, 7, 24 that holds.
  */
-struct zib_written zib_write_sheet(struct zib_shape shape, size_t order, const uint32_t *words, size_t word_count, uint8_t *text,
-                                   size_t text_bytes);
+struct zib_written zib_write_sheet(struct zib_sheet_shape shape, size_t order, const uint32_t *words, size_t word_count,
+                                   uint8_t *text, size_t text_bytes);
 
 /*
  * Writes the result sheet that names the release of its order number: `order`, the release, the number. All else is as for zib_write_sheet.
  * Answers 0, or the first of 1, 11, 3, 14, 7, 24 that holds; release 0 is 14.
  */
-struct zib_written zib_write_release(struct zib_shape shape, size_t release, size_t order, const uint32_t *words, size_t word_count,
-                                     uint8_t *text, size_t text_bytes);
+struct zib_written zib_write_release(struct zib_sheet_shape shape, size_t release, size_t order, const uint32_t *words,
+                                     size_t word_count, uint8_t *text, size_t text_bytes);
 
 /* What the reader of result sheets answers: lengths, release and order number. In a refusal all but number and place is 0. */
 struct zib_result {

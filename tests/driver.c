@@ -56,7 +56,10 @@ enum {
     CHOOSE = 23,
     CHOOSE_NUMBER = 24,
     WRITE_RELEASE = 30,
-    RESUME = 31,
+    CHAIN5 = 31,
+    REQUEST5 = 32,
+    PLAN5 = 33,
+    RESUME = 34,
     /* these touch what they must not, to show that the guards bite */
     WRITE_PAST_END = 100,
     READ_PAST_END = 101,
@@ -109,14 +112,14 @@ static void give_all(const size_t *from, size_t count) {
 static void give_answer(struct zib_answer a) {
     give(a.number);
     give(a.place);
-    give_all(a.lengths, 4);
+    give_all(a.lengths, 5);
     give(a.order);
     give(a.swaps);
 }
 
 static void give_plan(struct zib_planned p) {
     give(p.number);
-    give_all(p.swaps, 6);
+    give_all(p.swaps, 10);
     give(p.length);
 }
 
@@ -230,7 +233,8 @@ static void protect(int prot) {
 
 static void run(uint64_t call) {
     volatile unsigned char *at = buffers[0].at;
-    struct zib_shape shape = {{numbers[0], numbers[1], numbers[2], numbers[3]}};
+    struct zib_shape shape = {{numbers[0], numbers[1], numbers[2], numbers[3], numbers[4]}};
+    struct zib_sheet_shape sheet = {{numbers[0], numbers[1], numbers[2], numbers[3]}};
     switch (call) {
     case TURN:
         give(zib_turn(words(0), word_count(0), words(1), word_count(1), numbers[0], numbers[1]));
@@ -245,16 +249,25 @@ static void run(uint64_t call) {
         give_answer(zib_chain(words(0), word_count(0), words(1), word_count(1), shape, (size_t *)buffers[2].at, buffers[2].bytes / sizeof(size_t)));
         break;
     case REQUEST:
-        give_answer(zib_request(words(0), word_count(0), words(1), word_count(1), shape, numbers[4], numbers[5]));
+        give_answer(zib_request(words(0), word_count(0), words(1), word_count(1), shape, numbers[5], numbers[6]));
         break;
     case PLAN:
         give_plan(zib_plan(numbers[0]));
+        break;
+    case CHAIN5:
+        give_answer(zib_chain5(words(0), word_count(0), words(1), word_count(1), shape, (size_t *)buffers[2].at, buffers[2].bytes / sizeof(size_t)));
+        break;
+    case REQUEST5:
+        give_answer(zib_request5(words(0), word_count(0), words(1), word_count(1), shape, numbers[5], numbers[6]));
+        break;
+    case PLAN5:
+        give_plan(zib_plan5(numbers[0]));
         break;
     case READ_SHEET:
         give_sheet(zib_read_sheet(buffers[0].at, buffers[0].bytes, words(1), word_count(1)));
         break;
     case WRITE_SHEET:
-        give_written(zib_write_sheet(shape, numbers[4], words(0), word_count(0), buffers[1].at, buffers[1].bytes));
+        give_written(zib_write_sheet(sheet, numbers[4], words(0), word_count(0), buffers[1].at, buffers[1].bytes));
         break;
     case JOB:
         give(zib_job(buffers[0].at, buffers[0].bytes, words(1), words(2), buffers[3].at));
@@ -305,7 +318,7 @@ static void run(uint64_t call) {
         give_judged(zib_run_cycles(words(0), word_count(0), words(1), word_count(1), numbers[0], numbers[1]));
         break;
     case WRITE_RELEASE:
-        give_written(zib_write_release(shape, numbers[4], numbers[5], words(0), word_count(0), buffers[1].at, buffers[1].bytes));
+        give_written(zib_write_release(sheet, numbers[4], numbers[5], words(0), word_count(0), buffers[1].at, buffers[1].bytes));
         break;
     case RESUME:
         give(zib_resume(words(0), word_count(0), words(1), word_count(1), words(2), numbers[0], numbers[1], numbers[2]));

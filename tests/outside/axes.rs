@@ -1,21 +1,34 @@
-// Four axes: chains, direct requests and plans.
+// Four axes: chains, direct requests and plans; what is asked of five axes too is over the number of axes.
 use crate::bench::Bench;
-use crate::driver::{sizes, words, Answer, Request, CHAIN, PLAN, REQUEST};
+use crate::driver::{sizes, words, Answer, Request, CHAIN, CHAIN5, PLAN, PLAN5, REQUEST, REQUEST5};
 use crate::random::Random;
 use crate::reference::{block_checks, by_release, first, laid, longest, named, need, number_of, orders, plan, reordered, volume, zeroed};
 
 type Lengths = [u64; 4];
 
-// What a chain or a direct request answers: number, place, four lengths, order number, swaps done.
-fn answer(number: u64, place: u64, lengths: Lengths, order: u64, swaps: u64) -> Vec<u64> {
+// What a four-axis call is given for its fifth length: it is not read.
+const FIFTHS: [u64; 6] = [0, 7, u64::MAX, 1, 4096, 4097];
+
+// The five lengths that a call is given, of four axes with the fifth that the case picks.
+fn given<const N: usize>(lengths: [u64; N], pick: usize) -> Vec<u64> {
+    let mut all = lengths.to_vec();
+    if N == 4 {
+        all.push(FIFTHS[pick % FIFTHS.len()]);
+    }
+    all
+}
+
+// What a chain or a direct request answers: number, place, five lengths (of four axes the last is 0), order number, swaps done.
+pub fn answer<const N: usize>(number: u64, place: u64, lengths: [u64; N], order: u64, swaps: u64) -> Vec<u64> {
     let mut all = vec![number, place];
     all.extend(&lengths);
+    all.resize(7, 0);
     all.extend(&[order, swaps]);
     all
 }
 
 // What stays and what moves: the order of a chain where the call is accepted, else nothing.
-fn outcome(numbers: Vec<u64>, lengths: Lengths, chain: Option<&[u64]>, buffer: &[u32], scratch: &[u32]) -> Answer {
+fn outcome<const N: usize>(numbers: Vec<u64>, lengths: [u64; N], chain: Option<&[u64]>, buffer: &[u32], scratch: &[u32]) -> Answer {
     let buffers = match chain {
         Some(c) => vec![words(&laid(buffer, lengths, named(c))), words(&zeroed(scratch, need(lengths, c)))],
         None => vec![words(buffer), words(scratch)],
@@ -23,54 +36,57 @@ fn outcome(numbers: Vec<u64>, lengths: Lengths, chain: Option<&[u64]>, buffer: &
     Answer { numbers, buffers }
 }
 
-fn chain_case(lengths: Lengths, chain: &[u64], buffer: &[u32], scratch: &[u32]) -> (Request, Answer) {
+pub fn chain_case<const N: usize>(lengths: [u64; N], chain: &[u64], buffer: &[u32], scratch: &[u32]) -> (Request, Answer) {
     let mut checks = block_checks(&lengths, buffer.len());
-    let bad = chain.iter().position(|&k| k > 2);
+    let bad = chain.iter().position(|&k| k > N as u64 - 2);
     checks.push((5, chain.len() > 32));
     checks.push((6, bad.is_some()));
     checks.push((4, bad.is_none() && (scratch.len() as u64) < need(lengths, chain)));
     let number = first(&checks);
     let mut e = if number == 0 {
-        let order = named(chain);
+        let order = named::<N>(chain);
         let told = answer(0, 0, reordered(lengths, order), number_of(order), chain.len() as u64);
         outcome(told, lengths, Some(chain), buffer, scratch)
     } else {
         let place = if number == 6 { bad.unwrap() as u64 } else { 0 };
-        outcome(answer(number, place, [0; 4], 0, 0), lengths, None, buffer, scratch)
+        outcome(answer(number, place, [0; N], 0, 0), lengths, None, buffer, scratch)
     };
     let lent = sizes(chain).read_only();
     e.buffers.push(lent.clone());
-    let q = Request { call: CHAIN, numbers: lengths.to_vec(), buffers: vec![words(buffer), words(scratch), lent] };
+    let call = if N == 4 { CHAIN } else { CHAIN5 };
+    let q = Request { call, numbers: given(lengths, buffer.len() + chain.len()), buffers: vec![words(buffer), words(scratch), lent] };
     (q, e)
 }
 
-fn request_case(lengths: Lengths, release: u64, asked: u64, buffer: &[u32], scratch: &[u32]) -> (Request, Answer) {
-    let chain = orders().get(asked as usize).map_or(Vec::new(), |&list| plan(by_release(release, list)));
+pub fn request_case<const N: usize>(lengths: [u64; N], release: u64, asked: u64, buffer: &[u32], scratch: &[u32]) -> (Request, Answer) {
+    let all = orders::<N>();
+    let chain = all.get(asked as usize).map_or(Vec::new(), |&list| plan(by_release(release, list)));
     let mut checks = block_checks(&lengths, buffer.len());
     checks.push((14, release != 1 && release != 2));
-    checks.push((7, asked > 23));
+    checks.push((7, asked >= all.len() as u64));
     checks.push((4, (scratch.len() as u64) < need(lengths, &chain)));
     let number = first(&checks);
     let e = if number == 0 {
         let told = answer(0, 0, reordered(lengths, named(&chain)), asked, chain.len() as u64);
         outcome(told, lengths, Some(&chain), buffer, scratch)
     } else {
-        outcome(answer(number, 0, [0; 4], 0, 0), lengths, None, buffer, scratch)
+        outcome(answer(number, 0, [0; N], 0, 0), lengths, None, buffer, scratch)
     };
-    let mut numbers = lengths.to_vec();
+    let mut numbers = given(lengths, buffer.len() + asked as usize % 64);
     numbers.extend(&[release, asked]);
-    let q = Request { call: REQUEST, numbers, buffers: vec![words(buffer), words(scratch)] };
+    let call = if N == 4 { REQUEST } else { REQUEST5 };
+    let q = Request { call, numbers, buffers: vec![words(buffer), words(scratch)] };
     (q, e)
 }
 
-fn try_chain(t: &mut Bench, lengths: Lengths, chain: &[u64], buffer: &[u32], scratch: &[u32]) {
+pub fn try_chain<const N: usize>(t: &mut Bench, lengths: [u64; N], chain: &[u64], buffer: &[u32], scratch: &[u32]) {
     let (q, e) = chain_case(lengths, chain, buffer, scratch);
     t.expect_both(&q, &e, || {
         format!("chain {:?} on {:?}, {} words, scratch {}", chain, lengths, buffer.len(), scratch.len())
     });
 }
 
-fn try_release(t: &mut Bench, lengths: Lengths, release: u64, asked: u64, buffer: &[u32], scratch: &[u32]) {
+pub fn try_release<const N: usize>(t: &mut Bench, lengths: [u64; N], release: u64, asked: u64, buffer: &[u32], scratch: &[u32]) {
     let (q, e) = request_case(lengths, release, asked, buffer, scratch);
     t.expect_both(&q, &e, || {
         format!("release {}, order {} of {:?}, {} words, scratch {}", release, asked, lengths, buffer.len(), scratch.len())
@@ -78,62 +94,64 @@ fn try_release(t: &mut Bench, lengths: Lengths, release: u64, asked: u64, buffer
 }
 
 // A number in both releases.
-fn try_request(t: &mut Bench, lengths: Lengths, asked: u64, buffer: &[u32], scratch: &[u32]) {
+pub fn try_request<const N: usize>(t: &mut Bench, lengths: [u64; N], asked: u64, buffer: &[u32], scratch: &[u32]) {
     for release in [1, 2] {
         try_release(t, lengths, release, asked, buffer, scratch);
     }
 }
 
 // Buffer and scratch for a shape, scratch longer than any chain needs by the spare words.
-fn lent(r: &mut Random, lengths: Lengths, spare: u64) -> (Vec<u32>, Vec<u32>) {
+pub fn lent<const N: usize>(r: &mut Random, lengths: [u64; N], spare: u64) -> (Vec<u32>, Vec<u32>) {
     let buffer = r.words(volume(&lengths) as usize);
     let scratch = r.words((longest(&lengths) + spare) as usize);
     (buffer, scratch)
 }
 
+// A chain of right swaps of N axes.
+pub fn random_chain_of<const N: usize>(r: &mut Random, length: u64) -> Vec<u64> {
+    (0..length).map(|_| r.below(N as u64 - 1)).collect()
+}
+
 fn random_chain(r: &mut Random, length: u64) -> Vec<u64> {
-    (0..length).map(|_| r.below(3)).collect()
+    random_chain_of::<4>(r, length)
 }
 
-fn random_shape(r: &mut Random, side: u64) -> Lengths {
-    [r.within(1, side), r.within(1, side), r.within(1, side), r.within(1, side)]
+pub fn random_shape<const N: usize>(r: &mut Random, side: u64) -> [u64; N] {
+    std::array::from_fn(|_| r.within(1, side))
 }
 
-// Plans for every number at and around the bound, against brute force.
-fn plans(t: &mut Bench) {
-    let beyond = [24, 25, 255, 256, 1 << 16, 1 << 32, u64::MAX];
-    for asked in (0..24).chain(beyond.iter().copied()) {
-        let chain = if asked < 24 { plan(orders()[asked as usize]) } else { Vec::new() };
-        let mut numbers = vec![if asked < 24 { 0 } else { 7 }];
-        numbers.extend((0..6).map(|k| chain.get(k).copied().unwrap_or(0)));
+// Plans for every number at and around the bound, against brute force, in ten places.
+pub fn plans<const N: usize>(t: &mut Bench) {
+    let all = orders::<N>();
+    let count = all.len() as u64;
+    let beyond = [count, count + 1, 255, 256, 1 << 16, 1 << 32, u64::MAX];
+    for asked in (0..count).chain(beyond.iter().copied()) {
+        let chain = if asked < count { plan(all[asked as usize]) } else { Vec::new() };
+        let mut numbers = vec![if asked < count { 0 } else { 7 }];
+        numbers.extend((0..10).map(|k| chain.get(k).copied().unwrap_or(0)));
         numbers.push(chain.len() as u64);
-        let q = Request { call: PLAN, numbers: vec![asked], buffers: vec![] };
+        let q = Request { call: if N == 4 { PLAN } else { PLAN5 }, numbers: vec![asked], buffers: vec![] };
         t.expect_both(&q, &Answer { numbers, buffers: vec![] }, || format!("plan of {}", asked));
     }
-    t.group("plans against brute force");
+    t.group(&format!("plans of {} axes against brute force", N));
 }
 
-// Every order of every shape with sides up to four, and of larger ones, by request in both releases and by its plan's chain.
-fn every_order(t: &mut Bench, r: &mut Random) {
-    let side = if t.short { 2 } else { 4 };
-    let mut shapes: Vec<Lengths> = Vec::new();
-    for code in 0..side * side * side * side {
-        shapes.push([1 + code / (side * side * side), 1 + code / (side * side) % side, 1 + code / side % side, 1 + code % side]);
-    }
-    shapes.extend([[5, 7, 6, 9], [64, 4, 4, 4], [3, 2, 64, 16], [1, 64, 15, 1], [4096, 1, 2, 3], [1, 1, 64, 15]]);
-    if !t.short {
-        shapes.extend([[32, 32, 32, 32], [4096, 1, 1, 256], [2, 1000, 1, 500]]);
-    }
+// Every shape with sides up to this.
+pub fn small_shapes<const N: usize>(side: u64) -> Vec<[u64; N]> {
+    (0..side.pow(N as u32)).map(|code| std::array::from_fn(|axis| 1 + code / side.pow((N - 1 - axis) as u32) % side)).collect()
+}
+
+// Every order of each shape, by request in both releases and by its plan's chain.
+pub fn every_order<const N: usize>(t: &mut Bench, r: &mut Random, shapes: Vec<[u64; N]>) {
     for lengths in shapes {
         let spare = r.below(3);
         let (buffer, scratch) = lent(r, lengths, spare);
-        for asked in 0..24 {
-            try_request(t, lengths, asked, &buffer, &scratch);
-            let chain = plan(orders()[asked as usize]);
-            try_chain(t, lengths, &chain, &buffer, &scratch);
+        for (asked, &order) in orders::<N>().iter().enumerate() {
+            try_request(t, lengths, asked as u64, &buffer, &scratch);
+            try_chain(t, lengths, &plan(order), &buffer, &scratch);
         }
     }
-    t.group("every order of many shapes, by request and by chain");
+    t.group(&format!("every order of many shapes of {} axes, by request and by chain", N));
 }
 
 // One swap with every chunk length that is moved in a way of its own (single words, a few, many, more than an axis has), on two axes whose lengths
@@ -179,25 +197,25 @@ fn try_swap(t: &mut Bench, r: &mut Random, lengths: Lengths, k: u64) {
     }
 }
 
-fn random_chains(t: &mut Bench, r: &mut Random) {
+pub fn random_chains<const N: usize>(t: &mut Bench, r: &mut Random) {
     for _ in 0..if t.short { 100 } else { 2000 } {
-        let lengths = random_shape(r, 9);
+        let lengths: [u64; N] = random_shape(r, 13 - N as u64);
         let spare = r.below(4);
         let (buffer, scratch) = lent(r, lengths, spare);
         let length = r.below(33);
-        let chain = random_chain(r, length);
+        let chain = random_chain_of::<N>(r, length);
         try_chain(t, lengths, &chain, &buffer, &scratch);
     }
-    t.group("random chains up to 32 swaps");
+    t.group(&format!("random chains up to 32 swaps on {} axes", N));
 }
 
 // One chain after another is their joining, and a chain run backwards brings every word home.
-fn joined(t: &mut Bench, r: &mut Random) {
+pub fn joined<const N: usize>(t: &mut Bench, r: &mut Random) {
     for _ in 0..if t.short { 50 } else { 500 } {
-        let lengths = random_shape(r, 8);
+        let lengths: [u64; N] = random_shape(r, 12 - N as u64);
         let lengths_of = [r.below(17), r.below(17)];
-        let one = random_chain(r, lengths_of[0]);
-        let two = random_chain(r, lengths_of[1]);
+        let one = random_chain_of::<N>(r, lengths_of[0]);
+        let two = random_chain_of::<N>(r, lengths_of[1]);
         let back: Vec<u64> = one.iter().rev().copied().collect();
         let both: Vec<u64> = one.iter().chain(&two).copied().collect();
         // exactly what the joined chain needs is enough for each
@@ -206,25 +224,27 @@ fn joined(t: &mut Bench, r: &mut Random) {
         let run = |t: &mut Bench, lengths: &[u64], chain: &[u64], lent: Vec<crate::driver::Buffer>| {
             let mut buffers = lent[..2].to_vec();
             buffers.push(sizes(chain).read_only());
-            t.driver.ask(0, &Request { call: CHAIN, numbers: lengths.to_vec(), buffers })
+            t.driver.ask(0, &Request { call: if N == 4 { CHAIN } else { CHAIN5 }, numbers: lengths.to_vec(), buffers })
         };
         let start = vec![words(&buffer), words(&scratch)];
-        let ends = run(t, &lengths, &one, start.clone()).and_then(|a| {
-            let shape = a.numbers[2..6].to_vec();
-            let joined = run(t, &shape, &two, a.buffers.clone())?;
-            let at_once = run(t, &lengths, &both, start.clone())?;
-            let home = run(t, &shape, &back, a.buffers)?;
+        let shape = given(lengths, buffer.len());
+        let ends = run(t, &shape, &one, start.clone()).and_then(|a| {
+            // the shape that came back, as it is
+            let between = a.numbers[2..7].to_vec();
+            let joined = run(t, &between, &two, a.buffers.clone())?;
+            let at_once = run(t, &shape, &both, start.clone())?;
+            let home = run(t, &between, &back, a.buffers)?;
             Ok((joined, at_once, home))
         });
         let ok = ends.map_or((false, false), |(joined, at_once, home)| {
             // scratch too: one scratch is lent to all
-            let same = joined.buffers[..2] == at_once.buffers[..2] && joined.numbers[2..6] == at_once.numbers[2..6];
-            (same, home.buffers[0] == start[0] && home.numbers[2..6] == lengths)
+            let same = joined.buffers[..2] == at_once.buffers[..2] && joined.numbers[2..7] == at_once.numbers[2..7];
+            (same, home.buffers[0] == start[0] && home.numbers[2..2 + N] == lengths)
         });
         t.verdict(ok.0, || format!("{:?} then {:?} on {:?}", one, two, lengths));
         t.verdict(ok.1, || format!("{:?} and back on {:?}", one, lengths));
     }
-    t.group("chains joined and run backwards");
+    t.group(&format!("chains joined and run backwards on {} axes", N));
 }
 
 // Request 3: scratch one word short of the need, exact and longer, for random chains and for every order.
@@ -238,7 +258,7 @@ fn needs(t: &mut Bench, r: &mut Random) {
         for spare in 0..3 {
             let scratch = r.words((need(lengths, &chain) + spare).saturating_sub(1) as usize);
             try_chain(t, lengths, &chain, &buffer, &scratch);
-            let scratch = r.words((need(lengths, &plan(orders()[asked as usize])) + spare).saturating_sub(1) as usize);
+            let scratch = r.words((need(lengths, &plan(orders::<4>()[asked as usize])) + spare).saturating_sub(1) as usize);
             try_request(t, lengths, asked, &buffer, &scratch);
         }
     }
@@ -268,18 +288,18 @@ fn needs(t: &mut Bench, r: &mut Random) {
     }
     // two chains that name one order, through scratch that is enough for one of them only
     for _ in 0..if t.short { 20 } else { 200 } {
-        let lengths = random_shape(r, 6);
+        let lengths: Lengths = random_shape(r, 6);
         let buffer = r.words(volume(&lengths) as usize);
         let length = r.below(7);
         let mut longer = random_chain(r, length);
-        let chain = plan(named(&longer));
+        let chain = plan(named::<4>(&longer));
         let detour = r.below(3);
         longer.extend([detour, detour]);
         t.verdict(need(lengths, &chain) <= need(lengths, &longer), || format!("a plan needs more than {:?} on {:?}", longer, lengths));
         let scratch = r.words(need(lengths, &chain) as usize);
         try_chain(t, lengths, &chain, &buffer, &scratch);
         try_chain(t, lengths, &longer, &buffer, &scratch);
-        try_request(t, lengths, number_of(named(&longer)), &buffer, &scratch);
+        try_request(t, lengths, number_of(named::<4>(&longer)), &buffer, &scratch);
     }
     t.group("needs: document 02's example, length-1 partners, two chains of one order");
 }
@@ -373,7 +393,7 @@ fn largest(t: &mut Bench, r: &mut Random) {
 fn benches(t: &mut Bench, r: &mut Random) {
     let plans: [(u64, &[u64]); 5] = [(0, &[]), (9, &[0, 1, 2]), (18, &[2, 1, 0]), (16, &[1, 0, 2, 1]), (23, &[0, 1, 0, 2, 1, 0])];
     for &(order, chain) in &plans {
-        t.verdict(plan(orders()[order as usize]) == chain, || format!("the reference plans order {} otherwise", order));
+        t.verdict(plan(orders::<4>()[order as usize]) == chain, || format!("the reference plans order {} otherwise", order));
     }
     let listed: [(u64, [usize; 4]); 8] = [
         (0, [0, 1, 2, 3]), (1, [0, 1, 3, 2]), (2, [0, 2, 1, 3]), (6, [1, 0, 2, 3]),
@@ -428,7 +448,7 @@ fn releases(t: &mut Bench, r: &mut Random) {
     let mut turned = 0;
     for asked in 0..24 {
         // the same words as the release 1 number of the inverse, by request and by chain, and every word where its axes went
-        let list = orders()[asked as usize];
+        let list = orders::<4>()[asked as usize];
         let inverse = number_of(by_release(2, list));
         turned += (inverse != asked) as u64;
         let (two, one) = (request_case(lengths, 2, asked, &buffer, &scratch).1, request_case(lengths, 1, inverse, &buffer, &scratch).1);
@@ -457,10 +477,15 @@ pub fn all(t: &mut Bench, seed: u64) {
     benches(t, &mut r);
     releases(t, &mut r);
     pool_buffer(t, &mut r);
-    plans(t);
-    every_order(t, &mut r);
-    random_chains(t, &mut r);
-    joined(t, &mut r);
+    plans::<4>(t);
+    let mut shapes: Vec<Lengths> = small_shapes(if t.short { 2 } else { 4 });
+    shapes.extend([[5, 7, 6, 9], [64, 4, 4, 4], [3, 2, 64, 16], [1, 64, 15, 1], [4096, 1, 2, 3], [1, 1, 64, 15]]);
+    if !t.short {
+        shapes.extend([[32, 32, 32, 32], [4096, 1, 1, 256], [2, 1000, 1, 500]]);
+    }
+    every_order(t, &mut r, shapes);
+    random_chains::<4>(t, &mut r);
+    joined::<4>(t, &mut r);
     needs(t, &mut r);
     check_sets(t, &mut r);
     bounds(t, &mut r);

@@ -6,6 +6,7 @@ mod cameras;
 mod cycles;
 mod desk;
 mod driver;
+mod five;
 mod flat;
 mod guards;
 mod random;
@@ -40,6 +41,7 @@ fn main() {
     ticks::all(&mut t, SEED + 8);
     cycles::all(&mut t, SEED + 9);
     restart::all(&mut t, SEED + 10);
+    five::all(&mut t, SEED + 11);
     let well = t.driver.end();
     t.verdict(well, || "the driver did not end well".to_string());
     println!("{} passed, {} failed", t.passed, t.failed);

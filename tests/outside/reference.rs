@@ -1,4 +1,5 @@
 // What documents 01 and 02 ask, by copying: every word is read from one list and written to another.
+use std::sync::OnceLock;
 
 pub const LONGEST: u64 = 4096;
 pub const MOST_WORDS: u128 = 1_048_576;
@@ -75,7 +76,7 @@ pub fn cleared(scratch: &[u32], lengths: &[u64]) -> Vec<u32> {
 }
 
 // The need of a chain of right swaps: the largest length among the axes that it exchanges, in the shape as it then stands.
-pub fn need(lengths: [u64; 4], chain: &[u64]) -> u64 {
+pub fn need<const N: usize>(lengths: [u64; N], chain: &[u64]) -> u64 {
     let mut stands = lengths;
     let mut most = 0;
     for &k in chain {
@@ -87,76 +88,94 @@ pub fn need(lengths: [u64; 4], chain: &[u64]) -> u64 {
 }
 
 // The order that a number's list names: release 1 says which axis stands at each place, release 2 where each axis goes.
-pub fn by_release(release: u64, list: [usize; 4]) -> [usize; 4] {
+pub fn by_release<const N: usize>(release: u64, list: [usize; N]) -> [usize; N] {
     if release != 2 {
         return list;
     }
-    let mut stands = [0; 4];
+    let mut stands = [0; N];
     for (axis, &place) in list.iter().enumerate() {
         stands[place] = axis;
     }
     stands
 }
 
-// The 24 orders of four axes, in dictionary order.
-pub fn orders() -> Vec<[usize; 4]> {
+// All orders of N axes, in dictionary order: every list of N axes in that order, and of these the ones that have each axis.
+pub fn orders<const N: usize>() -> Vec<[usize; N]> {
     let mut all = Vec::new();
-    for number in 0..256 {
-        let order = [number / 64, number / 16 % 4, number / 4 % 4, number % 4];
-        if (0..4).all(|axis| order.contains(&axis)) {
+    for number in 0..N.pow(N as u32) {
+        let mut order = [0; N];
+        for place in 0..N {
+            order[place] = number / N.pow((N - 1 - place) as u32) % N;
+        }
+        if (0..N).all(|axis| order.contains(&axis)) {
             all.push(order);
         }
     }
     all
 }
 
-pub fn number_of(order: [usize; 4]) -> u64 {
+pub fn number_of<const N: usize>(order: [usize; N]) -> u64 {
     orders().iter().position(|&o| o == order).unwrap() as u64
 }
 
-// The order that a chain of right swaps names: it starts at 0123 and exchanges places swap by swap.
-pub fn named(chain: &[u64]) -> [usize; 4] {
-    let mut order = [0, 1, 2, 3];
+// The order that a chain of right swaps names: it starts at 0, 1, .. and exchanges places swap by swap.
+pub fn named<const N: usize>(chain: &[u64]) -> [usize; N] {
+    let mut order = std::array::from_fn(|axis| axis);
     for &k in chain {
         order.swap(k as usize, k as usize + 1);
     }
     order
 }
 
-pub fn reordered(lengths: [u64; 4], order: [usize; 4]) -> [u64; 4] {
-    [lengths[order[0]], lengths[order[1]], lengths[order[2]], lengths[order[3]]]
+pub fn reordered<const N: usize>(lengths: [u64; N], order: [usize; N]) -> [u64; N] {
+    order.map(|axis| lengths[axis])
 }
 
-fn offset(lengths: [u64; 4], x: [u64; 4]) -> usize {
-    (((x[0] * lengths[1] + x[1]) * lengths[2] + x[2]) * lengths[3] + x[3]) as usize
+fn offset<const N: usize>(lengths: [u64; N], x: [u64; N]) -> usize {
+    (0..N).fold(0, |at, axis| at * lengths[axis] + x[axis]) as usize
 }
 
 // The word with original coordinates x stands at x under the order, in a block with lengths under the order.
-pub fn laid(words: &[u32], lengths: [u64; 4], order: [usize; 4]) -> Vec<u32> {
+pub fn laid<const N: usize>(words: &[u32], lengths: [u64; N], order: [usize; N]) -> Vec<u32> {
     let mut out = words.to_vec();
     let new = reordered(lengths, order);
-    for a in 0..lengths[0] {
-        for b in 0..lengths[1] {
-            for c in 0..lengths[2] {
-                for d in 0..lengths[3] {
-                    let x = [a, b, c, d];
-                    out[offset(new, reordered(x, order))] = words[offset(lengths, x)];
-                }
+    let mut x = [0; N];
+    for _ in 0..volume(&lengths) {
+        out[offset(new, reordered(x, order))] = words[offset(lengths, x)];
+        // the next coordinates, the last axis fastest
+        for axis in (0..N).rev() {
+            x[axis] += 1;
+            if x[axis] < lengths[axis] {
+                break;
             }
+            x[axis] = 0;
         }
     }
     out
 }
 
-// The plan of an order by brute force: the chains by rising length, each length in dictionary order.
-pub fn plan(order: [usize; 4]) -> Vec<u64> {
-    for length in 0..=6 {
-        for code in 0..3u64.pow(length) {
-            let chain: Vec<u64> = (0..length).rev().map(|p| code / 3u64.pow(p) % 3).collect();
-            if named(&chain) == order {
-                return chain;
-            }
+// The plans of all orders by brute force: the chains by rising length, each length in dictionary order, and of those that name an order the first.
+fn plans<const N: usize>() -> Vec<Vec<u64>> {
+    let all = orders::<N>();
+    let swaps = N as u64 - 1;
+    let mut found: Vec<Option<Vec<u64>>> = vec![None; all.len()];
+    for length in 0.. {
+        if found.iter().all(Option::is_some) {
+            break;
+        }
+        for code in 0..swaps.pow(length) {
+            let chain: Vec<u64> = (0..length).rev().map(|p| code / swaps.pow(p) % swaps).collect();
+            let number = all.binary_search(&named(&chain)).unwrap();
+            found[number].get_or_insert(chain);
         }
     }
-    unreachable!("six swaps reach every order")
+    found.into_iter().flatten().collect()
+}
+
+static FOUR: OnceLock<Vec<Vec<u64>>> = OnceLock::new();
+static FIVE: OnceLock<Vec<Vec<u64>>> = OnceLock::new();
+
+pub fn plan<const N: usize>(order: [usize; N]) -> Vec<u64> {
+    let once = if N == 4 { &FOUR } else { &FIVE };
+    once.get_or_init(plans::<N>)[number_of(order) as usize].clone()
 }

@@ -343,9 +343,10 @@ fn by_calls(t: &mut Bench, text: &[u8]) -> Result<Vec<u8>, String> {
     let mut block = sheet.buffers[1].clone();
     block.bytes.truncate(4 * volume(lengths) as usize);
     let buffers = vec![block, scratch, sizes(swaps).read_only()];
-    let moved = t.driver.ask(0, &Request { call: CHAIN, numbers: lengths.to_vec(), buffers })?;
+    // a sheet has four axes: the fifth length of the chain's shape is not read, and comes back 0
+    let moved = t.driver.ask(0, &Request { call: CHAIN, numbers: [lengths, &[7]].concat(), buffers })?;
     let buffers = vec![moved.buffers[0].clone().read_only(), bytes(&[0; MOST_BYTES])];
-    let written = t.driver.ask(0, &Request { call: WRITE_SHEET, numbers: moved.numbers[2..7].to_vec(), buffers })?;
+    let written = t.driver.ask(0, &Request { call: WRITE_SHEET, numbers: [&moved.numbers[2..6], &moved.numbers[7..8]].concat(), buffers })?;
     Ok(written.buffers[1].bytes[..written.numbers[1] as usize].to_vec())
 }
 

@@ -5,6 +5,7 @@ use mathlib.Core.Bool.{Bool, false, cond}
 use mathlib.Core.List.{List, [], _∷_, _++_}
 use Prim.Native.Nat.{ℕ, _-_, _<_, _≤_}
 use native.Mathlib.Omega.{arith}
+use lib.Dec.{ltb}
 use lib.ListN.{length, take, replicate, length-append}
 use lib.Seq.{take-at}
 use borrow.Author.Tests.{le-ltb, ne-eqb}
@@ -26,14 +27,15 @@ use Rattle.refusals.proofs.FirstOf.{Silent, silent-zero, same-after, accepted-s
 use Rattle.refusals.proofs.Calls as calls
 use Rattle.refusals.proofs.Promise as promise
 use Rattle.axes.specs.declared.Answer.{Answer}
-use Rattle.axes.specs.declared.Planned.{Planned}
+use Rattle.plans.specs.declared.Planned.{Planned}
+use Rattle.plans.specs.Promise.{PlanPromise}
 use Rattle.axes.specs.Answers.{accepted, refused, refusedPlace}
-use Rattle.axes.specs.Asked.{askedFor}
-use Rattle.axes.specs.Promises.{ChainPromise, RequestPromise, PlanPromise}
+use Rattle.axes.specs.Private.{askedFor}
+use Rattle.axes.specs.Promises.{ChainPromise, RequestPromise}
 use Rattle.axes.proofs.Accepted.{never-six, is-order, no-order-false}
 
 -- a call that is refused and leaves the lent words as they were
-module _ (r : ℕ) {a : Answer} {number place : ℕ} (e : a ≡ refused r number place) (n : number ≡ 0 → ⊥) where
+module _ (r : ℕ) {a : Answer} {number place : ℕ} (e : a ≡ refused number place) (n : number ≡ 0 → ⊥) where
   number-is : a .number ≡ number
   number-is = ap (λ (b : Answer). b .number) e
 
@@ -45,7 +47,7 @@ module _ (r : ℕ) {a : Answer} {number place : ℕ} (e : a ≡ refused r number
   chain-refused {chain = chain} f p = record {
     block = promise.refused (number-is ∙ f) never;
     given = λ z. absurd (never z);
-    refusal = λ _. e ∙ ap₂ (refused r) (sym number-is) (p ∙ ap (λ (k : ℕ). refusedPlace r k chain) (sym number-is));
+    refusal = λ _. e ∙ ap₂ refused (sym number-is) (p ∙ ap (λ (k : ℕ). refusedPlace r k chain) (sym number-is));
   }
 
   pub request-refused : {ds : List ℕ} {release order : ℕ} {xs ss : List ℕ} → number ≡ firstOf (requestChecks r ds xs ss release order) → place ≡ 0
@@ -53,7 +55,7 @@ module _ (r : ℕ) {a : Answer} {number place : ℕ} (e : a ≡ refused r number
   request-refused f p = record {
     block = promise.refused (number-is ∙ f) never;
     given = λ z. absurd (never z);
-    refusal = λ _. e ∙ ap₂ (refused r) (sym number-is) p;
+    refusal = λ _. e ∙ ap₂ refused (sym number-is) p;
   }
 
 below-good : (r : ℕ) {c : List ℕ} → Below (r - 1) c → badSwap r c ≡ false
@@ -79,13 +81,13 @@ module _ {r order : ℕ} {q : Planned} (few : planPlaces r ≤ 32) (p : PlanProm
   unfolding o
   plan-swaps =
       ap₂ take plan-length (ap (λ (t : Planned). t .swaps) (p .given z))
-      ∙ take-at (planOf o) (replicate (planPlaces r - length (planOf o)) 0) (length (planOf o)) refl
+      ∙ take-at (planOf o) (replicate (10 - length (planOf o)) 0) (length (planOf o)) refl
 
   pub plan-holds : q .len ≤ length (q .swaps)
   unfolding o
   plan-holds =
       omega
-      (arith, plan-length, ap (λ (t : Planned). length (t .swaps)) (p .given z), length-append (planOf o) (replicate (planPlaces r - length (planOf o)) 0))
+      (arith, plan-length, ap (λ (t : Planned). length (t .swaps)) (p .given z), length-append (planOf o) (replicate (10 - length (planOf o)) 0))
 
   pub plan-count : q .len ≡ length (take (q .len) (q .swaps))
   plan-count = plan-length ∙ ap length (sym plan-swaps)
@@ -133,7 +135,7 @@ module _ {r order : ℕ} {q : Planned} (few : planPlaces r ≤ 32) (p : PlanProm
             ∙ ap₂ (λ (l : List ℕ) (k : ℕ). accepted l k (length (planOf o)))
             (ap (λ (t : List ℕ). pick t ds) names)
             (ap (numberOf r) names ∙ number-order r order low);
-        refusal = λ n. c .refusal n ∙ ap (refused r (a .number)) nowhere;
+        refusal = λ n. c .refusal n ∙ ap (refused (a .number)) nowhere;
       }
 
 -- a request for the number that an order has in release 1 answers as the request for the number that names the order by its release does, but for
@@ -173,13 +175,18 @@ module _ (r release order : ℕ) (known : noRelease release ≡ false) (low : or
             ap (askedFor order) (p .given i) ∙ ap (λ (t : List ℕ). accepted (pick t ds) order (length (planOf t))) same;
         refusal = λ n.
             ap (askedFor order) (p .refusal n)
-            ∙ ap (λ (t : Bool). let b : Answer = record { number = a .number; place = 0; lens = replicate r 0; order = cond t order 0; swaps = 0 } in b)
+            ∙ ap (λ (t : Bool). let b : Answer = record { number = a .number; place = 0; lens = replicate 5 0; order = cond t order 0; swaps = 0 } in b)
             (ne-eqb (a .number) 0 n);
       }
 
 -- one of the orders has a plan
-pub plan-given : {r n : ℕ} {q : Planned} → n < orderCount r → PlanPromise r n q → q .number ≡ 0
+plan-given : {r n : ℕ} {q : Planned} → n < orderCount r → PlanPromise r n q → q .number ≡ 0
 plan-given {r} {n} low p = p .number-is ∙ silent-zero (Silent.more (no-order-false r n low) Silent.none)
+
+-- 14 and 7, told the last order of r axes
+pub told-last : (r release order : ℕ) {last n : ℕ} → last ≡ orderCount r - 1 → n ≡ firstOf (check 14 (noRelease release) ∷ check 7 (ltb last order) ∷ [])
+    → n ≡ firstOf (namedChecks r release order)
+told-last r release order e f = f ∙ ap (λ (l : ℕ). firstOf (check 14 (noRelease release) ∷ check 7 (ltb l order) ∷ [])) e
 
 -- a number and its release that are not refused
 module _ (r release order : ℕ) (e : firstOf (namedChecks r release order) ≡ 0) where
@@ -188,6 +195,10 @@ module _ (r release order : ℕ) (e : firstOf (namedChecks r release order) ≡ 
     where
       go : Silent (namedChecks r release order) → (noRelease release ≡ false) × (order < orderCount r)
       go (Silent.more h (Silent.more k s)) = (h, is-order r order k)
+
+  -- the order that they name has a plan
+  pub plan-known : {n : ℕ} {q : Planned} → n ≡ numberBy r release order → PlanPromise r n q → q .number ≡ 0
+  plan-known {n} own p = plan-given (rw own (by-below r order (named-known .1) release)) p
 
   -- the chain of the plan of the order that they name answers as the request does, but for the number
   pub request-named : {n : ℕ} {q : Planned} → planPlaces r ≤ 32 → n ≡ numberBy r release order → PlanPromise r n q → q .number ≡ 0

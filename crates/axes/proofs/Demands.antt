@@ -3,7 +3,7 @@
 -- either release.
 -- Each call has its own scratch, any that is enough by the call's own need, and what it holds afterwards each call's promise says by itself;
 -- where one scratch is lent to all, what it holds is said too.
--- The words by the laws of layouts, the lengths by following the chain.
+-- The words by the laws of layouts, the lengths by following the chain. A call on r axes reads the first r of the five lengths that came back.
 use mathlib.Core.Path.{_≡_, refl, sym, ap, ap₂, _∙_, subst}
 use mathlib.Core.List.{List, [], _∷_, _++_, reverse}
 use mathlib.Core.Bool.{false}
@@ -34,9 +34,12 @@ use Rattle.refusals.specs.Promise.{Rearranged}
 use Rattle.refusals.proofs.FirstOf.{Silent, silent-zero}
 use Rattle.refusals.proofs.Scratch.{cleared-length, cleared-twice}
 use Rattle.axes.specs.declared.Answer.{Answer}
-use Rattle.axes.specs.declared.Planned.{Planned}
-use Rattle.axes.specs.Asked.{askedFor}
-use Rattle.axes.specs.Promises.{ChainPromise, RequestPromise, PlanPromise}
+use Rattle.plans.specs.declared.Planned.{Planned}
+use Rattle.plans.specs.Promise.{PlanPromise}
+use Rattle.axes.specs.Answers.{fiveLengths}
+use Rattle.axes.specs.Private.{askedFor}
+use Rattle.axes.specs.Promises.{ChainPromise, RequestPromise}
+use Rattle.axes.proofs.Five.{first-of-five}
 use Rattle.axes.proofs.Accepted.{ChainAccepted, accepts-chain, block-zero, chain-zero, next-accepted, joined-accepted, back-accepted, by-last, no-order-false}
 use Rattle.axes.proofs.Calls.{request-of-chain, request-by}
 use Rattle.axes.proofs.OneOutcome.{request-once}
@@ -49,10 +52,14 @@ module _ {r : ℕ} {ds c xs ss : List ℕ} {a : Answer} {ys ts : List ℕ} (axes
   laid-out : Laid ds (named r c) xs ys
   laid-out = p .block .words z
 
-  new-lengths : a .lens ≡ follow ds c
-  new-lengths = ap (λ (b : Answer). b .lens) (p .given z) ∙ pick-named ds c axes
+  five-lengths : a .lens ≡ fiveLengths (follow ds c)
+  five-lengths = ap (λ (b : Answer). b .lens) (p .given z) ∙ ap fiveLengths (pick-named ds c axes)
 
-  as-many : length (a .lens) ≡ r
+  -- of these the first r are those of the shape that came back
+  new-lengths : take r (a .lens) ≡ follow ds c
+  new-lengths = ap (take r) five-lengths ∙ first-of-five (follow ds c) (length-follow ds c ∙ axes)
+
+  as-many : length (take r (a .lens)) ≡ r
   as-many = ap length new-lengths ∙ length-follow ds c ∙ axes
 
   new-order : orderOf r (a .order) ≡ named r c
@@ -65,24 +72,24 @@ module _ {r : ℕ} {ds c xs ss : List ℕ} {a : Answer} {ys ts : List ℕ} (axes
   as-long = ap length (p .block .zeroed z) ∙ cleared-length ss (le-refl (chainNeed ds c)) (ran .room)
 
   -- what the caller of the joined chain must lend: the larger of both needs, each on the shape as it is called
-  pub joined-need : (t : List ℕ) → chainNeed ds (c ++ t) ≡ max (chainNeed ds c) (chainNeed (a .lens) t)
+  pub joined-need : (t : List ℕ) → chainNeed ds (c ++ t) ≡ max (chainNeed ds c) (chainNeed (take r (a .lens)) t)
   joined-need t = rw new-lengths (need-append ds c t)
 
   -- a chain run backwards on the shape that came back needs what the chain needs
-  pub back-need : chainNeed (a .lens) (reverse c) ≡ chainNeed ds c
+  pub back-need : chainNeed (take r (a .lens)) (reverse c) ≡ chainNeed ds c
   back-need = rw new-lengths (need-back ds c)
 
   -- scratch that the call left, lent to a second chain on the shape that came back, holds after both what the joined chain leaves of it
-  scratch-on : (t : List ℕ) {us : List ℕ} → chainNeed (a .lens) t ≤ length ss → us ≡ cleared (chainNeed (a .lens) t) ts
+  scratch-on : (t : List ℕ) {us : List ℕ} → chainNeed (take r (a .lens)) t ≤ length ss → us ≡ cleared (chainNeed (take r (a .lens)) t) ts
       → us ≡ cleared (chainNeed ds (c ++ t)) ss
   scratch-on t h e =
       e
-      ∙ ap (cleared (chainNeed (a .lens) t)) (p .block .zeroed z)
-      ∙ cleared-twice (chainNeed (a .lens) t) (chainNeed ds c) ss h
+      ∙ ap (cleared (chainNeed (take r (a .lens)) t)) (p .block .zeroed z)
+      ∙ cleared-twice (chainNeed (take r (a .lens)) t) (chainNeed ds c) ss h
       ∙ ap (λ (w : ℕ). cleared w ss) (sym (joined-need t))
 
   -- and lent to the chain run backwards it stays as it is
-  scratch-back : {us : List ℕ} → us ≡ cleared (chainNeed (a .lens) (reverse c)) ts → us ≡ ts
+  scratch-back : {us : List ℕ} → us ≡ cleared (chainNeed (take r (a .lens)) (reverse c)) ts → us ≡ ts
   scratch-back e =
       let w = chainNeed ds c in
       e
@@ -102,8 +109,8 @@ pub record Joined (r : ℕ) (a₁ a₂ a : Answer) (zs ws : List ℕ) : Type 0 w
 
 -- where the first is accepted, the second has no bad swap, both have at most 32 swaps together, and each call has the scratch that it needs
 module _ {r : ℕ} {ds s t xs ss ss₂ ss₃ : List ℕ} {a₁ a₂ a : Answer} {ys ts zs us ws vs : List ℕ} (axes : length ds ≡ r)
-    (p : ChainPromise r ds s xs ss a₁ ys ts) (q : ChainPromise r (a₁ .lens) t ys ss₂ a₂ zs us) (j : ChainPromise r ds (s ++ t) xs ss₃ a ws vs)
-    (e : a₁ .number ≡ 0) (good : badSwap r t ≡ false) (few : length (s ++ t) ≤ 32) (room₂ : chainNeed (a₁ .lens) t ≤ length ss₂)
+    (p : ChainPromise r ds s xs ss a₁ ys ts) (q : ChainPromise r (take r (a₁ .lens)) t ys ss₂ a₂ zs us) (j : ChainPromise r ds (s ++ t) xs ss₃ a ws vs)
+    (e : a₁ .number ≡ 0) (good : badSwap r t ≡ false) (few : length (s ++ t) ≤ 32) (room₂ : chainNeed (take r (a₁ .lens)) t ≤ length ss₂)
     (room₃ : chainNeed ds (s ++ t) ≤ length ss₃) where
   second-accepted : a₂ .number ≡ 0
   second-accepted =
@@ -126,10 +133,9 @@ module _ {r : ℕ} {ds s t xs ss ss₂ ss₃ : List ℕ} {a₁ a₂ a : Answer} 
       record {
         second = second-accepted;
         both = both-accepted;
-        lengths = new-lengths axes j both-accepted
-            ∙ follow-append ds s t
-            ∙ ap (λ (l : List ℕ). follow l t) (sym (new-lengths axes p e))
-            ∙ sym (new-lengths between q second-accepted);
+        lengths = five-lengths axes j both-accepted
+            ∙ ap fiveLengths (follow-append ds s t ∙ ap (λ (l : List ℕ). follow l t) (sym (new-lengths axes p e)))
+            ∙ sym (five-lengths between q second-accepted);
         order = new-order axes j both-accepted ∙ joined r s t ∙ ap₂ pick (sym (new-order between q second-accepted)) (sym (new-order axes p e));
         swaps = counted axes j both-accepted ∙ length-append s t ∙ ap₂ _+_ (sym (counted axes p e)) (sym (counted between q second-accepted));
         words = chain-once ds axes (s ++ t) (laid-out axes j both-accepted) joined-laid;
@@ -137,9 +143,9 @@ module _ {r : ℕ} {ds s t xs ss ss₂ ss₃ : List ℕ} {a₁ a₂ a : Answer} 
 
 -- through one scratch, as long as the joined chain needs, that too holds afterwards what the joined chain leaves in it
 module _ {r : ℕ} {ds s t xs ss : List ℕ} {a₁ a₂ a : Answer} {ys ts zs us ws vs : List ℕ} (axes : length ds ≡ r)
-    (p : ChainPromise r ds s xs ss a₁ ys ts) (q : ChainPromise r (a₁ .lens) t ys ts a₂ zs us) (j : ChainPromise r ds (s ++ t) xs ss a ws vs)
+    (p : ChainPromise r ds s xs ss a₁ ys ts) (q : ChainPromise r (take r (a₁ .lens)) t ys ts a₂ zs us) (j : ChainPromise r ds (s ++ t) xs ss a ws vs)
     (e : a₁ .number ≡ 0) (good : badSwap r t ≡ false) (few : length (s ++ t) ≤ 32) (room : chainNeed ds (s ++ t) ≤ length ss) where
-  enough : chainNeed (a₁ .lens) t ≤ length ss
+  enough : chainNeed (take r (a₁ .lens)) t ≤ length ss
   enough = omega (arith, joined-need axes p e t)
 
   pub chains-join-scratch : Joined r a₁ a₂ a zs ws × (vs ≡ us)
@@ -158,7 +164,7 @@ module _ {r : ℕ} {ds s t xs ss ss′ : List ℕ} {a a′ : Answer} {ys ts zs u
     (q : ChainPromise r ds t xs ss′ a′ zs us) (e : a .number ≡ 0) (d : a′ .number ≡ 0) (one : named r s ≡ named r t) where
   pub one-order : Alike a a′ ys zs
   one-order = record {
-    lengths = ap (λ (b : Answer). b .lens) (q .given d) ∙ ap (λ (o : List ℕ). pick o ds) (sym one) ∙ sym (ap (λ (b : Answer). b .lens) (p .given e));
+    lengths = ap (λ (b : Answer). b .lens) (q .given d) ∙ ap (λ (o : List ℕ). fiveLengths (pick o ds)) (sym one) ∙ sym (ap (λ (b : Answer). b .lens) (p .given e));
     order = ap (λ (b : Answer). b .order) (q .given d) ∙ ap (numberOf r) (sym one) ∙ sym (ap (λ (b : Answer). b .order) (p .given e));
     words = chain-once ds axes t (laid-out axes q d) (subst (λ (o : List ℕ). Laid ds o xs ys) one (laid-out axes p e));
   }
@@ -166,11 +172,11 @@ module _ {r : ℕ} {ds s t xs ss ss′ : List ℕ} {a a′ : Answer} {ys ts zs u
 -- a chain run backwards on the shape that came back restores every word and the shape
 pub record Restored (ds xs : List ℕ) (a : Answer) (zs : List ℕ) : Type 0 where
   pub accepts : a .number ≡ 0
-  pub lengths : a .lens ≡ ds
+  pub lengths : a .lens ≡ fiveLengths ds
   pub words : zs ≡ xs
 
 module _ {r : ℕ} {ds c xs ss ss′ : List ℕ} {a a′ : Answer} {ys ts zs us : List ℕ} (axes : length ds ≡ r) (p : ChainPromise r ds c xs ss a ys ts)
-    (q : ChainPromise r (a .lens) (reverse c) ys ss′ a′ zs us) (e : a .number ≡ 0) (room : chainNeed ds c ≤ length ss′) where
+    (q : ChainPromise r (take r (a .lens)) (reverse c) ys ss′ a′ zs us) (e : a .number ≡ 0) (room : chainNeed ds c ≤ length ss′) where
   back-again : a′ .number ≡ 0
   back-again =
       q .block .number-is
@@ -182,8 +188,8 @@ module _ {r : ℕ} {ds c xs ss ss′ : List ℕ} {a a′ : Answer} {ys ts zs us 
       let turned = as-many axes p e in
       record {
         accepts = back-again;
-        lengths = new-lengths turned q back-again ∙ ap (λ (l : List ℕ). follow l (reverse c)) (new-lengths axes p e) ∙ follow-home ds c;
-        words = chain-once (a .lens) turned (reverse c) (laid-out turned q back-again)
+        lengths = five-lengths turned q back-again ∙ ap fiveLengths (ap (λ (l : List ℕ). follow l (reverse c)) (new-lengths axes p e) ∙ follow-home ds c);
+        words = chain-once (take r (a .lens)) turned (reverse c) (laid-out turned q back-again)
             (subst
             (λ (l : List ℕ). Laid l (named r (reverse c)) ys xs)
             (pick-named ds c axes ∙ sym (new-lengths axes p e))
@@ -192,7 +198,7 @@ module _ {r : ℕ} {ds c xs ss ss′ : List ℕ} {a a′ : Answer} {ys ts zs us 
 
 -- through the scratch that the chain left, which is enough, that stays as it is
 pub backwards-scratch : {r : ℕ} {ds c xs ss : List ℕ} {a a′ : Answer} {ys ts zs us : List ℕ} → length ds ≡ r → ChainPromise r ds c xs ss a ys ts
-    → ChainPromise r (a .lens) (reverse c) ys ts a′ zs us → a .number ≡ 0 → Restored ds xs a′ zs × (us ≡ ts)
+    → ChainPromise r (take r (a .lens)) (reverse c) ys ts a′ zs us → a .number ≡ 0 → Restored ds xs a′ zs × (us ≡ ts)
 backwards-scratch axes p q e =
     let home = backwards axes p q e (omega (arith, as-long axes p e, ran axes p e .room)) in
     (home, scratch-back axes p e (q .block .zeroed (home .accepts)))
@@ -229,7 +235,7 @@ module _ {r : ℕ} {ds c xs ss ss′ : List ℕ} {release k : ℕ} {a a′ : Ans
       record {
         accepts = z;
         lengths = ap (λ (b : Answer). b .lens) (q .given z)
-            ∙ ap (λ (o : List ℕ). pick o ds) the-order
+            ∙ ap (λ (o : List ℕ). fiveLengths (pick o ds)) the-order
             ∙ sym (ap (λ (b : Answer). b .lens) (p .given e));
         order = ap (λ (b : Answer). numberBy r release (b .order)) (q .given z) ∙ one;
         words = chain-once ds axes c (subst (λ (o : List ℕ). Laid ds o xs zs) the-order (q .block .words z)) (laid-out axes p e);

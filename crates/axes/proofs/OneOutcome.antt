@@ -2,10 +2,8 @@
 -- layouts of one order are equal; where it is refused, all is as it was.
 use mathlib.Core.Path.{_≡_, sym, ap, _∙_, subst}
 use mathlib.Core.List.{List}
-use mathlib.Core.Logic.{⊎-elim}
 use Prim.Native.Nat.{ℕ, _<_}
 use lib.ListN.{length}
-use Rattle.lists.proofs.Decide.{eq-or-ne}
 use Rattle.layout.specs.Layout.{Laid}
 use Rattle.orders.specs.Numbers.{orderCount}
 use Rattle.orders.specs.Releases.{orderBy}
@@ -14,16 +12,11 @@ use Rattle.orders.proofs.Releases.{by-named}
 use Rattle.refusals.specs.FirstOf.{Check, firstOf}
 use Rattle.refusals.specs.Promise.{Rearranged}
 use Rattle.refusals.proofs.Promise.{one-outcome}
+use Rattle.plans.proofs.OneOutcome.{either-way}
 use Rattle.axes.specs.declared.Answer.{Answer}
-use Rattle.axes.specs.declared.Planned.{Planned}
-use Rattle.axes.specs.Answers.{refused, refusedPlace, noPlan}
-use Rattle.axes.specs.Promises.{ChainPromise, RequestPromise, PlanPromise}
+use Rattle.axes.specs.Answers.{refused, refusedPlace}
+use Rattle.axes.specs.Promises.{ChainPromise, RequestPromise}
 use Rattle.axes.proofs.Accepted.{request-order}
-
--- what is equal where a number is 0 and where it is not
-either-way : {A : Type 0} {x y : A} {n m : ℕ} → n ≡ m → (n ≡ 0 → m ≡ 0 → x ≡ y) → ((n ≡ 0 → ⊥) → (m ≡ 0 → ⊥) → x ≡ y) → x ≡ y
-either-way {n = n} same taken left =
-    ⊎-elim (λ (e : n ≡ 0). taken e (sym same ∙ e)) (λ (k : n ≡ 0 → ⊥). left k (λ e. k (same ∙ e))) (eq-or-ne n 0)
 
 pub chain-once : {r : ℕ} {ds chain xs ss : List ℕ} → length ds ≡ r → {a a′ : Answer} {ys ys′ ts ts′ : List ℕ}
     → ChainPromise r ds chain xs ss a ys ts → ChainPromise r ds chain xs ss a′ ys′ ts′ → (a ≡ a′) × (ys ≡ ys′) × (ts ≡ ts′)
@@ -31,7 +24,7 @@ chain-once {r} {ds} {chain} axes p q =
     let (number, words, scratch) = one-outcome (λ ys zs f g. layouts.chain-once ds axes chain f g) (p .block) (q .block) in (
       either-way number
           (λ e e′. p .given e ∙ sym (q .given e′))
-          (λ n n′. p .refusal n ∙ ap (λ (k : ℕ). refused r k (refusedPlace r k chain)) number ∙ sym (q .refusal n′)),
+          (λ n n′. p .refusal n ∙ ap (λ (k : ℕ). refused k (refusedPlace r k chain)) number ∙ sym (q .refusal n′)),
       words,
       scratch,
     )
@@ -60,14 +53,7 @@ request-once {r} {ds} {release} {order} {xs} {ss} axes p q =
     one-outcome (λ ys zs f g. once release order axes (request-order r ds xs ss release order (f .1)) (f .0) (g .0)) (with-checks (p .block)) (with-checks (q .block)) in (
       either-way number
           (λ e e′. p .given e ∙ sym (q .given e′))
-          (λ n n′. p .refusal n ∙ ap (λ (k : ℕ). refused r k 0) number ∙ sym (q .refusal n′)),
+          (λ n n′. p .refusal n ∙ ap (λ (k : ℕ). refused k 0) number ∙ sym (q .refusal n′)),
       words,
       scratch,
     )
-
-pub plan-once : {r order : ℕ} {p p′ : Planned} → PlanPromise r order p → PlanPromise r order p′ → p ≡ p′
-plan-once {r} p q =
-    let same = p .number-is ∙ sym (q .number-is) in
-    either-way same
-    (λ e e′. p .given e ∙ sym (q .given e′))
-    (λ n n′. p .refusal n ∙ ap (noPlan r) same ∙ sym (q .refusal n′))

@@ -1,17 +1,18 @@
 -- A chain that is followed swap by swap: what stands after i of its swaps, from one swap to the next, and what is promised once all are
 -- made. Each swap clears the scratch that it used, so that what the swaps so far need is zero.
-use mathlib.Core.Path.{_≡_, refl, sym, ap, ap₂, _∙_, subst}
+use mathlib.Core.Path.{_≡_, refl, sym, ap, ap₂, _∙_, subst, subst₂}
 use mathlib.Core.List.{List, []}
 use Prim.Native.Nat.{ℕ, _+_, _<_, _≤_, max}
 use native.Mathlib.Omega.{arith}
-use lib.ListN.{length, getD, take}
+use lib.ListN.{length, getD, take, length-take}
 use lib.Seq.{take-length}
 use Rattle.lists.specs.Tab.{upto}
 use Rattle.layout.specs.Layout.{Laid}
 use Rattle.orders.specs.Chains.{exchange, follow, named}
 use Rattle.orders.specs.Numbers.{orderOf, numberOf}
 use Rattle.orders.specs.Needs.{exchanged, chainNeed}
-use Rattle.orders.proofs.Chains.{follow-more, named-more, pick-named}
+use Rattle.orders.proofs.Swaps.{length-exchange}
+use Rattle.orders.proofs.Chains.{length-follow, follow-more, named-more, pick-named}
 use Rattle.orders.proofs.Distinct.{count-pos, first-order}
 use Rattle.orders.proofs.Numbers.{order-number, number-order}
 use Rattle.orders.proofs.Needs.{need-more, need-part}
@@ -19,24 +20,26 @@ use Rattle.refusals.specs.FirstOf.{firstOf}
 use Rattle.refusals.specs.Calls.{blockChecks}
 use Rattle.refusals.specs.Scratch.{cleared}
 use Rattle.refusals.proofs.Scratch.{cleared-length, cleared-twice}
-use Rattle.axes.specs.Answers.{accepted}
+use Rattle.axes.specs.declared.Answer.{Answer}
+use Rattle.axes.specs.Answers.{fiveLengths}
 use Rattle.axes.specs.Promises.{ChainPromise}
+use Rattle.axes.proofs.Five.{first-of-five}
 use Rattle.axes.proofs.Accepted.{ChainAccepted, block-zero, block-after, chain-zero}
 use Rattle.axes.proofs.Steps.{laid-itself, one-more}
 
--- after i swaps of a chain: the words, the lengths, the order number and scratch are those of the swaps made
+-- after i swaps of a chain: the words, the first r lengths, the order number and scratch are those of the swaps made
 pub record Progress (r : ℕ) (ds chain xs ss : List ℕ) (i : ℕ) (ys ts lens : List ℕ) (order : ℕ) : Type 0 where
   pub words : Laid ds (named r (take i chain)) xs ys
-  pub shape : lens ≡ follow ds (take i chain)
+  pub shape : take r lens ≡ follow ds (take i chain)
   pub number : order ≡ numberOf r (named r (take i chain))
   pub room : ts ≡ cleared (chainNeed ds (take i chain)) ss
 
 module _ {r : ℕ} (ds : List ℕ) (axes : length ds ≡ r) (chain xs ss : List ℕ) where
-  pub begin : Progress r ds chain xs ss 0 xs ss ds 0
+  pub begin : {lens : List ℕ} → take r lens ≡ ds → Progress r ds chain xs ss 0 xs ss lens 0
   unfolding follow named chainNeed
-  begin = record {
+  begin e = record {
     words = subst (λ (n : ℕ). Laid ds (named n []) xs xs) axes (laid-itself ds xs);
-    shape = refl;
+    shape = e;
     number = sym (ap (numberOf r) (sym (first-order r)) ∙ number-order r 0 (count-pos r));
     room = refl;
   }
@@ -49,24 +52,35 @@ module _ {r : ℕ} (ds : List ℕ) (axes : length ds ≡ r) (chain xs ss : List 
     as-long : ChainAccepted r ds xs ss chain → i < length chain → length ts ≡ length ss
     as-long a h = ap length (p .room) ∙ cleared-length ss (need-part ds chain i) (a .room)
 
+    -- the lengths that are read are as many as there are axes
+    pub as-many : length (take r lens) ≡ r
+    as-many = ap length (p .shape) ∙ length-follow ds (take i chain) ∙ axes
+
+    pub enough-lengths : r ≤ length lens
+    enough-lengths = omega (arith, as-many, length-take r lens)
+
     -- the block still passes its checks, and scratch has room for the next swap
-    pub still-accepted : ChainAccepted r ds xs ss chain → firstOf (blockChecks lens ys) ≡ 0
+    pub still-accepted : ChainAccepted r ds xs ss chain → firstOf (blockChecks (take r lens) ys) ≡ 0
     still-accepted a =
         ap (λ (l : List ℕ). firstOf (blockChecks l ys)) (p .shape) ∙ block-zero {xs = ys} (block-after (a .block) (take i chain) (p .words .same))
 
-    pub still-room : ChainAccepted r ds xs ss chain → i < length chain → exchanged (getD chain i 0) lens ≤ length ts
+    pub still-room : ChainAccepted r ds xs ss chain → i < length chain → exchanged (getD chain i 0) (take r lens) ≤ length ts
     still-room a h = rw (p .shape) (omega (arith, few h, a .room, as-long a h))
 
     pub one-swap : ChainAccepted r ds xs ss chain → i < length chain → {zs us lens′ : List ℕ} {order′ : ℕ}
-        → Laid lens (exchange (getD chain i 0) (upto r)) ys zs → us ≡ cleared (exchanged (getD chain i 0) lens) ts
-        → lens′ ≡ exchange (getD chain i 0) lens → order′ ≡ numberOf r (exchange (getD chain i 0) (orderOf r order))
+        → Laid (take r lens) (exchange (getD chain i 0) (upto (length (take r lens)))) ys zs → us ≡ cleared (exchanged (getD chain i 0) (take r lens)) ts
+        → lens′ ≡ fiveLengths (exchange (getD chain i 0) (take r lens)) → order′ ≡ numberOf r (exchange (getD chain i 0) (orderOf r order))
         → Progress r ds chain xs ss (i + 1) zs us lens′ order′
     one-swap a h {zs} {us} f u s o =
         let k = getD chain i 0 in
         let v = exchanged k (follow ds (take i chain)) in
         record {
-          words = one-more ds axes chain i h (p .words) (subst (λ (e : List ℕ). Laid e (exchange k (upto r)) ys zs) (p .shape) f);
-          shape = s ∙ ap (exchange k) (p .shape) ∙ sym (follow-more ds chain i h);
+          words = one-more ds axes chain i h (p .words)
+              (subst₂ (λ (e : List ℕ) (n : ℕ). Laid e (exchange k (upto n)) ys zs) (p .shape) as-many f);
+          shape = ap (take r) s
+              ∙ first-of-five (exchange k (take r lens)) (length-exchange k (take r lens) ∙ as-many)
+              ∙ ap (exchange k) (p .shape)
+              ∙ sym (follow-more ds chain i h);
           number = o
               ∙ ap (λ (j : ℕ). numberOf r (exchange k (orderOf r j))) (p .number)
               ∙ ap (λ (l : List ℕ). numberOf r (exchange k l)) (order-number r (take i chain))
@@ -78,9 +92,9 @@ module _ {r : ℕ} (ds : List ℕ) (axes : length ds ≡ r) (chain xs ss : List 
         }
 
     -- all swaps made
-    pub finished : i ≡ length chain → ChainAccepted r ds xs ss chain
-        → ChainPromise r ds chain xs ss (record { number = 0; place = 0; lens = lens; order = order; swaps = length chain }) ys ts
-    finished e a =
+    pub finished : i ≡ length chain → ChainAccepted r ds xs ss chain → {last : List ℕ} → last ≡ fiveLengths (take r lens)
+        → ChainPromise r ds chain xs ss (record { number = 0; place = 0; lens = last; order = order; swaps = length chain }) ys ts
+    finished e a five =
         let all : take i chain ≡ chain = ap (λ (j : ℕ). take j chain) e ∙ take-length chain in
         record {
           block = record {
@@ -90,8 +104,8 @@ module _ {r : ℕ} (ds : List ℕ) (axes : length ds ≡ r) (chain xs ss : List 
             kept = λ n. absurd (n refl);
           };
           given = λ _.
-              ap₂ (λ (l : List ℕ) (o : ℕ). accepted l o (length chain))
-              (p .shape ∙ ap (follow ds) all ∙ sym (pick-named ds chain axes))
+              ap₂ (λ (l : List ℕ) (o : ℕ). let b : Answer = record { number = 0; place = 0; lens = l; order = o; swaps = length chain } in b)
+              (five ∙ ap fiveLengths (p .shape ∙ ap (follow ds) all ∙ sym (pick-named ds chain axes)))
               (p .number ∙ ap (λ (c : List ℕ). numberOf r (named r c)) all);
           refusal = λ n. absurd (n refl);
         }

@@ -1,4 +1,3 @@
 pub mod Answers
 pub mod Promises
-pub mod OneSwap
-pub mod Asked
+pub mod Private

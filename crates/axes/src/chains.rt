@@ -1,8 +1,10 @@
-// Swaps and chains of swaps on a block.
+// Swaps and chains of swaps on a block. The lengths that are read are lent as a slice, as many as there are axes.
 use crate::Answer;
 use crate::Shape;
-use crate::tables;
+use crate::sizes;
 ghost use mathlib.Core.Path.{_≡_};
+ghost use Prim.Native.Nat.{_≤_};
+ghost use lib.ListN.{length, take};
 ghost use Rattle.lists.specs.Tab.{upto};
 ghost use Rattle.layout.specs.Layout.{Laid};
 ghost use Rattle.orders.specs.Chains.{exchange};
@@ -11,11 +13,12 @@ ghost use Rattle.refusals.specs.FirstOf.{firstOf};
 ghost use Rattle.refusals.specs.Calls.{chainChecks};
 ghost use Rattle.refusals.specs.Scratch.{cleared};
 ghost use Rattle.axes.specs.Promises.{ChainPromise};
-ghost use Rattle.axes.specs.OneSwap.{SwapAccepted};
+ghost use Rattle.axes.specs.Private.{FourOrFive, SwapAccepted};
 
 // The first of the checks 1, 2, 3, 13, 5, 6, 4.
 pub(crate) fn chain_number(lens: &[usize], buf: &[u32], scratch: &[u32], swaps: &[usize]) -> u32
-    ensures { λ r. ⌜ r ≡ firstOf (chainChecks 4 (now (lens .entry)) (now (buf .entry)) (now (scratch .entry)) (now (swaps .entry))) ⌝ }
+    requires { ⌜ 2 ≤ length (now lens) ⌝ }
+    ensures { λ r. ⌜ r ≡ firstOf (chainChecks (length (now (lens .entry))) (now (lens .entry)) (now (buf .entry)) (now (scratch .entry)) (now (swaps .entry))) ⌝ }
 {
     let number = checks::block_number(lens, buf);
     if number != 0 {
@@ -25,7 +28,7 @@ pub(crate) fn chain_number(lens: &[usize], buf: &[u32], scratch: &[u32], swaps: 
     if count > 32 {
         return 5;
     }
-    let bad = checks::first_above(swaps, 2);
+    let bad = checks::first_above(swaps, lens.len() - 2);
     if bad < count {
         return 6;
     }
@@ -37,12 +40,11 @@ pub(crate) fn chain_number(lens: &[usize], buf: &[u32], scratch: &[u32], swaps: 
 }
 
 // Swap k of a block: the axes before place k, the two axes and the axes after them. It leaves as many zeros in scratch as the longer axis is long.
-fn swap_at(buf: &mut [u32], scratch: &mut [u32], shape: Shape, k: usize)
-    requires { ⌜ SwapAccepted k (shape .lens) (now buf) (now scratch) ⌝ }
-    ensures { λ _. ⌜ Laid (shape .lens) (exchange k (upto 4)) (now (buf .entry)) (now (buf .exit)) ⌝ }
-    ensures { λ _. ⌜ now (scratch .exit) ≡ cleared (exchanged k (shape .lens)) (now (scratch .entry)) ⌝ }
+fn swap_at(buf: &mut [u32], scratch: &mut [u32], lens: &[usize], k: usize)
+    requires { ⌜ SwapAccepted k (now lens) (now buf) (now scratch) ⌝ }
+    ensures { λ _. ⌜ Laid (now (lens .entry)) (exchange k (upto (length (now (lens .entry))))) (now (buf .entry)) (now (buf .exit)) ⌝ }
+    ensures { λ _. ⌜ now (scratch .exit) ≡ cleared (exchanged k (now (lens .entry))) (now (scratch .entry)) ⌝ }
 {
-    let lens = shape.lens;
     let outer = checks::words_of(&lens[..k]);
     let chunk = checks::words_of(&lens[k + 2..]);
     let m = lens[k];
@@ -51,19 +53,27 @@ fn swap_at(buf: &mut [u32], scratch: &mut [u32], shape: Shape, k: usize)
 }
 
 // An accepted chain, swap by swap; each swap clears the scratch that it used.
-pub(crate) fn run(buf: &mut [u32], scratch: &mut [u32], shape: Shape, swaps: &[usize]) -> Answer
-    requires { ⌜ firstOf (chainChecks 4 (shape .lens) (now buf) (now scratch) (now swaps)) ≡ 0 ⌝ }
-    ensures { λ r. ⌜ ChainPromise 4 (shape .lens) (now (swaps .entry)) (now (buf .entry)) (now (scratch .entry)) r (now (buf .exit)) (now (scratch .exit)) ⌝ }
+pub(crate) fn run(
+    buf: &mut [u32],
+    scratch: &mut [u32],
+    shape: Shape,
+    axes: usize,
+    swaps: &[usize],
+) -> Answer
+    requires { ⌜ FourOrFive axes × (firstOf (chainChecks axes (take axes (shape .lens)) (now buf) (now scratch) (now swaps)) ≡ 0) ⌝ }
+    ensures { λ r. ⌜ ChainPromise axes (take axes (shape .lens)) (now (swaps .entry)) (now (buf .entry)) (now (scratch .entry)) r (now (buf .exit)) (now (scratch .exit)) ⌝ }
 {
     let mut stands = shape;
     let mut order = 0;
     for i in 0..swaps.len() {
         let k = swaps[i];
-        swap_at(buf, scratch, stands, k);
-        stands = stands.swapped(k);
-        order = tables::next_order(order, k);
+        let lens = stands.lens;
+        swap_at(buf, scratch, &lens[..axes], k);
+        stands = stands.swapped(axes, k);
+        order = sizes::next_order(axes, order, k);
     }
-    let last = stands.lens;
+    let left = stands.first(axes);
+    let last = left.lens;
     Answer {
         number: 0,
         place: 0,

@@ -1,81 +1,81 @@
-// Four axes: swaps, chains, orders by number and their plans.
+// Four and five axes: swaps, chains of swaps, and direct requests for an order by its number.
 ghost use mathlib.Core.Path.{_≡_};
+ghost use Prim.Native.Nat.{_+_, _<_};
+ghost use lib.ListN.{length, take};
 ghost use Rattle.orders.specs.Chains.{exchange};
-ghost use Rattle.axes.specs.Answers.{refused};
-ghost use Rattle.axes.specs.Asked.{askedFor};
-ghost use Rattle.axes.specs.Promises.{ChainPromise, RequestPromise, PlanPromise};
+ghost use Rattle.axes.specs.Answers.{fiveLengths, refused};
+ghost use Rattle.axes.specs.Private.{FourOrFive, askedFor};
+ghost use Rattle.axes.specs.Promises.{ChainPromise, RequestPromise};
 
 mod chains;
-mod plans;
-mod tables;
+mod sizes;
 
-// The lengths of four axes, last axis fastest.
+// The lengths of up to five axes, last axis fastest. A call on four axes does not read the fifth.
+#[repr(C)]
 pub struct Shape {
-    pub lens: [usize; 4],
+    pub lens: [usize; 5],
 }
 
 impl Shape {
-    // The shape with the axes at places k and k + 1 exchanged; above 2 there are no such places and nothing changes.
-    pub fn swapped(self, k: usize) -> Shape
-        ensures { λ r. ⌜ r .lens ≡ exchange k (self .lens) ⌝ }
+    // The shape of the first axes: the lengths of the others are 0.
+    pub(crate) fn first(self, axes: usize) -> Shape
+        ensures { λ r. ⌜ r .lens ≡ fiveLengths (take axes (self .lens)) ⌝ }
     {
-        if k > 2 {
+        if 4 < axes {
             return self;
         }
         let mut lens = self.lens;
-        let first = lens[k];
-        let second = lens[k + 1];
-        lens[k] = second;
-        lens[k + 1] = first;
+        for k in axes..5 {
+            lens[k] = 0;
+        }
+        Shape { lens: lens }
+    }
+
+    // The shape of so many axes with those at places k and k + 1 exchanged. Where they have no such places nothing changes; lengths past them come back 0.
+    pub fn swapped(self, axes: usize, k: usize) -> Shape
+        ensures { λ r. ⌜ r .lens ≡ fiveLengths (exchange k (take axes (self .lens))) ⌝ }
+    {
+        let stands = self.first(axes);
+        if 3 < k {
+            return stands;
+        }
+        if axes < k + 2 {
+            return stands;
+        }
+        let mut lens = stands.lens;
+        exchange_at(&mut lens, k);
         Shape { lens: lens }
     }
 }
 
-// What a call on a block answers: its number, its place, the four new lengths, the number of the new order, the swaps done.
+// Exchanges the lengths at places k and k + 1.
+fn exchange_at(lens: &mut [usize], k: usize)
+    requires { ⌜ k + 1 < length (now lens) ⌝ }
+    ensures { λ _. ⌜ now (lens .exit) ≡ exchange k (now (lens .entry)) ⌝ }
+{
+    let first = lens[k];
+    lens[k] = lens[k + 1];
+    lens[k + 1] = first;
+}
+
+// What a call on a block answers: its number, its place, the five new lengths (of four axes the last is 0), the number of the new order, the swaps done.
+#[repr(C)]
 pub struct Answer {
     pub number: u32,
     pub place: usize,
-    pub lens: [usize; 4],
+    pub lens: [usize; 5],
     pub order: usize,
     pub swaps: usize,
 }
 
-// A plan: its number, six swap places of which the first `len` are used, and their count.
-pub struct Planned {
-    pub number: u32,
-    pub swaps: [usize; 6],
-    pub len: usize,
-}
-
-// The shortest chain that names an order and, among the shortest, the first in dictionary order.
-pub fn plan(order: usize) -> Planned
-    ensures { λ r. ⌜ PlanPromise 4 order r ⌝ }
-{
-    if order > 23 {
-        return Planned {
-            number: 7,
-            swaps: [0; 6],
-            len: 0,
-        };
-    }
-    let axes = tables::order_of(order);
-    let count = axes.falling_pairs();
-    let swaps = axes.planned_swaps(count);
-    Planned {
-        number: 0,
-        swaps: swaps,
-        len: count,
-    }
-}
-
 // The answer of a refused call.
 fn refusal(number: u32, place: usize) -> Answer
-    ensures { λ r. ⌜ r ≡ refused 4 number place ⌝ }
+    ensures { λ r. ⌜ r ≡ refused number place ⌝ }
 {
     Answer {
         number: number,
         place: place,
-        lens: [0; 4],
+        lens: [0; 5],
         order: 0,
         swaps: 0,
     }
@@ -98,24 +98,73 @@ fn asked(done: Answer, order: usize) -> Answer
     }
 }
 
-// A chain of swaps on a block, through scratch as long as the longest axis that it exchanges: 0, or 1, 2, 3, 13, 5, 6, 4.
-pub fn chain(buf: &mut [u32], scratch: &mut [u32], shape: Shape, swaps: &[usize]) -> Answer
-    ensures { λ r. ⌜ ChainPromise 4 (shape .lens) (now (swaps .entry)) (now (buf .entry)) (now (scratch .entry)) r (now (buf .exit)) (now (scratch .exit)) ⌝ }
+// A chain of swaps on a block of so many axes, through scratch as long as the longest axis that it exchanges: 0, or 1, 2, 3, 13, 5, 6, 4.
+fn chain_on(
+    buf: &mut [u32],
+    scratch: &mut [u32],
+    shape: Shape,
+    axes: usize,
+    swaps: &[usize],
+) -> Answer
+    requires { ⌜ FourOrFive axes ⌝ }
+    ensures { λ r. ⌜ ChainPromise axes (take axes (shape .lens)) (now (swaps .entry)) (now (buf .entry)) (now (scratch .entry)) r (now (buf .exit)) (now (scratch .exit)) ⌝ }
 {
     let lens = shape.lens;
-    let number = chains::chain_number(&lens, buf, scratch, swaps);
+    let number = chains::chain_number(&lens[..axes], buf, scratch, swaps);
     if number == 6 {
-        let place = checks::first_above(swaps, 2);
+        let place = checks::first_above(swaps, axes - 2);
         return refusal(6, place);
     }
     if number != 0 {
         return refusal(number, 0);
     }
-    chains::run(buf, scratch, shape, swaps)
+    chains::run(buf, scratch, shape, axes, swaps)
 }
 
-// The direct request for the order that a number names by its release, which runs that order's plan and needs what the plan needs: 0, or 1, 2, 3, 13,
-// 14, 7, 4. It answers the number that it was given.
+// The direct request for the order of so many axes that a number names by its release, which runs that order's plan and needs what the plan needs: 0, or
+// 1, 2, 3, 13, 14, 7, 4. It answers the number that it was given.
+fn request_on(
+    buf: &mut [u32],
+    scratch: &mut [u32],
+    shape: Shape,
+    axes: usize,
+    release: usize,
+    order: usize,
+) -> Answer
+    requires { ⌜ FourOrFive axes ⌝ }
+    ensures { λ r. ⌜ RequestPromise axes (take axes (shape .lens)) release order (now (buf .entry)) (now (scratch .entry)) r (now (buf .exit)) (now (scratch .exit)) ⌝ }
+{
+    let lens = shape.lens;
+    let number = checks::block_number(&lens[..axes], buf);
+    if number != 0 {
+        return refusal(number, 0);
+    }
+    let unnamed = checks::named_number(sizes::last_order(axes), release, order);
+    if unnamed != 0 {
+        return refusal(unnamed, 0);
+    }
+    let planned = sizes::plan_of(axes, sizes::number_by(axes, release, order));
+    let swaps = planned.swaps;
+    let count = planned.len;
+    let done = chain_on(buf, scratch, shape, axes, &swaps[..count]);
+    asked(done, order)
+}
+
+// A chain of swaps on a block of four axes.
+pub fn chain(buf: &mut [u32], scratch: &mut [u32], shape: Shape, swaps: &[usize]) -> Answer
+    ensures { λ r. ⌜ ChainPromise 4 (take 4 (shape .lens)) (now (swaps .entry)) (now (buf .entry)) (now (scratch .entry)) r (now (buf .exit)) (now (scratch .exit)) ⌝ }
+{
+    chain_on(buf, scratch, shape, 4, swaps)
+}
+
+// A chain of swaps on a block of five axes.
+pub fn chain5(buf: &mut [u32], scratch: &mut [u32], shape: Shape, swaps: &[usize]) -> Answer
+    ensures { λ r. ⌜ ChainPromise 5 (take 5 (shape .lens)) (now (swaps .entry)) (now (buf .entry)) (now (scratch .entry)) r (now (buf .exit)) (now (scratch .exit)) ⌝ }
+{
+    chain_on(buf, scratch, shape, 5, swaps)
+}
+
+// The direct request for an order of four axes.
 pub fn request(
     buf: &mut [u32],
     scratch: &mut [u32],
@@ -123,20 +172,20 @@ pub fn request(
     release: usize,
     order: usize,
 ) -> Answer
-    ensures { λ r. ⌜ RequestPromise 4 (shape .lens) release order (now (buf .entry)) (now (scratch .entry)) r (now (buf .exit)) (now (scratch .exit)) ⌝ }
+    ensures { λ r. ⌜ RequestPromise 4 (take 4 (shape .lens)) release order (now (buf .entry)) (now (scratch .entry)) r (now (buf .exit)) (now (scratch .exit)) ⌝ }
 {
-    let lens = shape.lens;
-    let number = checks::block_number(&lens, buf);
-    if number != 0 {
-        return refusal(number, 0);
-    }
-    let unnamed = checks::named_number(release, order);
-    if unnamed != 0 {
-        return refusal(unnamed, 0);
-    }
-    let planned = plan(tables::number_by(release, order));
-    let swaps = planned.swaps;
-    let count = planned.len;
-    let done = chain(buf, scratch, shape, &swaps[..count]);
-    asked(done, order)
+    request_on(buf, scratch, shape, 4, release, order)
+}
+
+// The direct request for an order of five axes.
+pub fn request5(
+    buf: &mut [u32],
+    scratch: &mut [u32],
+    shape: Shape,
+    release: usize,
+    order: usize,
+) -> Answer
+    ensures { λ r. ⌜ RequestPromise 5 (take 5 (shape .lens)) release order (now (buf .entry)) (now (scratch .entry)) r (now (buf .exit)) (now (scratch .exit)) ⌝ }
+{
+    request_on(buf, scratch, shape, 5, release, order)
 }

@@ -1,12 +1,13 @@
 // The checks that every call on a block makes, on lengths and counts. Each function is total: no caller needs to have tested anything.
 ghost use mathlib.Core.Path.{_≡_};
+ghost use mathlib.Core.List.{[], _∷_};
 ghost use Prim.Native.Nat.{_*_, _≤_, max};
 ghost use lib.Dec.{ltb};
 ghost use Rattle.layout.specs.Layout.{volume};
 ghost use Rattle.orders.specs.Needs.{exchanged, chainNeed};
-ghost use Rattle.refusals.specs.FirstOf.{firstOf};
+ghost use Rattle.refusals.specs.FirstOf.{check, firstOf};
 ghost use Rattle.refusals.specs.Conditions.{outOfRange, badLength, longest, firstPlace, noRelease};
-ghost use Rattle.refusals.specs.Calls.{sizeChecks, blockChecks, passesChecks, namedChecks};
+ghost use Rattle.refusals.specs.Calls.{sizeChecks, blockChecks, passesChecks};
 ghost use Rattle.checks.specs.Words.{capped};
 
 // Whether no axis may have this length: 0 or above 4,096.
@@ -176,14 +177,14 @@ fn no_release(release: usize) -> bool
     release != 2
 }
 
-// The first of the checks 14 and 7 of an order number of four axes and its release that holds, else 0.
-pub fn named_number(release: usize, order: usize) -> u32
-    ensures { λ r. ⌜ r ≡ firstOf (namedChecks 4 release order) ⌝ }
+// The first of the checks 14 and 7 of an order number and its release that holds, else 0; for four axes the last order is 23, for five 119.
+pub fn named_number(last: usize, release: usize, order: usize) -> u32
+    ensures { λ r. ⌜ r ≡ firstOf (check 14 (noRelease release) ∷ check 7 (ltb last order) ∷ []) ⌝ }
 {
     if no_release(release) {
         return 14;
     }
-    if 23 < order {
+    if last < order {
         return 7;
     }
     0

@@ -1,28 +1,16 @@
 -- The records of the C interface read as those of the calls below, field by field. Assumes nothing: these are definitions.
-use Rattle.axes.specs.declared.Answer.{Answer as Below-Answer}
-use Rattle.axes.specs.declared.Planned.{Planned as Below-Planned}
 use Rattle.sheet.specs.declared.Sheet.{Sheet as Below-Sheet}
 use Rattle.printer.specs.declared.Written.{Written as Below-Written}
 use Rattle.home.specs.declared.Home.{Home as Below-Home}
 use Rattle.sheet.specs.declared.ResultSheet.{ResultSheet as Below-ResultSheet}
 use Rattle.passes.specs.declared.LineCount.{LineCount as Below-Lines}
 use Rattle.cycles.specs.declared.Judged.{Judged as Below-Judged}
-use Rattle.exports.specs.declared.Answer.{Answer}
-use Rattle.exports.specs.declared.Planned.{Planned}
 use Rattle.exports.specs.declared.Sheet.{Sheet}
 use Rattle.exports.specs.declared.Written.{Written}
 use Rattle.exports.specs.declared.Home.{Home}
 use Rattle.exports.specs.declared.ResultSheet.{ResultSheet}
 use Rattle.exports.specs.declared.Lines.{Lines}
 use Rattle.exports.specs.declared.Judged.{Judged}
-
--- what a chain or a direct request answers
-abbrev pub answered : Answer → Below-Answer
-answered r = record { number = r .number; place = r .place; lens = r .lens; order = r .order; swaps = r .swaps }
-
--- what the plan for an order answers
-abbrev pub planned : Planned → Below-Planned
-planned r = record { number = r .number; swaps = r .swaps; len = r .len }
 
 -- what the sheet reader answers
 abbrev pub sheetRead : Sheet → Below-Sheet

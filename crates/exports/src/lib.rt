@@ -1,7 +1,9 @@
 // The C interface: each public call under a C name, with the promise of the call below it.
+ghost use lib.ListN.{take};
 ghost use Rattle.passes.specs.Promises.{TurnPromise, TurnBackPromise};
 ghost use Rattle.halves.specs.Promise.{TurnPromise as HalvesPromise};
-ghost use Rattle.axes.specs.Promises.{ChainPromise, RequestPromise, PlanPromise};
+ghost use Rattle.plans.specs.Promise.{PlanPromise};
+ghost use Rattle.axes.specs.Promises.{ChainPromise, RequestPromise};
 ghost use Rattle.sheet.specs.Reader.{ReadAs};
 ghost use Rattle.sheet.specs.ResultReader.{ResultReadAs};
 ghost use Rattle.printer.specs.Writer.{WrittenAs, ReleaseWrittenAs};
@@ -15,30 +17,12 @@ ghost use Rattle.passes.specs.Ticks.{LinesPromise};
 ghost use Rattle.passes.specs.Restart.{memory, ResumePromise};
 ghost use Rattle.ticks.specs.Steps.{StepPromise};
 ghost use Rattle.cycles.specs.Promise.{JudgedAs, RunAs};
-ghost use Rattle.exports.specs.Records.{answered, planned, sheetRead, sheetWritten, homeAfter, resultRead, linesCounted, cyclesJudged};
+ghost use Rattle.exports.specs.Records.{sheetRead, sheetWritten, homeAfter, resultRead, linesCounted, cyclesJudged};
 
-// The lengths of four axes, last axis fastest.
+// The lengths of a sheet's four axes.
 #[repr(C)]
-pub struct Shape {
+pub struct SheetShape {
     pub lens: [usize; 4],
-}
-
-// What a call on a block of four axes answers.
-#[repr(C)]
-pub struct Answer {
-    pub number: u32,
-    pub place: usize,
-    pub lens: [usize; 4],
-    pub order: usize,
-    pub swaps: usize,
-}
-
-// What the plan for an order answers.
-#[repr(C)]
-pub struct Planned {
-    pub number: u32,
-    pub swaps: [usize; 6],
-    pub len: usize,
 }
 
 // What the sheet reader answers.
@@ -118,21 +102,12 @@ pub extern "C" fn zib_turn_halves(buf: &mut [u32], m: usize, n: usize) -> u32
 pub extern "C" fn zib_chain(
     buf: &mut [u32],
     scratch: &mut [u32],
-    shape: Shape,
+    shape: axes::Shape,
     swaps: &[usize],
-) -> Answer
-    ensures { λ r. ⌜ ChainPromise 4 (shape .lens) (now (swaps .entry)) (now (buf .entry)) (now (scratch .entry)) (answered r) (now (buf .exit)) (now (scratch .exit)) ⌝ }
+) -> axes::Answer
+    ensures { λ r. ⌜ ChainPromise 4 (take 4 (shape .lens)) (now (swaps .entry)) (now (buf .entry)) (now (scratch .entry)) r (now (buf .exit)) (now (scratch .exit)) ⌝ }
 {
-    let entry = shape.lens;
-    let a = axes::chain(buf, scratch, axes::Shape { lens: entry }, swaps);
-    let lens = a.lens;
-    Answer {
-        number: a.number,
-        place: a.place,
-        lens: lens,
-        order: a.order,
-        swaps: a.swaps,
-    }
+    axes::chain(buf, scratch, shape, swaps)
 }
 
 // The direct request for the order of four axes that a number names by its release.
@@ -140,36 +115,56 @@ pub extern "C" fn zib_chain(
 pub extern "C" fn zib_request(
     buf: &mut [u32],
     scratch: &mut [u32],
-    shape: Shape,
+    shape: axes::Shape,
     release: usize,
     order: usize,
-) -> Answer
-    ensures { λ r. ⌜ RequestPromise 4 (shape .lens) release order (now (buf .entry)) (now (scratch .entry)) (answered r) (now (buf .exit)) (now (scratch .exit)) ⌝ }
+) -> axes::Answer
+    ensures { λ r. ⌜ RequestPromise 4 (take 4 (shape .lens)) release order (now (buf .entry)) (now (scratch .entry)) r (now (buf .exit)) (now (scratch .exit)) ⌝ }
 {
-    let entry = shape.lens;
-    let a = axes::request(buf, scratch, axes::Shape { lens: entry }, release, order);
-    let lens = a.lens;
-    Answer {
-        number: a.number,
-        place: a.place,
-        lens: lens,
-        order: a.order,
-        swaps: a.swaps,
-    }
+    axes::request(buf, scratch, shape, release, order)
 }
 
-// The plan for an order.
+// The plan for an order of four axes.
 #[no_mangle]
-pub extern "C" fn zib_plan(order: usize) -> Planned
-    ensures { λ r. ⌜ PlanPromise 4 order (planned r) ⌝ }
+pub extern "C" fn zib_plan(order: usize) -> plans::Planned
+    ensures { λ r. ⌜ PlanPromise 4 order r ⌝ }
 {
-    let p = axes::plan(order);
-    let swaps = p.swaps;
-    Planned {
-        number: p.number,
-        swaps: swaps,
-        len: p.len,
-    }
+    plans::plan(order)
+}
+
+// A chain of swaps on a block of five axes.
+#[no_mangle]
+pub extern "C" fn zib_chain5(
+    buf: &mut [u32],
+    scratch: &mut [u32],
+    shape: axes::Shape,
+    swaps: &[usize],
+) -> axes::Answer
+    ensures { λ r. ⌜ ChainPromise 5 (take 5 (shape .lens)) (now (swaps .entry)) (now (buf .entry)) (now (scratch .entry)) r (now (buf .exit)) (now (scratch .exit)) ⌝ }
+{
+    axes::chain5(buf, scratch, shape, swaps)
+}
+
+// The direct request for the order of five axes that a number names by its release.
+#[no_mangle]
+pub extern "C" fn zib_request5(
+    buf: &mut [u32],
+    scratch: &mut [u32],
+    shape: axes::Shape,
+    release: usize,
+    order: usize,
+) -> axes::Answer
+    ensures { λ r. ⌜ RequestPromise 5 (take 5 (shape .lens)) release order (now (buf .entry)) (now (scratch .entry)) r (now (buf .exit)) (now (scratch .exit)) ⌝ }
+{
+    axes::request5(buf, scratch, shape, release, order)
+}
+
+// The plan for an order of five axes.
+#[no_mangle]
+pub extern "C" fn zib_plan5(order: usize) -> plans::Planned
+    ensures { λ r. ⌜ PlanPromise 5 order r ⌝ }
+{
+    plans::plan5(order)
 }
 
 // Reads a sheet into a word buffer.
@@ -192,7 +187,7 @@ pub extern "C" fn zib_read_sheet(bytes: &[u8], words: &mut [u32]) -> Sheet
 // Writes the result sheet of a block into a byte buffer.
 #[no_mangle]
 pub extern "C" fn zib_write_sheet(
-    shape: Shape,
+    shape: SheetShape,
     order: usize,
     words: &[u32],
     out: &mut [u8],
@@ -308,7 +303,7 @@ pub extern "C" fn zib_read_result(bytes: &[u8], words: &mut [u32]) -> ResultShee
 // Writes the result sheet of a block, with the release of its order number, into a byte buffer.
 #[no_mangle]
 pub extern "C" fn zib_write_release(
-    shape: Shape,
+    shape: SheetShape,
     release: usize,
     order: usize,
     words: &[u32],

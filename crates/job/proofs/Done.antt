@@ -21,6 +21,7 @@ use Rattle.refusals.specs.Conditions.{badLength}
 use Rattle.refusals.proofs.Scratch.{chain-few}
 use Rattle.axes.specs.declared.Answer.{Answer}
 use Rattle.axes.specs.Promises.{ChainPromise}
+use Rattle.axes.proofs.Five.{first-of-five}
 use Rattle.axes.proofs.Accepted.{ChainAccepted, chain-zero, block-after}
 use Rattle.text.specs.Sheet.{refusalText, resultText}
 use Rattle.text.specs.Meaning.{Outcome, meaning}
@@ -81,7 +82,7 @@ module _ {bytes words : List ℕ} {r : Sheet} {words₁ ws : List ℕ} (t : Take
 module _ {bytes words scratch out : List ℕ} {r : Sheet} {words₁ ws : List ℕ} {a : Answer} {words₂ scratch₂ : List ℕ} {w : Written} {out′ : List ℕ}
     (block : length words ≡ 1024) (room : length scratch ≡ 1024) (long : length out ≡ 16384)
     (t : Taken words bytes r words₁ ws) (p : RunOn (r .lens) (swapsOf r) words₁ scratch a words₂ scratch₂)
-    (q : WrittenAs (a .lens) (a .order) words₂ out w out′) where
+    {lengths : List ℕ} (front-is : lengths ≡ take 4 (a .lens)) (q : WrittenAs lengths (a .order) words₂ out w out′) where
   abbrev ds : List ℕ
   ds = r .lens
 
@@ -128,8 +129,11 @@ module _ {bytes words scratch out : List ℕ} {r : Sheet} {words₁ ws : List �
       ∙ length-append front (drop (volume ds) words)
       ∙ omega (arith, laid-out .same, t .right .block, length-drop (volume ds) words, t .right .few-words)
 
-  new-lengths : a .lens ≡ pick order ds
-  new-lengths = ap (λ (s : Answer). s .lens) (chain-on .given chain-runs)
+  new-lengths : lengths ≡ pick order ds
+  new-lengths =
+      front-is
+      ∙ ap (λ (s : Answer). take 4 (s .lens)) (chain-on .given chain-runs)
+      ∙ first-of-five (pick order ds) (length-pick order ds ∙ length-named 4 (swapsOf r))
 
   new-order : a .order ≡ numberOf 4 order
   new-order = ap (λ (s : Answer). s .order) (chain-on .given chain-runs)

@@ -11,7 +11,10 @@ fn run(words: &mut [u32], scratch: &mut [u32], lens: [usize; 4], swaps: &[usize]
     ensures { λ r. ⌜ RunOn lens (now (swaps .entry)) (now (words .entry)) (now (scratch .entry)) r (now (words .exit)) (now (scratch .exit)) ⌝ }
 {
     let size = checks::words_of(&lens);
-    axes::chain(&mut words[..size], scratch, axes::Shape { lens }, swaps)
+    let shape = axes::Shape {
+        lens: [lens[0], lens[1], lens[2], lens[3], 0],
+    };
+    axes::chain(&mut words[..size], scratch, shape, swaps)
 }
 
 // Reads the sheet into `words`, runs its chain through `scratch` and leaves the text of the outcome at the start of `out`;
@@ -34,6 +37,7 @@ pub fn job(
     let count = sheet.count;
     let answer = run(words, scratch, lens, &swaps[..count]);
     let turned = answer.lens;
-    let written = printer::write(turned, answer.order, words, out);
+    let front = [turned[0], turned[1], turned[2], turned[3]];
+    let written = printer::write(front, answer.order, words, out);
     written.count
 }

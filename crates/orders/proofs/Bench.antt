@@ -1,5 +1,5 @@
--- What documents 01 and 02 say of single orders and chains of four axes: numbers by their release, plans, orders that chains name, needs. Computed, each table
--- as one statement.
+-- What documents 01 and 02 say of single orders and chains of four axes: numbers by their release, plans, orders that chains name, needs; and of five axes the
+-- same kinds of cases. Computed, each table as one statement.
 use mathlib.Core.Path.{_≡_, refl}
 use mathlib.Core.List.{[], _∷_, map}
 use Rattle.lists.specs.Tab.{upto}
@@ -40,3 +40,15 @@ pub releases-4 : map (numberBy 4 2) (upto 24)
     ≡ 0 ∷ 1 ∷ 2 ∷ 4 ∷ 3 ∷ 5 ∷ 6 ∷ 7 ∷ 12 ∷ 18 ∷ 13 ∷ 19 ∷ 8 ∷ 10 ∷ 14 ∷ 20 ∷ 16 ∷ 22 ∷ 9 ∷ 11 ∷ 15 ∷ 21 ∷ 17 ∷ 23 ∷ []
 unfolding arrangements orders orderOf rank numberOf placeOf places
 releases-4 = refl
+
+-- of five axes the orders 0, 1, 6, 24, 33, 96 and 119: the first 24 are those of four, one up, behind axis 0
+pub numbers-5 : map (orderOf 5) (0 ∷ 1 ∷ 6 ∷ 24 ∷ 33 ∷ 96 ∷ 119 ∷ [])
+    ≡ (0 ∷ 1 ∷ 2 ∷ 3 ∷ 4 ∷ []) ∷ (0 ∷ 1 ∷ 2 ∷ 4 ∷ 3 ∷ []) ∷ (0 ∷ 2 ∷ 1 ∷ 3 ∷ 4 ∷ []) ∷ (1 ∷ 0 ∷ 2 ∷ 3 ∷ 4 ∷ []) ∷ (1 ∷ 2 ∷ 3 ∷ 4 ∷ 0 ∷ []) ∷ (4 ∷ 0 ∷ 1 ∷ 2 ∷ 3 ∷ []) ∷ (4 ∷ 3 ∷ 2 ∷ 1 ∷ 0 ∷ []) ∷ []
+unfolding orderOf orders arrangements
+numbers-5 = refl
+
+-- their plans: that of order 119 has ten swaps
+pub plans-5 : map (λ k. planOf (orderOf 5 k)) (0 ∷ 1 ∷ 6 ∷ 24 ∷ 33 ∷ 96 ∷ 119 ∷ [])
+    ≡ [] ∷ (3 ∷ []) ∷ (1 ∷ []) ∷ (0 ∷ []) ∷ (0 ∷ 1 ∷ 2 ∷ 3 ∷ []) ∷ (3 ∷ 2 ∷ 1 ∷ 0 ∷ []) ∷ (0 ∷ 1 ∷ 0 ∷ 2 ∷ 1 ∷ 0 ∷ 3 ∷ 2 ∷ 1 ∷ 0 ∷ []) ∷ []
+unfolding arrangements orders orderOf under falling relabelled firstBack planned planOf placeOf
+plans-5 = refl

@@ -248,6 +248,10 @@ module _ (r k : ℕ) (h : k < orderCount r) where
 pub at-most-six : (k : ℕ) → k < orderCount 4 → falling (orderOf 4 k) ≤ 6
 at-most-six k h = falling-places 4 k h
 
+-- and no order of five more than ten
+pub at-most-ten : (k : ℕ) → k < orderCount 5 → falling (orderOf 5 k) ≤ 10
+at-most-ten k h = falling-places 5 k h
+
 none-below : {n : ℕ} (l : List ℕ) → length l ≤ 0 → Below n l
 none-below [] h = empty
 none-below (a ∷ l) h = absurd (not-suc-le-zero h)

@@ -5,6 +5,7 @@ use mathlib.Core.Bool.{Bool}
 use mathlib.Core.List.{List, [], _∷_}
 use Prim.Native.Nat.{ℕ}
 use lib.Dec.{ltb}
+use lib.ListN.{take}
 use contract.Lifetimes.{Lfts}
 use denote.Triple.Clauses.{AtExit}
 use borrow.Fn.Kinds.{endedOf, Dens}
@@ -15,6 +16,7 @@ use Rattle.refusals.specs.FirstOf.{firstOf}
 use Rattle.refusals.specs.Conditions.{longest, firstPlace}
 use Rattle.refusals.specs.Calls.{sizeChecks, blockChecks, passesChecks, namedChecks}
 use Rattle.checks.specs.Words.{capped}
+use Rattle.axes.specs.Answers.{fiveLengths}
 use Rattle.checks.proofs.bad_length.Kinds as bad-length-kinds
 use Rattle.checks.proofs.bad_length.Reads as bad-length
 use Rattle.checks.proofs.words_of.Kinds as words-of-kinds
@@ -117,6 +119,6 @@ pub release-0-accepted : firstOf (namedChecks 4 0 9) ≡ 0 → ⊥
 release-0-accepted p = other-number p tt
 
 -- a shape that stays as it was
-pub swapped-moves-nothing : {lengths : List ℕ} → lengths ≡ exchange 0 (1 ∷ 2 ∷ 3 ∷ 4 ∷ []) → lengths ≡ 1 ∷ 2 ∷ 3 ∷ 4 ∷ [] → ⊥
+pub swapped-moves-nothing : {lengths : List ℕ} → lengths ≡ fiveLengths (exchange 0 (take 4 (1 ∷ 2 ∷ 3 ∷ 4 ∷ 5 ∷ []))) → lengths ≡ 1 ∷ 2 ∷ 3 ∷ 4 ∷ 0 ∷ [] → ⊥
 unfolding exchange
 swapped-moves-nothing p e = other-list (sym e ∙ p) tt

@@ -1,10 +1,12 @@
--- Demand 3 about the contract of a chain of swaps on four axes as the checker reads it from the source: calls that follow each other
--- through one buffer, each with its own scratch, any that is enough by its own need, or all through one. The theorems of crate axes over any number of axes, taken at four.
+-- Demand 3 about the contracts of the chains of swaps on four and on five axes as the checker reads them from the source: calls that follow each other
+-- through one buffer, each with its own scratch, any that is enough by its own need, or all through one. The theorems of crate axes, once over the number of
+-- axes; a call of either size is a call of r axes.
 use mathlib.Core.Path.{_≡_, refl}
 use mathlib.Core.Bool.{false}
 use mathlib.Core.List.{List, _++_, reverse}
 use Prim.Native.Nat.{ℕ, _≤_}
-use lib.ListN.{length}
+use native.Mathlib.Omega.{arith}
+use lib.ListN.{length, take}
 use contract.Lifetimes.{Lfts}
 use denote.Triple.Clauses.{AtExit}
 use borrow.Author.Needs.{needs}
@@ -16,75 +18,90 @@ use Rattle.axes.specs.declared.Answer.{Answer}
 use Rattle.axes.specs.Promises.{ChainPromise}
 use Rattle.axes.proofs.Demands as demands
 use Rattle.axes.proofs.Demands.{Joined, Alike, Restored}
-use Rattle.axes.proofs.chain.Kinds as kinds
-use Rattle.axes.proofs.chain.Reads as chain
+use Rattle.axes.proofs.chain.Kinds as four-kinds
+use Rattle.axes.proofs.chain.Reads as four
+use Rattle.axes.proofs.chain5.Kinds as five-kinds
+use Rattle.axes.proofs.chain5.Reads as five
+use Rattle.outcomes.proofs.Axes.{reads}
 
--- a call of `chain`: its arguments at entry, what the checker knows of them, its answer and the slices at exit
-pub record Call : Type 1 where
-  pub κs : Lfts 3
-  pub args : Dens κs kinds.ps
-  pub good : GoodsP κs kinds.ps args
+-- a call of a chain on r axes: the lengths that it reads, the rest of its entry, its answer and the slices at exit
+pub record Call (r : ℕ) : Type 0 where
+  pub lengths : List ℕ
+  pub swaps : List ℕ
+  pub words : List ℕ
+  pub scratch : List ℕ
   pub answer : Answer
-  pub exit : AtExit (endedOf 3 kinds.ps kinds.r) κs
-  pub post : chain.Post κs args answer exit
+  pub words-after : List ℕ
+  pub scratch-after : List ℕ
+  pub axes : length lengths ≡ r
+  pub post : ChainPromise r lengths swaps words scratch answer words-after scratch-after
 
-abbrev pub lengths : Call → List ℕ
-lengths c = c .args .1 .1 .0 .lens
+-- a call of `chain`
+pub of-chain : (κs : Lfts 3) (args : Dens κs four-kinds.ps) → GoodsP κs four-kinds.ps args → (answer : Answer) (exit : AtExit (endedOf 3 four-kinds.ps four-kinds.r) κs)
+    → four.Post κs args answer exit → Call 4
+of-chain κs args good answer exit post = record {
+  lengths = take 4 (args .1 .1 .0 .lens);
+  swaps = args .1 .1 .1 .0 .now;
+  words = args .0 .now;
+  scratch = args .1 .0 .now;
+  answer = answer;
+  words-after = exit .0 .now;
+  scratch-after = exit .1 .0 .now;
+  axes = reads (args .1 .1 .0 .lens) (search needs) (omega arith);
+  post = post;
+}
 
-abbrev pub swaps : Call → List ℕ
-swaps c = c .args .1 .1 .1 .0 .now
-
-abbrev pub words : Call → List ℕ
-words c = c .args .0 .now
-
-abbrev pub scratch : Call → List ℕ
-scratch c = c .args .1 .0 .now
-
-abbrev pub wordsAfter : Call → List ℕ
-wordsAfter c = c .exit .0 .now
-
-abbrev pub scratchAfter : Call → List ℕ
-scratchAfter c = c .exit .1 .0 .now
-
-four : (c : Call) → length (lengths c) ≡ 4
-four c = let g = c .good in search needs
+-- a call of `chain5`
+pub of-chain5 : (κs : Lfts 3) (args : Dens κs five-kinds.ps) → GoodsP κs five-kinds.ps args → (answer : Answer) (exit : AtExit (endedOf 3 five-kinds.ps five-kinds.r) κs)
+    → five.Post κs args answer exit → Call 5
+of-chain5 κs args good answer exit post = record {
+  lengths = take 5 (args .1 .1 .0 .lens);
+  swaps = args .1 .1 .1 .0 .now;
+  words = args .0 .now;
+  scratch = args .1 .0 .now;
+  answer = answer;
+  words-after = exit .0 .now;
+  scratch-after = exit .1 .0 .now;
+  axes = reads (args .1 .1 .0 .lens) (search needs) (omega arith);
+  post = post;
+}
 
 -- what the call promises, under other names of its entry
-promised : (c : Call) {ds chain xs ss : List ℕ} → lengths c ≡ ds → swaps c ≡ chain → words c ≡ xs → scratch c ≡ ss
-    → ChainPromise 4 ds chain xs ss (c .answer) (wordsAfter c) (scratchAfter c)
+promised : {r : ℕ} (c : Call r) {ds chain xs ss : List ℕ} → c .lengths ≡ ds → c .swaps ≡ chain → c .words ≡ xs → c .scratch ≡ ss
+    → ChainPromise r ds chain xs ss (c .answer) (c .words-after) (c .scratch-after)
 promised c e f g h = rw (← e, ← f, ← g, ← h) (c .post)
 
 -- running one chain, then the other on the shape that came back, leaves the words and shape of the joined chain in one call
-pub chains-join : (first second both : Call) → lengths second ≡ first .answer .lens → words second ≡ wordsAfter first → lengths both ≡ lengths first
-    → words both ≡ words first → swaps both ≡ swaps first ++ swaps second → first .answer .number ≡ 0 → badSwap 4 (swaps second) ≡ false
-    → length (swaps first ++ swaps second) ≤ 32 → chainNeed (first .answer .lens) (swaps second) ≤ length (scratch second)
-    → chainNeed (lengths first) (swaps first ++ swaps second) ≤ length (scratch both)
-    → Joined 4 (first .answer) (second .answer) (both .answer) (wordsAfter second) (wordsAfter both)
+pub chains-join : {r : ℕ} (first second both : Call r) → second .lengths ≡ take r (first .answer .lens) → second .words ≡ first .words-after → both .lengths ≡ first .lengths
+    → both .words ≡ first .words → both .swaps ≡ first .swaps ++ second .swaps → first .answer .number ≡ 0 → badSwap r (second .swaps) ≡ false
+    → length (first .swaps ++ second .swaps) ≤ 32 → chainNeed (take r (first .answer .lens)) (second .swaps) ≤ length (second .scratch)
+    → chainNeed (first .lengths) (first .swaps ++ second .swaps) ≤ length (both .scratch)
+    → Joined r (first .answer) (second .answer) (both .answer) (second .words-after) (both .words-after)
 chains-join first second both e f g h i z good few room₂ room₃ =
-    demands.chains-join (four first) (first .post) (promised second e refl f refl) (promised both g i h refl) z good few room₂ room₃
+    demands.chains-join (first .axes) (first .post) (promised second e refl f refl) (promised both g i h refl) z good few room₂ room₃
 
 -- and where all three are lent one scratch, as long as the joined chain needs, they leave that the same too
-pub chains-join-scratch : (first second both : Call) → lengths second ≡ first .answer .lens → words second ≡ wordsAfter first
-    → scratch second ≡ scratchAfter first → lengths both ≡ lengths first → words both ≡ words first → scratch both ≡ scratch first
-    → swaps both ≡ swaps first ++ swaps second → first .answer .number ≡ 0 → badSwap 4 (swaps second) ≡ false
-    → length (swaps first ++ swaps second) ≤ 32 → chainNeed (lengths first) (swaps first ++ swaps second) ≤ length (scratch first)
-    → Joined 4 (first .answer) (second .answer) (both .answer) (wordsAfter second) (wordsAfter both) × (scratchAfter both ≡ scratchAfter second)
+pub chains-join-scratch : {r : ℕ} (first second both : Call r) → second .lengths ≡ take r (first .answer .lens) → second .words ≡ first .words-after
+    → second .scratch ≡ first .scratch-after → both .lengths ≡ first .lengths → both .words ≡ first .words → both .scratch ≡ first .scratch
+    → both .swaps ≡ first .swaps ++ second .swaps → first .answer .number ≡ 0 → badSwap r (second .swaps) ≡ false
+    → length (first .swaps ++ second .swaps) ≤ 32 → chainNeed (first .lengths) (first .swaps ++ second .swaps) ≤ length (first .scratch)
+    → Joined r (first .answer) (second .answer) (both .answer) (second .words-after) (both .words-after) × (both .scratch-after ≡ second .scratch-after)
 chains-join-scratch first second both e f s g h u i z good few room =
-    demands.chains-join-scratch (four first) (first .post) (promised second e refl f s) (promised both g i h u) z good few room
+    demands.chains-join-scratch (first .axes) (first .post) (promised second e refl f s) (promised both g i h u) z good few room
 
 -- chains that name the same order leave the same words
-pub one-order : (one other : Call) → lengths other ≡ lengths one → words other ≡ words one → one .answer .number ≡ 0 → other .answer .number ≡ 0
-    → named 4 (swaps one) ≡ named 4 (swaps other) → Alike (one .answer) (other .answer) (wordsAfter one) (wordsAfter other)
-one-order one other e f z y same = demands.one-order (four one) (one .post) (promised other e refl f refl) z y same
+pub one-order : {r : ℕ} (one other : Call r) → other .lengths ≡ one .lengths → other .words ≡ one .words → one .answer .number ≡ 0 → other .answer .number ≡ 0
+    → named r (one .swaps) ≡ named r (other .swaps) → Alike (one .answer) (other .answer) (one .words-after) (other .words-after)
+one-order one other e f z y same = demands.one-order (one .axes) (one .post) (promised other e refl f refl) z y same
 
 -- a chain run backwards on the returned shape restores every word
-pub backwards : (there back : Call) → lengths back ≡ there .answer .lens → words back ≡ wordsAfter there → swaps back ≡ reverse (swaps there)
-    → there .answer .number ≡ 0 → chainNeed (lengths there) (swaps there) ≤ length (scratch back)
-    → Restored (lengths there) (words there) (back .answer) (wordsAfter back)
-backwards there back e f g z room = demands.backwards (four there) (there .post) (promised back e g f refl) z room
+pub backwards : {r : ℕ} (there back : Call r) → back .lengths ≡ take r (there .answer .lens) → back .words ≡ there .words-after → back .swaps ≡ reverse (there .swaps)
+    → there .answer .number ≡ 0 → chainNeed (there .lengths) (there .swaps) ≤ length (back .scratch)
+    → Restored (there .lengths) (there .words) (back .answer) (back .words-after)
+backwards there back e f g z room = demands.backwards (there .axes) (there .post) (promised back e g f refl) z room
 
 -- and through the scratch that the chain left, which is enough, it leaves that as it is
-pub backwards-scratch : (there back : Call) → lengths back ≡ there .answer .lens → words back ≡ wordsAfter there → scratch back ≡ scratchAfter there
-    → swaps back ≡ reverse (swaps there) → there .answer .number ≡ 0
-    → Restored (lengths there) (words there) (back .answer) (wordsAfter back) × (scratchAfter back ≡ scratchAfter there)
-backwards-scratch there back e f s g z = demands.backwards-scratch (four there) (there .post) (promised back e g f s) z
+pub backwards-scratch : {r : ℕ} (there back : Call r) → back .lengths ≡ take r (there .answer .lens) → back .words ≡ there .words-after → back .scratch ≡ there .scratch-after
+    → back .swaps ≡ reverse (there .swaps) → there .answer .number ≡ 0
+    → Restored (there .lengths) (there .words) (back .answer) (back .words-after) × (back .scratch-after ≡ there .scratch-after)
+backwards-scratch there back e f s g z = demands.backwards-scratch (there .axes) (there .post) (promised back e g f s) z

@@ -2,19 +2,18 @@
 -- those of the call below do.
 use mathlib.Core.Path.{_≡_, ap}
 use Prim.Native.Nat.{ℕ}
+use native.Mathlib.Omega.{arith}
 use contract.Lifetimes.{Lfts}
 use denote.Triple.Clauses.{AtExit}
 use borrow.Fn.Kinds.{endedOf, Dens, GoodsP}
 use borrow.Author.Needs.{needs}
-use Rattle.axes.specs.declared.Answer.{Answer as Below-Answer}
-use Rattle.axes.specs.declared.Planned.{Planned as Below-Planned}
+use Rattle.axes.specs.declared.Answer.{Answer}
+use Rattle.plans.specs.declared.Planned.{Planned}
 use Rattle.sheet.specs.declared.Sheet.{Sheet as Below-Sheet}
 use Rattle.printer.specs.declared.Written.{Written as Below-Written}
 use Rattle.home.specs.declared.Home.{Home as Below-Home}
 use Rattle.passes.specs.declared.LineCount.{LineCount as Below-Lines}
 use Rattle.sheet.specs.declared.ResultSheet.{ResultSheet as Below-ResultSheet}
-use Rattle.exports.specs.declared.Answer.{Answer}
-use Rattle.exports.specs.declared.Planned.{Planned}
 use Rattle.exports.specs.declared.Sheet.{Sheet}
 use Rattle.exports.specs.declared.Written.{Written}
 use Rattle.exports.specs.declared.Home.{Home}
@@ -22,6 +21,7 @@ use Rattle.exports.specs.declared.Lines.{Lines}
 use Rattle.exports.specs.declared.ResultSheet.{ResultSheet}
 use Rattle.passes.proofs.OneOutcome as passes
 use Rattle.halves.proofs.OneOutcome as halves
+use Rattle.plans.proofs.OneOutcome as plans-outcome
 use Rattle.axes.proofs.OneOutcome as axes-outcome
 use Rattle.sheet.proofs.OneOutcome as sheets
 use Rattle.printer.proofs.OneOutcome as prints
@@ -30,6 +30,7 @@ use Rattle.home.proofs.OneOutcome as homes
 use Rattle.passes.proofs.OneTick as ticks
 use Rattle.cameras.proofs.OneOutcome as cameras
 use Rattle.tiles.proofs.OneOutcome as tiles
+use Rattle.outcomes.proofs.Axes.{reads}
 use Rattle.exports.proofs.zib_turn.Kinds as turn-kinds
 use Rattle.exports.proofs.zib_turn.Reads as turn
 use Rattle.exports.proofs.zib_turn_back.Kinds as turn-back-kinds
@@ -38,10 +39,16 @@ use Rattle.exports.proofs.zib_turn_halves.Kinds as turn-halves-kinds
 use Rattle.exports.proofs.zib_turn_halves.Reads as turn-halves
 use Rattle.exports.proofs.zib_chain.Kinds as chain-kinds
 use Rattle.exports.proofs.zib_chain.Reads as chain
+use Rattle.exports.proofs.zib_chain5.Kinds as chain5-kinds
+use Rattle.exports.proofs.zib_chain5.Reads as chain5
 use Rattle.exports.proofs.zib_request.Kinds as request-kinds
 use Rattle.exports.proofs.zib_request.Reads as request
+use Rattle.exports.proofs.zib_request5.Kinds as request5-kinds
+use Rattle.exports.proofs.zib_request5.Reads as request5
 use Rattle.exports.proofs.zib_plan.Kinds as plan-kinds
 use Rattle.exports.proofs.zib_plan.Reads as plan
+use Rattle.exports.proofs.zib_plan5.Kinds as plan5-kinds
+use Rattle.exports.proofs.zib_plan5.Reads as plan5
 use Rattle.exports.proofs.zib_read_sheet.Kinds as read-sheet-kinds
 use Rattle.exports.proofs.zib_read_sheet.Reads as read-sheet
 use Rattle.exports.proofs.zib_write_sheet.Kinds as write-sheet-kinds
@@ -66,12 +73,6 @@ use Rattle.exports.proofs.zib_write_release.Kinds as write-release-kinds
 use Rattle.exports.proofs.zib_write_release.Reads as write-release
 
 -- a record of the interface from that of the call below, field by field
-abbrev as-answer : Below-Answer → Answer
-as-answer r = record { number = r .number; place = r .place; lens = r .lens; order = r .order; swaps = r .swaps }
-
-abbrev as-plan : Below-Planned → Planned
-as-plan r = record { number = r .number; swaps = r .swaps; len = r .len }
-
 abbrev as-sheet : Below-Sheet → Sheet
 as-sheet r = record { number = r .number; place = r .place; lens = r .lens; swaps = r .swaps; count = r .count }
 
@@ -101,15 +102,27 @@ turn-halves-once κs a r r′ s s′ p q = halves.turn-once p q
 
 pub chain-once : (κs : Lfts 3) (a : Dens κs chain-kinds.ps) (r r′ : Answer) (s s′ : AtExit (endedOf 3 chain-kinds.ps chain-kinds.r) κs)
     → GoodsP κs chain-kinds.ps a → chain.Post κs a r s → chain.Post κs a r′ s′ → (r ≡ r′) × (s .0 .now ≡ s′ .0 .now) × (s .1 .0 .now ≡ s′ .1 .0 .now)
-chain-once κs a r r′ s s′ g p q = let e = axes-outcome.chain-once (search needs) p q in (ap as-answer (e .0), e .1, e .2)
+chain-once κs a r r′ s s′ g p q = axes-outcome.chain-once (reads (a .1 .1 .0 .lens) (search needs) (omega arith)) p q
 
 pub request-once : (κs : Lfts 2) (a : Dens κs request-kinds.ps) (r r′ : Answer) (s s′ : AtExit (endedOf 2 request-kinds.ps request-kinds.r) κs)
     → GoodsP κs request-kinds.ps a → request.Post κs a r s → request.Post κs a r′ s′ → (r ≡ r′) × (s .0 .now ≡ s′ .0 .now) × (s .1 .0 .now ≡ s′ .1 .0 .now)
-request-once κs a r r′ s s′ g p q = let e = axes-outcome.request-once (search needs) p q in (ap as-answer (e .0), e .1, e .2)
+request-once κs a r r′ s s′ g p q = axes-outcome.request-once (reads (a .1 .1 .0 .lens) (search needs) (omega arith)) p q
 
 pub plan-once : (κs : Lfts 0) (a : Dens κs plan-kinds.ps) (r r′ : Planned) (s s′ : AtExit (endedOf 0 plan-kinds.ps plan-kinds.r) κs)
     → plan.Post κs a r s → plan.Post κs a r′ s′ → r ≡ r′
-plan-once κs a r r′ s s′ p q = ap as-plan (axes-outcome.plan-once p q)
+plan-once κs a r r′ s s′ p q = plans-outcome.plan-once p q
+
+pub chain5-once : (κs : Lfts 3) (a : Dens κs chain5-kinds.ps) (r r′ : Answer) (s s′ : AtExit (endedOf 3 chain5-kinds.ps chain5-kinds.r) κs)
+    → GoodsP κs chain5-kinds.ps a → chain5.Post κs a r s → chain5.Post κs a r′ s′ → (r ≡ r′) × (s .0 .now ≡ s′ .0 .now) × (s .1 .0 .now ≡ s′ .1 .0 .now)
+chain5-once κs a r r′ s s′ g p q = axes-outcome.chain-once (reads (a .1 .1 .0 .lens) (search needs) (omega arith)) p q
+
+pub request5-once : (κs : Lfts 2) (a : Dens κs request5-kinds.ps) (r r′ : Answer) (s s′ : AtExit (endedOf 2 request5-kinds.ps request5-kinds.r) κs)
+    → GoodsP κs request5-kinds.ps a → request5.Post κs a r s → request5.Post κs a r′ s′ → (r ≡ r′) × (s .0 .now ≡ s′ .0 .now) × (s .1 .0 .now ≡ s′ .1 .0 .now)
+request5-once κs a r r′ s s′ g p q = axes-outcome.request-once (reads (a .1 .1 .0 .lens) (search needs) (omega arith)) p q
+
+pub plan5-once : (κs : Lfts 0) (a : Dens κs plan5-kinds.ps) (r r′ : Planned) (s s′ : AtExit (endedOf 0 plan5-kinds.ps plan5-kinds.r) κs)
+    → plan5.Post κs a r s → plan5.Post κs a r′ s′ → r ≡ r′
+plan5-once κs a r r′ s s′ p q = plans-outcome.plan-once p q
 
 pub read-sheet-once : (κs : Lfts 2) (a : Dens κs read-sheet-kinds.ps) (r r′ : Sheet) (s s′ : AtExit (endedOf 2 read-sheet-kinds.ps read-sheet-kinds.r) κs)
     → read-sheet.Post κs a r s → read-sheet.Post κs a r′ s′ → (r ≡ r′) × (s .1 .0 .now ≡ s′ .1 .0 .now)

@@ -7,9 +7,9 @@ pub mod Exports
 pub mod Checks
 -- demand 2: passes and recursion leave the same words
 pub mod Methods
--- demand 3 about the contract of the chain as the checker reads it
+-- demand 3 about the contracts of the chains, on four and on five axes, as the checker reads them
 pub mod Demand3
--- both releases about the contract of the direct request as the checker reads it
+-- both releases about the contracts of the direct requests as the checker reads them
 pub mod Releases
 -- result sheets come back: what is written reads back the same, and what is read is what would be written
 pub mod ResultSheets
@@ -25,6 +25,8 @@ pub mod RefutedChunks
 pub mod RefutedChain
 pub mod RefutedRequest
 pub mod RefutedPlan
+-- five axes, and a fifth length lent to the calls on four
+pub mod RefutedFive
 pub mod RefutedRead
 pub mod RefutedResult
 pub mod RefutedWrite

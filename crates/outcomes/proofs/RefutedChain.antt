@@ -76,7 +76,7 @@ pub words-of-the-inverse : {a : Answer} → Ninth a block → ⊥
 unfolding named follow exchange at pick volume exchanged chainNeed
 words-of-the-inverse p = misplaced (p .block .words (nine p)) (0 ∷ 1 ∷ 0 ∷ 0 ∷ []) tt tt
 
-pub lengths-of-the-inverse : {a : Answer} {b : List ℕ} → Ninth a b → a .lens ≡ 1 ∷ 2 ∷ 3 ∷ 1 ∷ [] → ⊥
+pub lengths-of-the-inverse : {a : Answer} {b : List ℕ} → Ninth a b → a .lens ≡ 1 ∷ 2 ∷ 3 ∷ 1 ∷ 0 ∷ [] → ⊥
 unfolding named follow exchange pick
 lengths-of-the-inverse p e = other-list (sym e ∙ ap (λ (r : Answer). r .lens) (p .given (nine p))) tt
 
@@ -143,7 +143,7 @@ place-of-the-last-bad-swap {a} p e =
 pub refusal-touches-a-word : {a : Answer} → Refused a (1 ∷ 1 ∷ 2 ∷ 3 ∷ 4 ∷ 5 ∷ []) → ⊥
 refusal-touches-a-word p = other-list (p .block .kept (λ y. omega (arith, six p)) .0) tt
 
-pub refusal-answers-lengths : {a : Answer} {b : List ℕ} → Refused a b → a .lens ≡ lengths → ⊥
+pub refusal-answers-lengths : {a : Answer} {b : List ℕ} → Refused a b → a .lens ≡ 1 ∷ 1 ∷ 2 ∷ 3 ∷ 0 ∷ [] → ⊥
 refusal-answers-lengths p e = other-list (sym e ∙ ap (λ (r : Answer). r .lens) (p .refusal (λ y. omega (arith, six p)))) tt
 
 -- the order of checks: of two conditions that hold the later is answered

@@ -10,8 +10,8 @@ use Rattle.orders.specs.Numbers.{arrangements, orders, orderOf, orderCount}
 use Rattle.orders.specs.Plans.{under, falling, relabelled, firstBack, planned, planOf}
 use Rattle.refusals.specs.FirstOf.{firstOf}
 use Rattle.refusals.specs.Calls.{planChecks}
-use Rattle.axes.specs.declared.Planned.{Planned}
-use Rattle.axes.specs.Promises.{PlanPromise}
+use Rattle.plans.specs.declared.Planned.{Planned}
+use Rattle.plans.specs.Promise.{PlanPromise}
 use Rattle.outcomes.proofs.Wrong.{other-number, other-list}
 
 -- one that refuses always: wherever no condition holds
@@ -25,11 +25,11 @@ fixed-answer p q = other-number (sym (p .number-is) ∙ q .number-is) tt
 
 -- order 16 by another shortest chain that comes later in dictionary order; of the inverse order, 18 for 9; by a chain that is not the
 -- shortest; by the rising pairs
-pub later-chain : {p : Planned} → PlanPromise 4 16 p → p .swaps ≡ 1 ∷ 2 ∷ 0 ∷ 1 ∷ 0 ∷ 0 ∷ [] → ⊥
+pub later-chain : {p : Planned} → PlanPromise 4 16 p → p .swaps ≡ 1 ∷ 2 ∷ 0 ∷ 1 ∷ 0 ∷ 0 ∷ 0 ∷ 0 ∷ 0 ∷ 0 ∷ [] → ⊥
 unfolding arrangements orders orderOf under falling relabelled firstBack planned planOf placeOf
 later-chain q e = other-list (sym e ∙ ap (λ (p : Planned). p .swaps) (q .given (q .number-is))) tt
 
-pub plan-of-the-inverse : {p : Planned} → PlanPromise 4 9 p → p .swaps ≡ 2 ∷ 1 ∷ 0 ∷ 0 ∷ 0 ∷ 0 ∷ [] → ⊥
+pub plan-of-the-inverse : {p : Planned} → PlanPromise 4 9 p → p .swaps ≡ 2 ∷ 1 ∷ 0 ∷ 0 ∷ 0 ∷ 0 ∷ 0 ∷ 0 ∷ 0 ∷ 0 ∷ [] → ⊥
 unfolding arrangements orders orderOf under falling relabelled firstBack planned planOf placeOf
 plan-of-the-inverse q e = other-list (sym e ∙ ap (λ (p : Planned). p .swaps) (q .given (q .number-is))) tt
 
@@ -50,7 +50,7 @@ pub longest-plan-refused : {p : Planned} → PlanPromise 4 23 p → p .number �
 longest-plan-refused q e = other-number (sym e ∙ q .number-is) tt
 
 -- an unused place that is not 0; order 23 accepted, order 24 refused, and a refusal with a length
-pub unused-place-filled : {p : Planned} → PlanPromise 4 9 p → p .swaps ≡ 0 ∷ 1 ∷ 2 ∷ 3 ∷ 0 ∷ 0 ∷ [] → ⊥
+pub unused-place-filled : {p : Planned} → PlanPromise 4 9 p → p .swaps ≡ 0 ∷ 1 ∷ 2 ∷ 3 ∷ 0 ∷ 0 ∷ 0 ∷ 0 ∷ 0 ∷ 0 ∷ [] → ⊥
 unfolding arrangements orders orderOf under falling relabelled firstBack planned planOf placeOf
 unused-place-filled q e = other-list (sym e ∙ ap (λ (p : Planned). p .swaps) (q .given (q .number-is))) tt
 

@@ -32,7 +32,7 @@ pub words-of-release-1 : {a : Answer} {s : List ℕ} → Leaves a block s → �
 unfolding arrangements orders orderOf at pick volume placeOf places
 words-of-release-1 p = misplaced (p .block .words (accepts p)) (0 ∷ 1 ∷ 0 ∷ 0 ∷ []) tt tt
 
-pub lengths-of-release-1 : {a : Answer} {b s : List ℕ} → Leaves a b s → a .lens ≡ 1 ∷ 2 ∷ 3 ∷ 1 ∷ [] → ⊥
+pub lengths-of-release-1 : {a : Answer} {b s : List ℕ} → Leaves a b s → a .lens ≡ 1 ∷ 2 ∷ 3 ∷ 1 ∷ 0 ∷ [] → ⊥
 unfolding arrangements orders orderOf pick placeOf places
 lengths-of-release-1 p e = other-list (sym e ∙ ap (λ (r : Answer). r .lens) (p .given (accepts p))) tt
 
@@ -46,7 +46,7 @@ unfolding exchange exchanged chainNeed arrangements orders orderOf under falling
 scratch-too-far p = other-list (p .block .zeroed (accepts p)) tt
 
 -- release 1 read as release 2: number 18 names order 18
-pub release-1-turned : {a : Answer} {b s : List ℕ} → RequestPromise 4 lengths 1 18 block scratch a b s → a .lens ≡ 3 ∷ 1 ∷ 1 ∷ 2 ∷ [] → ⊥
+pub release-1-turned : {a : Answer} {b s : List ℕ} → RequestPromise 4 lengths 1 18 block scratch a b s → a .lens ≡ 3 ∷ 1 ∷ 1 ∷ 2 ∷ 0 ∷ [] → ⊥
 unfolding volume exchange exchanged chainNeed arrangements orders orderOf under falling relabelled firstBack planned planOf placeOf pick
 release-1-turned p e = other-list (sym e ∙ ap (λ (r : Answer). r .lens) (p .given (p .block .number-is))) tt
 

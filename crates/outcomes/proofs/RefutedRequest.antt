@@ -48,7 +48,7 @@ pub words-of-the-inverse : {a : Answer} {s : List ℕ} → Leaves a block s → 
 unfolding arrangements orders orderOf at pick volume
 words-of-the-inverse p = misplaced (p .block .words (accepts p)) (0 ∷ 1 ∷ 0 ∷ 0 ∷ []) tt tt
 
-pub lengths-of-the-inverse : {a : Answer} {b s : List ℕ} → Leaves a b s → a .lens ≡ 1 ∷ 2 ∷ 3 ∷ 1 ∷ [] → ⊥
+pub lengths-of-the-inverse : {a : Answer} {b s : List ℕ} → Leaves a b s → a .lens ≡ 1 ∷ 2 ∷ 3 ∷ 1 ∷ 0 ∷ [] → ⊥
 unfolding arrangements orders orderOf pick
 lengths-of-the-inverse p e = other-list (sym e ∙ ap (λ (r : Answer). r .lens) (p .given (accepts p))) tt
 

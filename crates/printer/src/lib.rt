@@ -89,7 +89,7 @@ pub fn write_release(
     if number != 0 {
         return nothing_written(number);
     }
-    let unnamed = checks::named_number(release, order);
+    let unnamed = checks::named_number(23, release, order);
     if unnamed != 0 {
         return nothing_written(unnamed);
     }

@@ -116,9 +116,9 @@ fn order_number(numbers: [usize; 32], count: usize) -> u32
     ensures { λ r. ⌜ r ≡ lineNumber count numbers ⌝ }
 {
     if 1 < count {
-        return checks::named_number(numbers[0], numbers[1]);
+        return checks::named_number(23, numbers[0], numbers[1]);
     }
-    checks::named_number(1, numbers[0])
+    checks::named_number(23, 1, numbers[0])
 }
 
 // Line 2 of a result sheet, at `at`: a release, where one is named, and an order number.

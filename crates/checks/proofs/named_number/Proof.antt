@@ -19,13 +19,13 @@ returns-2 : tie.Need-returns-2
 returns-2 c =
     let x : tie.Start = search in
     let good : noRelease (x .args .release) ≡ false = search via in
-    rw (good, lt-ltb 23 (x .args .order) (c .if2 .taken))
+    rw (good, lt-ltb (x .args .last) (x .args .order) (c .if2 .taken))
 
 returns-3 : tie.Need-returns-3
 returns-3 c =
     let x : tie.Start = search in
     let good : noRelease (x .args .release) ≡ false = search via in
-    rw (good, le-ltb 23 (x .args .order) (omega arith))
+    rw (good, le-ltb (x .args .last) (x .args .order) (omega arith))
 
 pub named-number-spec : {M : Type 1} → statement M
 named-number-spec = tie.close (tie.spec (search needs) returns returns-2 returns-3)

@@ -1,7 +1,9 @@
 -- `job` meets its contract: what the reader answers says which outcome it is, and each outcome has its law.
-use mathlib.Core.Path.{sym}
+use mathlib.Core.Path.{_≡_, sym}
 use native.Mathlib.Omega.{arith}
+use lib.ListN.{length}
 use borrow.Author.Needs.{needs}
+use Rattle.job.proofs.Parts.{first-four}
 use Rattle.job.proofs.Readings.{turned-away, taken}
 use Rattle.job.proofs.Done.{run-asks, met-refused, met-accepted}
 use Rattle.job.proofs.job.Statement.{statement}
@@ -26,12 +28,17 @@ slice-aggregate-run c = let r : tie.After-read = search in sym (taken (r .read .
 run-requires : tie.Need-run-requires
 run-requires c κs = let r : tie.After-read = search in run-asks (taken (r .read .ensures) (search) .1)
 
+five : (a : tie.After-run) → length (a .run .result .lens) ≡ 5
+five a = search needs
+
 returns-2 : tie.Need-returns-2
 returns-2 c =
     let a : tie.After-run = search in
     let e : tie.Else1 = search in
     let r : tie.After-read = search in
-    met-accepted (omega arith) (omega arith) (omega arith) (taken (r .read .ensures) (e .if1 .left) .1) (a .run .ensures) (c .write .ensures)
+    met-accepted (omega arith) (omega arith) (omega arith) (taken (r .read .ensures) (e .if1 .left) .1) (a .run .ensures)
+    (first-four (a .run .result .lens) (omega (arith, five a)))
+    (c .write .ensures)
 
 pub job-spec : {M : Type 1} → statement M
 job-spec =
@@ -44,5 +51,9 @@ job-spec =
     array-share-prefix-swaps
     slice-aggregate-run
     run-requires
+    (search needs)
+    (search needs)
+    (search needs)
+    (search needs)
     (search needs)
     returns-2)

@@ -22,6 +22,9 @@ module _ (x : tie.Start) where
   abbrev lens : List ℕ
   lens = x .args .lens .now
 
+  abbrev r : ℕ
+  r = length lens
+
   abbrev swaps : List ℕ
   swaps = x .args .swaps .now
 
@@ -30,29 +33,35 @@ module _ (x : tie.Start) where
 
   -- the checks that are made last
   abbrev last : List Check
-  last = check 5 (longChain swaps) ∷ check 6 (badSwap 4 swaps) ∷ check 4 (shortScratch (chainNeed lens swaps) scratch) ∷ []
+  last = check 5 (longChain swaps) ∷ check 6 (badSwap r swaps) ∷ check 4 (shortScratch (chainNeed lens swaps) scratch) ∷ []
 
   -- where those of the block find nothing they decide
   module _ (z : firstOf (blockChecks lens (x .args .buf .now)) ≡ 0) where
-    decided : firstOf (chainChecks 4 lens (x .args .buf .now) scratch swaps) ≡ firstOf last
+    decided : firstOf (chainChecks r lens (x .args .buf .now) scratch swaps) ≡ firstOf last
     decided = by-last lens (x .args .buf .now) last refl z
 
-    long : 32 < length swaps → 5 ≡ firstOf (chainChecks 4 lens (x .args .buf .now) scratch swaps)
+    long : 32 < length swaps → 5 ≡ firstOf (chainChecks r lens (x .args .buf .now) scratch swaps)
     long h = sym (decided ∙ rw (lt-ltb 32 (length swaps) h))
 
-    bad : length swaps ≤ 32 → firstPlace (noSwap 4) swaps < length swaps → 6 ≡ firstOf (chainChecks 4 lens (x .args .buf .now) scratch swaps)
-    bad h i = sym (decided ∙ rw (le-ltb 32 (length swaps) h, found-place (noSwap 4) swaps i))
+    bad : length swaps ≤ 32 → firstPlace (noSwap r) swaps < length swaps → 6 ≡ firstOf (chainChecks r lens (x .args .buf .now) scratch swaps)
+    bad h i = sym (decided ∙ rw (le-ltb 32 (length swaps) h, found-place (noSwap r) swaps i))
 
     -- and of these the last
-    room : length swaps ≤ 32 → length swaps ≤ firstPlace (noSwap 4) swaps
-        → firstOf (chainChecks 4 lens (x .args .buf .now) scratch swaps) ≡ cond (shortScratch (chainNeed lens swaps) scratch) 4 0
-    room h i = decided ∙ rw (le-ltb 32 (length swaps) h, no-place (noSwap 4) swaps i)
+    room : length swaps ≤ 32 → length swaps ≤ firstPlace (noSwap r) swaps
+        → firstOf (chainChecks r lens (x .args .buf .now) scratch swaps) ≡ cond (shortScratch (chainNeed lens swaps) scratch) 4 0
+    room h i = decided ∙ rw (le-ltb 32 (length swaps) h, no-place (noSwap r) swaps i)
 
 returns : tie.Need-returns
 returns c =
     let n : tie.After-block-number = search in
     let x : tie.Start = search in
     by-block (lens x) (x .args .buf .now) (last x) (n .block-number .ensures) (search)
+
+bad-swap : tie.Need-returns-3
+bad-swap c =
+    let f : tie.After-first-above = search in
+    let x : tie.Start = search in
+    bad x (search via) (omega arith) (omega (arith, f .first-above .ensures))
 
 returns-4 : tie.Need-returns-4
 returns-4 c =
@@ -72,7 +81,8 @@ chain-number-spec =
     returns
     (λ c. long (search) (search via) (omega arith))
     (search needs)
-    (λ c. bad (search) (search via) (omega arith) (omega arith))
+    (search needs)
+    bad-swap
     (search needs)
     returns-4
     returns-5)

@@ -1,23 +1,23 @@
 -- `axes::chains::run` meets its promise. The loop's invariant: i swaps of the chain are made.
-use mathlib.Core.Path.{_≡_, refl, ap, _∙_}
-use Prim.Native.Nat.{ℕ, _<_, _≤_, _-_}
+use mathlib.Core.Path.{_≡_, refl, sym, ap, _∙_}
+use Prim.Native.Nat.{ℕ, _+_, _<_, _≤_, _-_}
 use native.Mathlib.Nat.{le-refl}
 use native.Mathlib.Omega.{arith}
-use lib.ListN.{length, getD}
+use lib.ListN.{length, getD, take}
+use lib.Seq.{length-take-le}
 use borrow.Author.Needs.{needs}
-use Rattle.orders.proofs.Numbers.{number-below}
 use Rattle.refusals.proofs.Scratch.{cleared-length}
 use Rattle.axes.proofs.Accepted.{ChainAccepted, accepts-chain, good-swap}
-use Rattle.axes.proofs.Progress.{Progress, begin, still-accepted, still-room, one-swap, finished}
+use Rattle.axes.proofs.Progress.{Progress, begin, as-many, enough-lengths, still-accepted, still-room, one-swap, finished}
 use Rattle.axes.proofs.chains.run.Statement.{statement}
 use Rattle.axes.proofs.chains.run.Tie as tie
 
 abbrev Inv-loop : tie.InvT-loop
-Inv-loop buf₀ scratch₀ swaps stands₀ order₀ i₀ i-end buf scratch stands order i =
-    (i-end ≡ length swaps) × (i ≤ length swaps) × Progress 4 (stands₀ .lens) swaps buf₀ scratch₀ i buf scratch (stands .lens) order
+Inv-loop buf₀ scratch₀ axes swaps stands₀ order₀ i₀ i-end buf scratch stands order i =
+    (i-end ≡ length swaps) × (i ≤ length swaps) × Progress axes (take axes (stands₀ .lens)) swaps buf₀ scratch₀ i buf scratch (stands .lens) order
 
 abbrev μ-loop : tie.MeasureT-loop
-μ-loop buf₀ scratch₀ swaps stands₀ order₀ i₀ i-end buf scratch stands order i = length swaps - i
+μ-loop buf₀ scratch₀ axes swaps stands₀ order₀ i₀ i-end buf scratch stands order i = length swaps - i
 
 -- the places that the answers look back to
 abbrev Start : Type 0
@@ -27,44 +27,42 @@ abbrev Loop : Type 0
 Loop = tie.At-loop Inv-loop μ-loop
 
 module _ (x : Start) where
-  axes : length (x .args .shape .lens) ≡ 4
-  axes = search needs
+  five : length (x .args .shape .lens) ≡ 5
+  five = search needs
 
-  accepts : ChainAccepted 4 (x .args .shape .lens) (x .args .buf .now) (x .args .scratch .now) (x .args .swaps .now)
-  accepts = accepts-chain 4 _ _ _ _ (x .pre)
+  axes : length (take (x .args .axes) (x .args .shape .lens)) ≡ x .args .axes
+  axes = length-take-le (x .args .axes) (x .args .shape .lens) (omega (arith, five, x .pre .0 .1))
 
-  good : (i : ℕ) → i < length (x .args .swaps .now) → getD (x .args .swaps .now) i 0 < 3
-  good i h = omega (arith, good-swap 4 (x .args .swaps .now) (accepts .swaps) i h)
+  accepts : ChainAccepted (x .args .axes) (take (x .args .axes) (x .args .shape .lens)) (x .args .buf .now) (x .args .scratch .now) (x .args .swaps .now)
+  accepts = accepts-chain (x .args .axes) _ _ _ _ (x .pre .1)
+
+  good : (i : ℕ) → i < length (x .args .swaps .now) → getD (x .args .swaps .now) i 0 + 1 < x .args .axes
+  good i h = omega (arith, good-swap (x .args .axes) (x .args .swaps .now) (accepts .swaps) i h, x .pre .0 .0)
 
 loop-holds : tie.Need-loop-holds Inv-loop μ-loop
-loop-holds c = let x : Start = search in (refl, omega arith, begin _ (axes x) _ _ _)
+loop-holds c = let x : Start = search in (refl, omega arith, begin _ (axes x) _ _ _ refl)
 
 swap-at-requires : tie.Need-swap-at-requires Inv-loop μ-loop
 swap-at-requires c κs =
     let l : Loop = search in
     let x : Start = search in
     record {
-      place = good x (l .loop .i) (omega arith);
+      place = rw (as-many _ (axes x) _ _ _ (l .loop .inv .2)) (good x (l .loop .i) (omega arith));
       block = still-accepted _ (axes x) _ _ _ (l .loop .inv .2) (accepts x);
       room = still-room _ (axes x) _ _ _ (l .loop .inv .2) (accepts x) (omega arith);
     }
-
-next-order-requires : tie.Need-next-order-requires Inv-loop μ-loop
-next-order-requires c κs =
-    let l : Loop = search in
-    let x : Start = search in
-    (rw (l .loop .inv .2 .number) (number-below 4 _), good x (l .loop .i) (omega arith))
 
 loop-again : tie.Need-loop-again Inv-loop μ-loop
 loop-again c =
     let n : tie.After-swapped Inv-loop μ-loop = search in
     let s : tie.After-swap-at Inv-loop μ-loop = search in
+    let b : tie.In-loop Inv-loop μ-loop = search in
     let l : Loop = search in
     let x : Start = search in
     let made = s .swap-at .ensures in (
       refl,
-      omega arith,
-      one-swap _ (axes x) _ _ _ (l .loop .inv .2) (accepts x) (omega arith) (made .0) (made .1) (n .swapped .ensures) (c .next-order .ensures),
+      omega (arith, b .loop-test .taken, l .loop .inv .0),
+      one-swap _ (axes x) _ _ _ (l .loop .inv .2) (accepts x) (omega (arith, b .loop-test .taken, l .loop .inv .0)) (made .0) (made .1) (n .swapped .ensures) (c .next-order .ensures),
     )
 
 same-length : tie.Need-same-length Inv-loop μ-loop
@@ -72,9 +70,10 @@ same-length c = let l : Loop = search in l .loop .inv .2 .words .same
 
 returns : tie.Need-returns Inv-loop μ-loop
 returns c =
+    let f : tie.After-first Inv-loop μ-loop = search in
     let l : Loop = search in
     let x : Start = search in
-    finished _ (axes x) _ _ _ (l .loop .inv .2) (omega arith) (accepts x)
+    finished _ (axes x) _ _ _ (l .loop .inv .2) (omega arith) (accepts x) (f .first .ensures)
 
 same-length-2 : tie.Need-same-length-2 Inv-loop μ-loop
 same-length-2 c =
@@ -90,12 +89,15 @@ run-spec =
     loop-holds
     (search needs)
     (search needs)
+    (λ c. let l : Loop = search in enough-lengths _ (axes (search)) _ _ _ (l .loop .inv .2))
+    (λ c. let l : Loop = search in sym (as-many _ (axes (search)) _ _ _ (l .loop .inv .2)))
     swap-at-requires
     (search needs)
-    next-order-requires
+    (search needs)
     (search needs)
     (search needs)
     loop-again
+    (search needs)
     same-length
     same-length-2
     returns)

@@ -1,5 +1,5 @@
 -- `axes::chains::swap_at` meets its contract: the axes before place k, the two axes and the axes after are a block for the adjacent swap.
-use mathlib.Core.Path.{_≡_, sym, ap, _∙_}
+use mathlib.Core.Path.{_≡_, refl, sym, ap, _∙_}
 use mathlib.Core.List.{List}
 use Prim.Native.Nat.{ℕ, _+_, _-_}
 use native.Mathlib.Omega.{arith}
@@ -7,24 +7,14 @@ use lib.ListN.{length, drop, length-drop}
 use lib.Seq.{take-all, length-take-le}
 use Rattle.layout.specs.Layout.{volume}
 use Rattle.checks.specs.Words.{capped}
-use Rattle.axes.proofs.Accepted.{BlockAccepted, block-accepted}
+use Rattle.axes.proofs.Accepted.{block-accepted}
 use Rattle.axes.proofs.Steps.{swap-leaves}
 use borrow.Author.Needs.{needs}
 use Rattle.axes.proofs.chains.swap_at.Statement.{statement}
 use Rattle.axes.proofs.chains.swap_at.Tie as tie
 
-module _ (x : tie.Start) where
-  axes : length (x .args .shape .lens) ≡ 4
-  axes = search needs
-
-  block : BlockAccepted (x .args .shape .lens) (x .args .buf .now)
-  block = block-accepted _ _ (x .pre .block)
-
-array-share-prefix-lens : tie.Need-array-share-prefix-lens
-array-share-prefix-lens c = let x : tie.Start = search in omega (arith, axes x)
-
 slice-aggregate-words-of : tie.Need-slice-aggregate-words-of
-slice-aggregate-words-of c = let x : tie.Start = search in sym (length-take-le (x .args .k) (x .args .shape .lens) (omega (arith, axes x)))
+slice-aggregate-words-of c = let x : tie.Start = search in sym (length-take-le (x .args .k) (x .args .lens .now) (omega (arith, x .pre .place)))
 
 returns : tie.Need-returns
 returns c =
@@ -32,25 +22,23 @@ returns c =
     let after : tie.After-words-of2 = search in
     let before : tie.After-words-of = search in
     let x : tie.Start = search in
-    let l = x .args .shape .lens in
+    let l = x .args .lens .now in
     let k = x .args .k in
-    let four = axes x in
-    let end = take-all (4 - (k + 2)) (drop (k + 2) l) (omega (arith, length-drop (k + 2) l)) in
+    let end = take-all (length l - (k + 2)) (drop (k + 2) l) (omega (arith, length-drop (k + 2) l)) in
     let chunk = after .words-of2 .ensures ∙ ap (λ (t : List ℕ). capped (volume t)) end in
-    swap-leaves l four k (omega arith) (block x) _ (x .pre .room) (before .words-of .ensures) chunk (w .swap .ensures)
+    swap-leaves l refl k (x .pre .place) (block-accepted _ _ (x .pre .block)) _ (x .pre .room) (before .words-of .ensures) chunk (w .swap .ensures)
 
 pub swap-at-spec : {M : Type 1} → statement M
 swap-at-spec =
     tie.close
     (tie.spec
-    array-share-prefix-lens
     slice-aggregate-words-of
     (search needs)
     (search needs)
     (search needs)
     (search needs)
     (search needs)
-    (λ c. let x : tie.Start = search in omega (arith, axes x))
+    (search needs)
     (search needs)
     (search needs)
     (search needs)

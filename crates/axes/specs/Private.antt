@@ -1,0 +1,25 @@
+-- These definitions serve only the contracts of private functions: a reader of the promises can pass over them.
+use mathlib.Core.Path.{_≡_}
+use mathlib.Core.Bool.{cond}
+use mathlib.Core.List.{List}
+use Prim.Native.Nat.{ℕ, _+_, _<_, _≤_}
+use lib.Dec.{eqb}
+use lib.ListN.{length}
+use Rattle.orders.specs.Needs.{exchanged}
+use Rattle.refusals.specs.FirstOf.{firstOf}
+use Rattle.refusals.specs.Calls.{blockChecks}
+use Rattle.axes.specs.declared.Answer.{Answer}
+
+-- a number of axes that has tables
+abbrev pub FourOrFive : ℕ → Type 0
+FourOrFive r = (4 ≤ r) × (r ≤ 5)
+
+-- one swap: the axes have these places, the block passes its checks, and scratch has as many words as the longer of the two axes
+pub record SwapAccepted (k : ℕ) (ds buffer scratch : List ℕ) : Type 0 where
+  pub place : k + 1 < length ds
+  pub block : firstOf (blockChecks ds buffer) ≡ 0
+  pub room : exchanged k ds ≤ length scratch
+
+-- the answer of a chain as that of a request for an order: where it is accepted, the number that was asked for stands in the place of the chain's own
+abbrev pub askedFor : ℕ → Answer → Answer
+askedFor order a = record { number = a .number; place = a .place; lens = a .lens; order = cond (eqb (a .number) 0) order (a .order); swaps = a .swaps }

@@ -1,0 +1,51 @@
+-- What makes the promise of a plan, over r axes: an order number above the last is refused, and of any other the falling pairs are counted and that many swaps computed, which
+-- fit into the ten places.
+use mathlib.Core.Path.{_≡_, refl, sym, ap, ap₂, _∙_}
+use mathlib.Core.List.{List, _++_}
+use Prim.Native.Nat.{ℕ, _-_, _<_, _≤_}
+use native.Mathlib.Omega.{arith}
+use lib.ListN.{length, replicate}
+use borrow.Author.Tests.{lt-ltb, le-ltb}
+use Rattle.orders.specs.Numbers.{orderCount, orderOf}
+use Rattle.orders.specs.Plans.{falling, planned, planOf, planPlaces}
+use Rattle.orders.proofs.Chains.{length-named}
+use Rattle.orders.proofs.Numbers.{order-named}
+use Rattle.orders.proofs.Distinct.{count-pos}
+use Rattle.orders.proofs.Plans.{length-plan, falling-places}
+use Rattle.refusals.specs.Calls.{planChecks}
+use Rattle.refusals.proofs.FirstOf.{First, Silent, first-is, silent-zero}
+use Rattle.plans.specs.declared.Planned.{Planned}
+use Rattle.plans.specs.Promise.{plannedAs, noPlan, PlanPromise}
+
+pub refused : (r order : ℕ) {p : Planned} → orderCount r ≤ order → p ≡ noPlan 7 → PlanPromise r order p
+refused r order {p} h e =
+    let above : First 7 (planChecks r order) = First.here (lt-ltb (orderCount r - 1) order (omega (arith, count-pos r))) refl in
+    let number : p .number ≡ 7 = ap (λ (q : Planned). q .number) e in
+    record { number-is = number ∙ sym (first-is above); given = λ z. absurd (omega arith); refusal = λ _. e ∙ ap noPlan (sym number) }
+
+-- the falling pairs counted, and as many swaps of the plan: the plan
+pub as-planned : (o : List ℕ) {count : ℕ} {swaps : List ℕ} → count ≡ falling o → swaps ≡ planned count o ++ replicate (10 - count) 0
+    → _≡_ {A = Planned} (record { number = 0; swaps = swaps; len = count }) (plannedAs (planOf o))
+unfolding planOf
+as-planned o {count} e f =
+    let long : count ≡ length (planOf o) = e ∙ sym (length-plan o) in
+    ap₂ (λ (s : List ℕ) (l : ℕ). let p : Planned = record { number = 0; swaps = s; len = l } in p)
+    (f ∙ ap₂ (λ (s : List ℕ) (l : ℕ). s ++ replicate (10 - l) 0) (ap (λ (n : ℕ). planned n o) e) long)
+    long
+
+module _ (r order : ℕ) (low : order < orderCount r) {o : List ℕ} (e : o ≡ orderOf r order) where
+  pub fits : r ≤ 5 → planPlaces r ≤ 10 → (length o ≤ 5) × (falling o ≤ 10)
+  fits h few =
+      let (c, n) = order-named r order low in
+      let long : length o ≡ r = ap length (e ∙ sym n) ∙ length-named r c in
+      (omega arith, omega (arith, ap falling e, falling-places r order low))
+
+  pub given : {p : Planned} → p ≡ plannedAs (planOf o) → PlanPromise r order p
+  given {p} f =
+      let number : p .number ≡ 0 = ap (λ (q : Planned). q .number) f in
+      let silent : Silent (planChecks r order) = Silent.more (le-ltb (orderCount r - 1) order (omega arith)) Silent.none in
+      record {
+        number-is = number ∙ sym (silent-zero silent);
+        given = λ _. f ∙ ap (λ (t : List ℕ). plannedAs (planOf t)) e;
+        refusal = λ n. absurd (n number);
+      }

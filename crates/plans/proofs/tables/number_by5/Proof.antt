@@ -1,0 +1,31 @@
+-- `plans::tables::number_by5` meets its contract: in release 2 the table has, for each of the orders, the number of the order with each axis at the
+-- place that it names; the tables are compared once, as a whole. In release 1 a number is its own. Past the last order there is none in either.
+use mathlib.Core.Path.{sym, _∙_}
+use mathlib.Core.List.{[]}
+use native.Mathlib.Omega.{arith}
+use borrow.Author.Needs.{needs}
+use borrow.Author.Tests.{ne-eqb}
+use Rattle.layout.specs.Layout.{placeOf, places}
+use Rattle.orders.specs.Numbers.{orderOf, numberOf, orders, arrangements, rank}
+use Rattle.orders.proofs.Numbers.{number-order}
+use Rattle.plans.proofs.Rows.{row-at, none-of-five, no-inverse}
+use Rattle.plans.proofs.tables.number_by5.Statement.{statement}
+use Rattle.plans.proofs.tables.number_by5.Tie as tie
+
+returns : tie.Need-returns
+returns c = let x : tie.Start = search in sym (no-inverse 5 (x .args .release) (x .args .order) (omega arith) ∙ none-of-five)
+
+returns-2 : tie.Need-returns-2
+unfolding orderOf numberOf orders arrangements rank placeOf places
+returns-2 c =
+    let t : tie.Then2 = search in
+    let x : tie.Start = search in
+    rw (t .if2 .taken) (row-at [] 0 (λ o. numberOf 5 (places o)) (orders 5) (x .args .order) (omega arith))
+
+returns-3 : tie.Need-returns-3
+returns-3 c =
+    let x : tie.Start = search in
+    rw (ne-eqb (x .args .release) 2 (c .if2 .left)) (sym (number-order 5 (x .args .order) (omega arith)))
+
+pub number-by5-spec : {M : Type 1} → statement M
+number-by5-spec = tie.close (tie.spec returns (search needs) (search needs) returns-2 returns-3)
