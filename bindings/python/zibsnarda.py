@@ -240,7 +240,7 @@ def plan(order):
     """The shortest chain that names an order, the first in dictionary order.
 
     >>> plan(9)
-    [1, 0, 2]
+    [0, 1, 2]
     """
     answer = _call("plan", _Planned, *_sizes(order))
     _accepted(answer.number)

@@ -403,7 +403,7 @@ pub fn request(buffer: &mut [u32], scratch: &mut [u32], lengths: Lengths, releas
 /// The shortest chain that names an order of release 1 and, among the shortest, the first in dictionary order. 7.
 ///
 /// ```
-/// assert_eq!(zibsnarda::plan(9), Ok(vec![1, 0, 2]));
+/// assert_eq!(zibsnarda::plan(9), Ok(vec![0, 1, 2]));
 /// ```
 pub fn plan(order: usize) -> Answered<Vec<usize>> {
     let p = unsafe { c::zib_plan(order) };
