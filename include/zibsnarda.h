@@ -10,7 +10,7 @@
  *   - nobody else writes to them during the call.
  * Everything else is tested. A refused call says why by its number and leaves all buffers unchanged.
  * No call allocates, keeps a pointer, or reads or writes anything besides what it is lent. The archive asks for memcpy and memset and
- * for nothing else, so that it links on a board without an operating system.
+ * for nothing else, so that it links on a board without an operating system. No call takes more than 8,192 bytes of stack.
  *
  * Sides and lengths are 1 to 4,096; a block has at most 1,048,576 words, from the first word of the buffer on.
  * A buffer may not be longer than the block: turns, chains, requests and tiles take one of exactly the block's size. Where a call says

@@ -73,6 +73,27 @@ def orders():
     expect(refusal(zibsnarda.plan, 24) == (7, 0), "a bad order number")
 
 
+def five_axes():
+    lengths = [2, 3, 1, 4, 2]
+    for number, order in enumerate(itertools.permutations(range(5))):
+        block = words(48)
+        expected = laid(block, lengths, order)
+        lent, scratch = array("I", block), array("I", [0] * 4)
+        moved = zibsnarda.request5(lent, scratch, lengths, 1, number)
+        expect(list(lent) == expected and moved.lengths == [lengths[k] for k in order], f"order {number} of {lengths}")
+        lent = array("I", block)
+        expect(zibsnarda.chain5(lent, scratch, lengths, zibsnarda.plan5(number)).order == number and list(lent) == expected, f"plan {number}")
+
+
+def stopped_turns():
+    for m, n in ((4, 6), (7, 5)):
+        block = words(m * n)
+        lent, scratch, progress = array("I", block), array("I", [0] * max(m, n)), array("I", [0])
+        while progress[0] < 2 * zibsnarda.lines(m, n) + 1:
+            zibsnarda.resume(lent, scratch, progress, m, n, random.randrange(40))
+        expect(list(lent) == laid(block, [m, n], [1, 0]), f"the stopped turn of {m} by {n}")
+
+
 def sheets():
     text = b"shape\t1\t1\t2\t3\nchain\t2\nrow\t1\t2\t3\nrow\t4\t5\t6\n"
     lent, scratch, out = array("I", [0] * 1024), array("I", [0] * 1024), bytearray(16384)
@@ -106,6 +127,6 @@ random.seed(1)
 failed, tried = doctest.testmod(zibsnarda)
 expect(failed == 0 and tried > 0, "an example in the documentation")
 held += tried - 1
-for group in (flat_turns, orders, sheets, memory):
+for group in (flat_turns, orders, five_axes, stopped_turns, sheets, memory):
     group()
 print(held)

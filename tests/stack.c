@@ -36,14 +36,25 @@ static void judged(void) { sink = zib_judge_cycles(list, 0, 64, 16).place; }
 static void cycled(void) { sink = zib_run_cycles(list, 6, block, 6, 2, 3).place; }
 static void tiled(void) { sink = zib_to_tiles(block, 1000 * 1047, scratch, 64 * 4096, 1000, 1047, 64, 63); }
 static void untiled(void) { sink = zib_from_tiles(block, 1000 * 1047, scratch, 64 * 4096, 1000, 1047, 64, 63); }
-static const struct zib_shape shape = {{16, 15, 64, 64}};
+static void resumed(void) {
+    uint32_t progress = 0;
+    sink = zib_resume(block, 60 * 62, scratch, 62, &progress, 60, 62, 10000000);
+}
+static const struct zib_shape shape = {{16, 15, 64, 64, 0}};
+static const struct zib_shape five = {{4, 4, 15, 64, 64}};
 static void chained(void) {
     static const size_t swaps[32] = {2, 1, 0, 2, 1, 2};
     sink = zib_chain(block, 16 * 15 * 64 * 64, scratch, 4096, shape, swaps, 32).order;
 }
 static void requested(void) { sink = zib_request(block, 16 * 15 * 64 * 64, scratch, 4096, shape, 2, 23).order; }
 static void planned(void) { sink = zib_plan(23).length; }
-static const struct zib_shape page = {{4, 4, 8, 8}};
+static void chained5(void) {
+    static const size_t swaps[32] = {3, 2, 1, 0, 3, 2};
+    sink = zib_chain5(block, 16 * 15 * 64 * 64, scratch, 4096, five, swaps, 32).order;
+}
+static void requested5(void) { sink = zib_request5(block, 16 * 15 * 64 * 64, scratch, 4096, five, 2, 119).order; }
+static void planned5(void) { sink = zib_plan5(119).length; }
+static const struct zib_sheet_shape page = {{4, 4, 8, 8}};
 static void wrote(void) { sink = zib_write_sheet(page, 23, block, 1024, out, sizeof out).bytes; }
 static void released(void) { sink = zib_write_release(page, 2, 23, block, 1024, out, sizeof out).bytes; }
 static void result(void) { sink = zib_read_result(out, zib_write_sheet(page, 23, block, 1024, out, sizeof out).bytes, scratch, 1024).order; }
@@ -71,7 +82,8 @@ static const struct {
     {"zib_turn", turn}, {"zib_turn_back", back}, {"zib_turn_halves, 1000 by 1047", halves}, {"zib_turn_halves, 4096 by 255", tall},
     {"zib_turn_halves, 4096 by 1", thin}, {"zib_lines", lines}, {"zib_tick", tick}, {"zib_repeats", repeats}, {"zib_remove_camera", removed},
     {"zib_add_camera", added}, {"zib_judge_cycles", judged}, {"zib_run_cycles", cycled}, {"zib_to_tiles", tiled}, {"zib_from_tiles", untiled},
-    {"zib_chain", chained}, {"zib_request", requested}, {"zib_plan", planned}, {"zib_write_sheet", wrote}, {"zib_write_release", released},
+    {"zib_chain", chained}, {"zib_request", requested}, {"zib_plan", planned},
+    {"zib_chain5", chained5}, {"zib_request5", requested5}, {"zib_plan5", planned5}, {"zib_resume", resumed}, {"zib_write_sheet", wrote}, {"zib_write_release", released},
     {"zib_read_result", result}, {"zib_read_sheet", read_sheet}, {"zib_job", job}, {"zib_offset_delay", measured}, {"zib_to_frames", framed},
     {"zib_join", joined}, {"zib_choose", chose},
 };

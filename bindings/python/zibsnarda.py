@@ -28,8 +28,8 @@ NUMBERS = {
     3: ("ZIB_SHORT_BUFFER", "the buffer has fewer words than the block"),
     4: ("ZIB_SHORT_SCRATCH", "scratch has fewer words than the call needs: a flat turn the longer side, a chain the longest axis that it exchanges, a request what its plan needs, tiles of r rows r·n words"),
     5: ("ZIB_LONG_CHAIN", "the chain has more than 32 swaps"),
-    6: ("ZIB_BAD_SWAP", "a swap number is above 2; place is the first such, from 0"),
-    7: ("ZIB_BAD_ORDER", "the order number is above 23"),
+    6: ("ZIB_BAD_SWAP", "a swap number is above 2, on five axes above 3; place is the first such, from 0"),
+    7: ("ZIB_BAD_ORDER", "the order number is above 23, of five axes above 119"),
     9: ("ZIB_LONG_SHEET", "a sheet has more than 16,384 bytes"),
     10: ("ZIB_BAD_LINE", "a sheet line is malformed, missing or left over; place is its line number, from 1"),
     11: ("ZIB_LARGE_SHEET", "a sheet's lengths multiply to more than 1,024"),
@@ -44,6 +44,7 @@ NUMBERS = {
     20: ("ZIB_NONE_COMMON", "no frame is common to all cameras"),
     21: ("ZIB_BAD_TICKS", "ticks per frame are outside 1 to 1,000,000"),
     22: ("ZIB_OTHER_CYCLES", "the list of cycles is not the right one; place is that of the first pair that differs, from 0, a missing, half or surplus pair counted by its place"),
+    23: ("ZIB_PAST_STAGES", "the progress word is above twice the line count plus one"),
     24: ("ZIB_SHORT_BYTES", "the byte buffer is shorter than the result sheet"),
     25: ("ZIB_OTHER_COLUMN", "the column's length isn't the frame count"),
     26: ("ZIB_BAD_RUN", "a run isn't four readings (offset and delay); a run's length isn't a multiple of four (choosing)"),
@@ -70,12 +71,13 @@ def _struct(name, **fields):
     return type(name, (ctypes.Structure,), {"_fields_": list(fields.items())})
 
 
-_Shape = _struct("Shape", lengths=c_size_t * 4)
+_Shape = _struct("Shape", lengths=c_size_t * 5)
+_SheetShape = _struct("SheetShape", lengths=c_size_t * 4)
 _Counted = _struct("Counted", number=c_uint32, count=c_size_t)
 _Placed = _struct("Placed", number=c_uint32, place=c_size_t)
 _Record = _struct("Record", done=c_size_t)
-_Answer = _struct("Answer", number=c_uint32, place=c_size_t, lengths=c_size_t * 4, order=c_size_t, swaps=c_size_t)
-_Planned = _struct("Planned", number=c_uint32, swaps=c_size_t * 6, length=c_size_t)
+_Answer = _struct("Answer", number=c_uint32, place=c_size_t, lengths=c_size_t * 5, order=c_size_t, swaps=c_size_t)
+_Planned = _struct("Planned", number=c_uint32, swaps=c_size_t * 10, length=c_size_t)
 _Sheet = _struct("Sheet", number=c_uint32, place=c_size_t, lengths=c_size_t * 4, swaps=c_size_t * 32, length=c_size_t)
 _Result = _struct("Result", number=c_uint32, place=c_size_t, lengths=c_size_t * 4, release=c_size_t, order=c_size_t)
 _Done = _struct("Done", number=c_uint32, place=c_size_t, bytes=c_size_t)
@@ -131,9 +133,15 @@ def _sizes(*numbers):
     return [c_size_t(n) for n in numbers]
 
 
-def _shape(lengths):
+def _shape(lengths, axes):
     _sizes(*lengths)
-    return _Shape((c_size_t * 4)(*lengths))
+    if len(lengths) != axes:
+        raise ValueError(f"the shape must have {axes} lengths")
+    return _Shape((c_size_t * 5)(*lengths))
+
+
+def _sheet_shape(lengths):
+    return _SheetShape((c_size_t * 4)(*_shape(lengths, 4).lengths[:4]))
 
 
 def _accepted(number, place=0):
@@ -173,6 +181,13 @@ def tick(buffer, scratch, done, m, n):
     lent = _apart(_written(buffer, c_uint32), _written(scratch, c_uint32))
     _accepted(_call("tick", c_uint32, *lent, ctypes.byref(record), *_sizes(m, n)))
     return record.done
+
+
+def resume(buffer, scratch, progress, m, n, budget):
+    """A turn that may be stopped at any time: goes on from the stage that the progress word, a buffer of one word, names, and stops after
+    `budget` stores; 10,000,000 always finish."""
+    b, bn, s, sn, p, pn = _apart(_written(buffer, c_uint32), _written(scratch, c_uint32), _written(progress, c_uint32, 1))
+    _accepted(_call("resume", c_uint32, b, bn, s, sn, p, *_sizes(m, n, budget)))
 
 
 def repeats(m, n):
@@ -219,32 +234,63 @@ def from_tiles(buffer, scratch, m, n, r, s):
     _accepted(_call("from_tiles", c_uint32, *_apart(_written(buffer, c_uint32), _written(scratch, c_uint32)), *_sizes(m, n, r, s)))
 
 
-def _moved(answer):
+def _chained(call, axes, buffer, scratch, lengths, swaps):
+    lent = _apart(_written(buffer, c_uint32), _written(scratch, c_uint32))
+    return _moved(_call(call, _Answer, *lent, _shape(lengths, axes), *_apart(_lent(list(swaps), c_size_t))), axes)
+
+
+def _requested(call, axes, buffer, scratch, lengths, release, order):
+    lent = _apart(_written(buffer, c_uint32), _written(scratch, c_uint32))
+    return _moved(_call(call, _Answer, *lent, _shape(lengths, axes), *_sizes(release, order)), axes)
+
+
+def _moved(answer, axes):
     _accepted(answer.number, answer.place)
-    return Moved(list(answer.lengths), answer.order, answer.swaps)
+    return Moved(list(answer.lengths[:axes]), answer.order, answer.swaps)
+
+
+def _planned(call, order):
+    answer = _call(call, _Planned, *_sizes(order))
+    _accepted(answer.number)
+    return answer.swaps[: answer.length]
 
 
 def chain(buffer, scratch, lengths, swaps):
     """Runs a chain of at most 32 swaps on a block of four axes."""
-    lent = _apart(_written(buffer, c_uint32), _written(scratch, c_uint32))
-    return _moved(_call("chain", _Answer, *lent, _shape(lengths), *_apart(_lent(list(swaps), c_size_t))))
+    return _chained("chain", 4, buffer, scratch, lengths, swaps)
+
+
+def chain5(buffer, scratch, lengths, swaps):
+    """Runs a chain of at most 32 swaps on a block of five axes."""
+    return _chained("chain5", 5, buffer, scratch, lengths, swaps)
 
 
 def request(buffer, scratch, lengths, release, order):
-    """Brings a block into the order that a number names by its release."""
-    lent = _apart(_written(buffer, c_uint32), _written(scratch, c_uint32))
-    return _moved(_call("request", _Answer, *lent, _shape(lengths), *_sizes(release, order)))
+    """Brings a block of four axes into the order that a number names by its release."""
+    return _requested("request", 4, buffer, scratch, lengths, release, order)
+
+
+def request5(buffer, scratch, lengths, release, order):
+    """Brings a block of five axes into the order that a number names by its release."""
+    return _requested("request5", 5, buffer, scratch, lengths, release, order)
 
 
 def plan(order):
-    """The shortest chain that names an order, the first in dictionary order.
+    """The shortest chain that names an order of four axes, the first in dictionary order.
 
     >>> plan(9)
     [0, 1, 2]
     """
-    answer = _call("plan", _Planned, *_sizes(order))
-    _accepted(answer.number)
-    return answer.swaps[: answer.length]
+    return _planned("plan", order)
+
+
+def plan5(order):
+    """The shortest chain that names an order of five axes.
+
+    >>> plan5(1)
+    [3]
+    """
+    return _planned("plan5", order)
 
 
 def read_sheet(text, words):
@@ -257,7 +303,7 @@ def read_sheet(text, words):
 def write_sheet(lengths, order, words, text):
     """Writes the result sheet of a block from the start of the byte buffer; answers how many bytes it has."""
     lent = _apart(_lent(words, c_uint32), _written(text, c_uint8))
-    answer = _call("write_sheet", _Counted, _shape(lengths), *_sizes(order), *lent)
+    answer = _call("write_sheet", _Counted, _sheet_shape(lengths), *_sizes(order), *lent)
     _accepted(answer.number)
     return answer.count
 
@@ -265,7 +311,7 @@ def write_sheet(lengths, order, words, text):
 def write_release(lengths, release, order, words, text):
     """Writes the result sheet that names the release of its order number."""
     lent = _apart(_lent(words, c_uint32), _written(text, c_uint8))
-    answer = _call("write_release", _Counted, _shape(lengths), *_sizes(release, order), *lent)
+    answer = _call("write_release", _Counted, _sheet_shape(lengths), *_sizes(release, order), *lent)
     _accepted(answer.number)
     return answer.count
 

@@ -17,14 +17,14 @@ pub struct Refused {
 }
 
 /// Each number with its name in C and the sentence that says when it is given.
-const NUMBERS: [(u32, &str, &str); 24] = [
+const NUMBERS: [(u32, &str, &str); 25] = [
     (1, "ZIB_BAD_LENGTH", "an axis length is 0 or above 4,096; the camera count afterwards too; in joining the camera count or F"),
     (2, "ZIB_TOO_MANY_WORDS", "the lengths multiply to more than 1,048,576"),
     (3, "ZIB_SHORT_BUFFER", "the buffer has fewer words than the block"),
     (4, "ZIB_SHORT_SCRATCH", "scratch has fewer words than the call needs: a flat turn the longer side, a chain the longest axis that it exchanges, a request what its plan needs, tiles of r rows r·n words"),
     (5, "ZIB_LONG_CHAIN", "the chain has more than 32 swaps"),
-    (6, "ZIB_BAD_SWAP", "a swap number is above 2; place is the first such, from 0"),
-    (7, "ZIB_BAD_ORDER", "the order number is above 23"),
+    (6, "ZIB_BAD_SWAP", "a swap number is above 2, on five axes above 3; place is the first such, from 0"),
+    (7, "ZIB_BAD_ORDER", "the order number is above 23, of five axes above 119"),
     (9, "ZIB_LONG_SHEET", "a sheet has more than 16,384 bytes"),
     (10, "ZIB_BAD_LINE", "a sheet line is malformed, missing or left over; place is its line number, from 1"),
     (11, "ZIB_LARGE_SHEET", "a sheet's lengths multiply to more than 1,024"),
@@ -39,6 +39,7 @@ const NUMBERS: [(u32, &str, &str); 24] = [
     (20, "ZIB_NONE_COMMON", "no frame is common to all cameras"),
     (21, "ZIB_BAD_TICKS", "ticks per frame are outside 1 to 1,000,000"),
     (22, "ZIB_OTHER_CYCLES", "the list of cycles is not the right one; place is that of the first pair that differs, from 0, a missing, half or surplus pair counted by its place"),
+    (23, "ZIB_PAST_STAGES", "the progress word is above twice the line count plus one"),
     (24, "ZIB_SHORT_BYTES", "the byte buffer is shorter than the result sheet"),
     (25, "ZIB_OTHER_COLUMN", "the column's length isn't the frame count"),
     (26, "ZIB_BAD_RUN", "a run isn't four readings (offset and delay); a run's length isn't a multiple of four (choosing)"),
@@ -85,10 +86,10 @@ fn answered<T>(number: u32, place: usize, value: T) -> Answered<T> {
 /// The lengths of four axes, the last fastest.
 pub type Lengths = [usize; 4];
 
-/// What a chain or a direct request answers: the new lengths, the number of the order in which the axes now stand, the swaps done.
+/// What a chain or a direct request on R axes answers: the new lengths, the number of the order in which the axes now stand, the swaps done.
 #[derive(Clone, Copy, Debug, PartialEq, Eq)]
-pub struct Moved {
-    pub lengths: Lengths,
+pub struct Moved<const R: usize> {
+    pub lengths: [usize; R],
     pub order: usize,
     pub swaps: usize,
 }
@@ -137,6 +138,11 @@ mod c {
 
     #[repr(C)]
     pub struct Shape {
+        pub lengths: [usize; 5],
+    }
+
+    #[repr(C)]
+    pub struct SheetShape {
         pub lengths: [usize; 4],
     }
 
@@ -144,7 +150,7 @@ mod c {
     pub struct Answer {
         pub number: u32,
         pub place: usize,
-        pub lengths: [usize; 4],
+        pub lengths: [usize; 5],
         pub order: usize,
         pub swaps: usize,
     }
@@ -152,7 +158,7 @@ mod c {
     #[repr(C)]
     pub struct Planned {
         pub number: u32,
-        pub swaps: [usize; 6],
+        pub swaps: [usize; 10],
         pub length: usize,
     }
 
@@ -207,6 +213,7 @@ mod c {
         pub fn zib_turn_halves(b: *mut u32, bn: usize, m: usize, n: usize) -> u32;
         pub fn zib_lines(m: usize, n: usize) -> Counted;
         pub fn zib_tick(b: *mut u32, bn: usize, s: *mut u32, sn: usize, lines: *mut super::LineRecord, m: usize, n: usize) -> u32;
+        pub fn zib_resume(b: *mut u32, bn: usize, s: *mut u32, sn: usize, progress: *mut u32, m: usize, n: usize, budget: usize) -> u32;
         pub fn zib_repeats(m: usize, n: usize) -> Counted;
         pub fn zib_remove_camera(b: *mut u32, bn: usize, frames: usize, cameras: usize, column: usize) -> u32;
         pub fn zib_add_camera(b: *mut u32, bn: usize, frames: usize, cameras: usize, column: usize, w: *const u32, wn: usize) -> u32;
@@ -217,9 +224,12 @@ mod c {
         pub fn zib_chain(b: *mut u32, bn: usize, s: *mut u32, sn: usize, shape: Shape, swaps: *const usize, count: usize) -> Answer;
         pub fn zib_request(b: *mut u32, bn: usize, s: *mut u32, sn: usize, shape: Shape, release: usize, order: usize) -> Answer;
         pub fn zib_plan(order: usize) -> Planned;
+        pub fn zib_chain5(b: *mut u32, bn: usize, s: *mut u32, sn: usize, shape: Shape, swaps: *const usize, count: usize) -> Answer;
+        pub fn zib_request5(b: *mut u32, bn: usize, s: *mut u32, sn: usize, shape: Shape, release: usize, order: usize) -> Answer;
+        pub fn zib_plan5(order: usize) -> Planned;
         pub fn zib_read_sheet(t: *const u8, tn: usize, w: *mut u32, wn: usize) -> Sheet;
-        pub fn zib_write_sheet(shape: Shape, order: usize, w: *const u32, wn: usize, t: *mut u8, tn: usize) -> Counted;
-        pub fn zib_write_release(shape: Shape, release: usize, order: usize, w: *const u32, wn: usize, t: *mut u8, tn: usize) -> Counted;
+        pub fn zib_write_sheet(shape: SheetShape, order: usize, w: *const u32, wn: usize, t: *mut u8, tn: usize) -> Counted;
+        pub fn zib_write_release(shape: SheetShape, release: usize, order: usize, w: *const u32, wn: usize, t: *mut u8, tn: usize) -> Counted;
         pub fn zib_read_result(t: *const u8, tn: usize, w: *mut u32, wn: usize) -> SheetResult;
         pub fn zib_job(t: *const u8, tn: usize, w: *mut u32, s: *mut u32, out: *mut u8) -> Done;
         pub fn zib_offset_delay(run: *const i64, rn: usize) -> Pair;
@@ -287,6 +297,21 @@ pub fn lines(m: usize, n: usize) -> Answered<usize> {
 /// ```
 pub fn tick(buffer: &mut [u32], scratch: &mut [u32], record: &mut LineRecord, m: usize, n: usize) -> Answered<()> {
     answered(unsafe { c::zib_tick(buffer.as_mut_ptr(), buffer.len(), scratch.as_mut_ptr(), scratch.len(), record, m, n) }, 0, ())
+}
+
+/// A turn that may be stopped at any time, in memory that outlives the stop: goes on from the stage that the progress word names, 0 at first, and
+/// stops after `budget` stores; 10,000,000 always finish. A stage's words are stored, then the progress word; the turn is done, and scratch zero, at
+/// twice the count of [`lines`] plus one. 1, 2, 3, 13, 4, 23.
+///
+/// ```
+/// let (mut block, mut scratch, mut progress) = ([0, 1, 2, 3, 4, 5], [0; 3], 0);
+/// zibsnarda::resume(&mut block, &mut scratch, &mut progress, 2, 3, 7).unwrap(); // stopped on the way
+/// zibsnarda::resume(&mut block, &mut scratch, &mut progress, 2, 3, 10_000_000).unwrap();
+/// assert_eq!((block, progress), ([0, 3, 1, 4, 2, 5], 11));
+/// ```
+pub fn resume(buffer: &mut [u32], scratch: &mut [u32], progress: &mut u32, m: usize, n: usize, budget: usize) -> Answered<()> {
+    let (b, bn, s, sn) = (buffer.as_mut_ptr(), buffer.len(), scratch.as_mut_ptr(), scratch.len());
+    answered(unsafe { c::zib_resume(b, bn, s, sn, progress, m, n, budget) }, 0, ())
 }
 
 /// How often a turn with the same m and n is repeated, at least once, until every block of that shape is home. 1, 2.
@@ -372,6 +397,19 @@ pub fn from_tiles(buffer: &mut [u32], scratch: &mut [u32], m: usize, n: usize, r
     answered(unsafe { c::zib_from_tiles(buffer.as_mut_ptr(), buffer.len(), scratch.as_mut_ptr(), scratch.len(), m, n, r, s) }, 0, ())
 }
 
+/// The first R lengths of a shape for the archive, and what it answers about them.
+fn shape<const R: usize>(lengths: [usize; R]) -> c::Shape {
+    let mut five = [0; 5];
+    five[..R].copy_from_slice(&lengths);
+    c::Shape { lengths: five }
+}
+
+fn moved<const R: usize>(a: c::Answer) -> Answered<Moved<R>> {
+    let mut lengths = [0; R];
+    lengths.copy_from_slice(&a.lengths[..R]);
+    answered(a.number, a.place, Moved { lengths, order: a.order, swaps: a.swaps })
+}
+
 /// Runs a chain of at most 32 swaps on a block of four axes; swap k exchanges the axes at places k and k + 1. Scratch has as many words as the
 /// longest axis that the chain exchanges. 1, 2, 3, 13, 5, 6 with the place, 4.
 ///
@@ -380,10 +418,21 @@ pub fn from_tiles(buffer: &mut [u32], scratch: &mut [u32], m: usize, n: usize, r
 /// let moved = zibsnarda::chain(&mut block, &mut [0; 3], [1, 1, 2, 3], &[2]).unwrap();
 /// assert_eq!((block, moved.lengths, moved.order), ([0, 3, 1, 4, 2, 5], [1, 1, 3, 2], 1));
 /// ```
-pub fn chain(buffer: &mut [u32], scratch: &mut [u32], lengths: Lengths, swaps: &[usize]) -> Answered<Moved> {
+pub fn chain(buffer: &mut [u32], scratch: &mut [u32], lengths: Lengths, swaps: &[usize]) -> Answered<Moved<4>> {
     let (b, bn, s, sn) = (buffer.as_mut_ptr(), buffer.len(), scratch.as_mut_ptr(), scratch.len());
-    let a = unsafe { c::zib_chain(b, bn, s, sn, c::Shape { lengths }, swaps.as_ptr(), swaps.len()) };
-    answered(a.number, a.place, Moved { lengths: a.lengths, order: a.order, swaps: a.swaps })
+    moved(unsafe { c::zib_chain(b, bn, s, sn, shape(lengths), swaps.as_ptr(), swaps.len()) })
+}
+
+/// [`chain`] on five axes, with swaps 0 to 3.
+///
+/// ```
+/// let mut block = [0, 1, 2, 3, 4, 5];
+/// let moved = zibsnarda::chain5(&mut block, &mut [0; 3], [1, 1, 1, 2, 3], &[3]).unwrap();
+/// assert_eq!((block, moved.lengths, moved.order), ([0, 3, 1, 4, 2, 5], [1, 1, 1, 3, 2], 1));
+/// ```
+pub fn chain5(buffer: &mut [u32], scratch: &mut [u32], lengths: [usize; 5], swaps: &[usize]) -> Answered<Moved<5>> {
+    let (b, bn, s, sn) = (buffer.as_mut_ptr(), buffer.len(), scratch.as_mut_ptr(), scratch.len());
+    moved(unsafe { c::zib_chain5(b, bn, s, sn, shape(lengths), swaps.as_ptr(), swaps.len()) })
 }
 
 /// Brings a block into the order that a number names by its release (1 or 2), by that order's plan. Scratch is as for [`chain`] with that plan.
@@ -394,19 +443,40 @@ pub fn chain(buffer: &mut [u32], scratch: &mut [u32], lengths: Lengths, swaps: &
 /// let moved = zibsnarda::request(&mut block, &mut [0; 3], [1, 1, 2, 3], 1, 1).unwrap();
 /// assert_eq!((block, moved.swaps), ([0, 3, 1, 4, 2, 5], 1));
 /// ```
-pub fn request(buffer: &mut [u32], scratch: &mut [u32], lengths: Lengths, release: usize, order: usize) -> Answered<Moved> {
+pub fn request(buffer: &mut [u32], scratch: &mut [u32], lengths: Lengths, release: usize, order: usize) -> Answered<Moved<4>> {
     let (b, bn, s, sn) = (buffer.as_mut_ptr(), buffer.len(), scratch.as_mut_ptr(), scratch.len());
-    let a = unsafe { c::zib_request(b, bn, s, sn, c::Shape { lengths }, release, order) };
-    answered(a.number, a.place, Moved { lengths: a.lengths, order: a.order, swaps: a.swaps })
+    moved(unsafe { c::zib_request(b, bn, s, sn, shape(lengths), release, order) })
 }
 
-/// The shortest chain that names an order of release 1 and, among the shortest, the first in dictionary order. 7.
+/// [`request`] on five axes, with order numbers 0 to 119.
+///
+/// ```
+/// let mut block = [0, 1, 2, 3, 4, 5];
+/// let moved = zibsnarda::request5(&mut block, &mut [0; 3], [1, 1, 1, 2, 3], 1, 1).unwrap();
+/// assert_eq!((block, moved.swaps), ([0, 3, 1, 4, 2, 5], 1));
+/// ```
+pub fn request5(buffer: &mut [u32], scratch: &mut [u32], lengths: [usize; 5], release: usize, order: usize) -> Answered<Moved<5>> {
+    let (b, bn, s, sn) = (buffer.as_mut_ptr(), buffer.len(), scratch.as_mut_ptr(), scratch.len());
+    moved(unsafe { c::zib_request5(b, bn, s, sn, shape(lengths), release, order) })
+}
+
+/// The shortest chain that names an order of four axes, of release 1, and, among the shortest, the first in dictionary order. 7.
 ///
 /// ```
 /// assert_eq!(zibsnarda::plan(9), Ok(vec![0, 1, 2]));
 /// ```
 pub fn plan(order: usize) -> Answered<Vec<usize>> {
     let p = unsafe { c::zib_plan(order) };
+    answered(p.number, 0, p.swaps[..p.length].to_vec())
+}
+
+/// [`plan`] of an order of five axes.
+///
+/// ```
+/// assert_eq!(zibsnarda::plan5(119).unwrap().len(), 10);
+/// ```
+pub fn plan5(order: usize) -> Answered<Vec<usize>> {
+    let p = unsafe { c::zib_plan5(order) };
     answered(p.number, 0, p.swaps[..p.length].to_vec())
 }
 
@@ -431,7 +501,7 @@ pub fn read_sheet(text: &[u8], words: &mut [u32]) -> Answered<Sheet> {
 /// assert_eq!(&text[..bytes], b"shape\t1\t1\t1\t2\norder\t0\nrow\t7\t8\n");
 /// ```
 pub fn write_sheet(lengths: Lengths, order: usize, words: &[u32], text: &mut [u8]) -> Answered<usize> {
-    let w = unsafe { c::zib_write_sheet(c::Shape { lengths }, order, words.as_ptr(), words.len(), text.as_mut_ptr(), text.len()) };
+    let w = unsafe { c::zib_write_sheet(c::SheetShape { lengths }, order, words.as_ptr(), words.len(), text.as_mut_ptr(), text.len()) };
     answered(w.number, 0, w.count)
 }
 
@@ -444,7 +514,7 @@ pub fn write_sheet(lengths: Lengths, order: usize, words: &[u32], text: &mut [u8
 /// ```
 pub fn write_release(lengths: Lengths, release: usize, order: usize, words: &[u32], text: &mut [u8]) -> Answered<usize> {
     let (w, wn, t, tn) = (words.as_ptr(), words.len(), text.as_mut_ptr(), text.len());
-    let w = unsafe { c::zib_write_release(c::Shape { lengths }, release, order, w, wn, t, tn) };
+    let w = unsafe { c::zib_write_release(c::SheetShape { lengths }, release, order, w, wn, t, tn) };
     answered(w.number, 0, w.count)
 }
 
