@@ -10,7 +10,7 @@
  *   - nobody else writes to them during the call.
  * Everything else is tested. A refused call says why by its number and leaves all buffers unchanged.
  * No call allocates, keeps a pointer, or reads or writes anything besides what it is lent. The archive asks for memcpy and memset and
- * for nothing else, so that it links on a board without an operating system.
+ * for nothing else, so that it links on a board without an operating system. No call takes more than 8,192 bytes of stack.
  *
  * Sides and lengths are 1 to 4,096; a block has at most 1,048,576 words, from the first word of the buffer on.
  * A buffer may not be longer than the block: turns, chains, requests and tiles take one of exactly the block's size. Where a call says
@@ -306,13 +306,20 @@ struct zib_result {
  */
 struct zib_result zib_read_result(const uint8_t *text, size_t text_bytes, uint32_t *words, size_t word_count);
 
+/* What the whole job answers: number and place of the refusal, 0 and 0 of a right sheet, and how many bytes its text has. */
+struct zib_told {
+    uint32_t number;
+    size_t place;
+    size_t bytes;
+};
+
 /*
  * The whole job on a sheet, which is only read: its words, run through its chain, stand in `words` afterwards, and the
  * text of the result sheet from the start of `out`; words past the block stay. A refused sheet leaves words and scratch unchanged and writes one
  * line: `refused`, number, place. `words` and `scratch` have 1,024 words each and `out` 16,384 bytes.
- * Answers how many bytes the text has; bytes after it stay.
+ * Bytes after the text stay. Answers 0, or the first of 9, 10 (line 1), 1, 11, 10 (line 2), 5, 6, 10 (each row, then what is left over).
  */
-size_t zib_job(const uint8_t *text, size_t text_bytes, uint32_t *words, uint32_t *scratch, uint8_t *out);
+struct zib_told zib_job(const uint8_t *text, size_t text_bytes, uint32_t *words, uint32_t *scratch, uint8_t *out);
 
 /*
  * The join desk. An exchange is four readings in ticks of 27 MHz: sent, received, returned, received back (T1 to T4). A run holds

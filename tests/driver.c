@@ -193,6 +193,12 @@ static struct zib_part choose(void) {
     return part;
 }
 
+static void give_told(struct zib_told told) {
+    give(told.number);
+    give(told.place);
+    give(told.bytes);
+}
+
 static void give_judged(struct zib_judged j) {
     give(j.number);
     give(j.place);
@@ -270,7 +276,7 @@ static void run(uint64_t call) {
         give_written(zib_write_sheet(sheet, numbers[4], words(0), word_count(0), buffers[1].at, buffers[1].bytes));
         break;
     case JOB:
-        give(zib_job(buffers[0].at, buffers[0].bytes, words(1), words(2), buffers[3].at));
+        give_told(zib_job(buffers[0].at, buffers[0].bytes, words(1), words(2), buffers[3].at));
         break;
     case REPEATS:
         give_home(zib_repeats(numbers[0], numbers[1]));

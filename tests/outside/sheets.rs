@@ -293,8 +293,9 @@ fn try_job(t: &mut Bench, r: &mut Random, text: &[u8]) {
     left[..told.len()].copy_from_slice(&told);
     let lent = bytes(text).read_only();
     let q = Request { call: JOB, numbers: vec![], buffers: vec![lent.clone(), words(&buffer), words(&scratch), bytes(&out)] };
+    let (number, place) = read(text, 1024).err().unwrap_or((0, 0));
     let e = Answer {
-        numbers: vec![told.len() as u64],
+        numbers: vec![number, place, told.len() as u64],
         buffers: vec![lent, words(&words_left), words(&scratch_left), bytes(&left)],
     };
     t.expect_both(&q, &e, || format!("the job of {:?}", String::from_utf8_lossy(text)));

@@ -202,6 +202,14 @@ pub extern "C" fn zib_write_sheet(
     }
 }
 
+// What the whole job answers.
+#[repr(C)]
+pub struct Told {
+    pub number: u32,
+    pub place: usize,
+    pub count: usize,
+}
+
 // The whole job on a sheet: read, run through its chain, its result sheet or its refusal written.
 #[no_mangle]
 pub extern "C" fn zib_job(
@@ -209,10 +217,15 @@ pub extern "C" fn zib_job(
     words: &mut [u32; 1024],
     scratch: &mut [u32; 1024],
     out: &mut [u8; 16384],
-) -> usize
-    ensures { λ r. ⌜ Done (now (bytes .entry)) (now (words .entry)) (now (scratch .entry)) (now (out .entry)) r (now (words .exit)) (now (scratch .exit)) (now (out .exit)) ⌝ }
+) -> Told
+    ensures { λ r. ⌜ Done (now (bytes .entry)) (now (words .entry)) (now (scratch .entry)) (now (out .entry)) (r .number) (r .place) (r .count) (now (words .exit)) (now (scratch .exit)) (now (out .exit)) ⌝ }
 {
-    job::job(bytes, words, scratch, out)
+    let told = job::job(bytes, words, scratch, out);
+    Told {
+        number: told.number,
+        place: told.place,
+        count: told.count,
+    }
 }
 
 // How often the turn of m by n is repeated until every block of that shape is home.

@@ -45,13 +45,15 @@ short-line number place = omega (arith, length-refusal number place, fields-few 
 -- a sheet that was refused, and its line written
 pub met-refused : {bytes words scratch out : List ℕ} {r : Sheet} {words′ : List ℕ} {w : Written} {out′ : List ℕ} → length out ≡ 16384
     → Turned-away words bytes r words′ → RefusalWrittenAs (r .number) (r .place) out w out′
-    → Done bytes words scratch out (w .count) words′ scratch out′
+    → Done bytes words scratch out (r .number) (r .place) (w .count) words′ scratch out′
 met-refused {out = out} {r = r} long t p =
     let short = short-line (r .number) (r .place) in
     let full = in-full (refusalText (r .number) (r .place)) out (line-fits (r .number) (r .place) out (omega arith)) (p .answers) (p .bytes) in
     record {
       words-are = rw (t .means) (t .same);
       scratch-is = rw (t .means);
+      number-is = rw (t .means);
+      place-is = rw (t .means);
       count-is = rw (t .means) (full .0);
       fits = omega arith;
       text-is = rw (t .means, full .0) (full .1);
@@ -169,16 +171,18 @@ module _ {bytes words scratch out : List ℕ} {r : Sheet} {words₁ ws : List �
   text-of : text ≡ jobText (Outcome.accepted ds (swapsOf r) ws) words
   text-of = ap (resultText (pick order ds) (numberOf 4 order)) words-of
 
-  pub met-accepted : Done bytes words scratch out (w .count) words₂ scratch₂ out′
+  pub met-accepted : Done bytes words scratch out 0 0 (w .count) words₂ scratch₂ out′
   met-accepted = record {
     words-are = rw (t .means) words-of;
     scratch-is = rw (t .means) (chain-on .block .zeroed chain-runs);
+    number-is = rw (t .means);
+    place-is = rw (t .means);
     count-is = rw (t .means) (full .0 ∙ ap length text-of);
     fits = omega (arith, full, text-fits);
     text-is = rw (t .means, ← text-of, full .0) (full .1);
   }
 
 -- the byte buffer holds as many bytes as the job counts
-pub text-inside : {bytes words scratch out : List ℕ} {n : ℕ} {w s o : List ℕ} → Done bytes words scratch out n w s o → n ≤ length o
-text-inside {bytes} {words} {scratch} {out} {n} p =
+pub text-inside : {bytes words scratch out : List ℕ} {k p n : ℕ} {w s o : List ℕ} → Done bytes words scratch out k p n w s o → n ≤ length o
+text-inside {bytes} {words} {scratch} {out} {n = n} p =
     omega (arith, p .count-is, ap length (p .text-is), length-append (jobText (meaning words bytes) words) (drop n out))

@@ -1,4 +1,4 @@
--- Any two outcomes that the promise of the job allows coincide: count, words, scratch and bytes. From the equations that the promise is.
+-- Any two outcomes that the promise of the job allows coincide: number, place, count, words, scratch and bytes. From the equations that the promise is.
 use mathlib.Core.Path.{_≡_, sym, ap, _∙_}
 use mathlib.Core.List.{List, _++_}
 use Prim.Native.Nat.{ℕ}
@@ -6,12 +6,14 @@ use lib.ListN.{drop}
 use Rattle.text.specs.Meaning.{meaning}
 use Rattle.job.specs.Job.{jobText, Done}
 
-pub job-once : {bytes words scratch out : List ℕ} {n n′ : ℕ} {w w′ s s′ o o′ : List ℕ} → Done bytes words scratch out n w s o
-    → Done bytes words scratch out n′ w′ s′ o′ → (n ≡ n′) × (w ≡ w′) × (s ≡ s′) × (o ≡ o′)
-job-once {bytes} {words} {scratch} {out} p q =
-    let count = p .count-is ∙ sym (q .count-is) in (
+pub job-once : {bytes words scratch out : List ℕ} {k k′ p p′ n n′ : ℕ} {w w′ s s′ o o′ : List ℕ} → Done bytes words scratch out k p n w s o
+    → Done bytes words scratch out k′ p′ n′ w′ s′ o′ → (k ≡ k′) × (p ≡ p′) × (n ≡ n′) × (w ≡ w′) × (s ≡ s′) × (o ≡ o′)
+job-once {bytes} {words} {scratch} {out} x y =
+    let count = x .count-is ∙ sym (y .count-is) in (
+      x .number-is ∙ sym (y .number-is),
+      x .place-is ∙ sym (y .place-is),
       count,
-      p .words-are ∙ sym (q .words-are),
-      p .scratch-is ∙ sym (q .scratch-is),
-      p .text-is ∙ ap (λ (k : ℕ). jobText (meaning words bytes) words ++ drop k out) count ∙ sym (q .text-is),
+      x .words-are ∙ sym (y .words-are),
+      x .scratch-is ∙ sym (y .scratch-is),
+      x .text-is ∙ ap (λ (i : ℕ). jobText (meaning words bytes) words ++ drop i out) count ∙ sym (y .text-is),
     )

@@ -28,10 +28,21 @@ jobText (Outcome.refused number place) words = refusalText number place
 jobText (Outcome.accepted ds chain ws) words =
     resultText (pick (named 4 chain) ds) (numberOf 4 (named 4 chain)) (jobWords (Outcome.accepted ds chain ws) words)
 
+-- the number and the place that the job answers: 0 and 0 of a right sheet, else those of the refusal
+abbrev pub jobNumber : Outcome → ℕ
+jobNumber (Outcome.refused number place) = number
+jobNumber (Outcome.accepted ds chain ws) = 0
+
+abbrev pub jobPlace : Outcome → ℕ
+jobPlace (Outcome.refused number place) = place
+jobPlace (Outcome.accepted ds chain ws) = 0
+
 -- the promise of the whole job: the text stands at the start of the byte buffer and bytes after it stay; it always fits
-pub record Done (bytes words₀ scratch₀ out₀ : List ℕ) (count : ℕ) (words scratch out : List ℕ) : Type 0 where
+pub record Done (bytes words₀ scratch₀ out₀ : List ℕ) (number place count : ℕ) (words scratch out : List ℕ) : Type 0 where
   pub words-are : words ≡ jobWords (meaning words₀ bytes) words₀
   pub scratch-is : scratch ≡ jobScratch (meaning words₀ bytes) scratch₀
+  pub number-is : number ≡ jobNumber (meaning words₀ bytes)
+  pub place-is : place ≡ jobPlace (meaning words₀ bytes)
   pub count-is : count ≡ length (jobText (meaning words₀ bytes) words₀)
   pub fits : count ≤ 16384
   pub text-is : out ≡ jobText (meaning words₀ bytes) words₀ ++ drop count out₀

@@ -17,20 +17,30 @@ fn run(words: &mut [u32], scratch: &mut [u32], lens: [usize; 4], swaps: &[usize]
     axes::chain(&mut words[..size], scratch, shape, swaps)
 }
 
-// Reads the sheet into `words`, runs its chain through `scratch` and leaves the text of the outcome at the start of `out`;
-// answers how many bytes it has.
+// What the job answers: its number and place, 0 and 0 where the sheet is right, and how many bytes its text has.
+pub struct Told {
+    pub number: u32,
+    pub place: usize,
+    pub count: usize,
+}
+
+// Reads the sheet into `words`, runs its chain through `scratch` and leaves the text of the outcome at the start of `out`.
 pub fn job(
     bytes: &[u8],
     words: &mut [u32; 1024],
     scratch: &mut [u32; 1024],
     out: &mut [u8; 16384],
-) -> usize
-    ensures { λ r. ⌜ Done (now (bytes .entry)) (now (words .entry)) (now (scratch .entry)) (now (out .entry)) r (now (words .exit)) (now (scratch .exit)) (now (out .exit)) ⌝ }
+) -> Told
+    ensures { λ r. ⌜ Done (now (bytes .entry)) (now (words .entry)) (now (scratch .entry)) (now (out .entry)) (r .number) (r .place) (r .count) (now (words .exit)) (now (scratch .exit)) (now (out .exit)) ⌝ }
 {
     let sheet = sheet::read(bytes, words);
     if sheet.number != 0 {
-        let told = printer::write_refusal(sheet.number, sheet.place as u32, out);
-        return told.count;
+        let line = printer::write_refusal(sheet.number, sheet.place as u32, out);
+        return Told {
+            number: sheet.number,
+            place: sheet.place,
+            count: line.count,
+        };
     }
     let lens = sheet.lens;
     let swaps = sheet.swaps;
@@ -39,5 +49,9 @@ pub fn job(
     let turned = answer.lens;
     let front = [turned[0], turned[1], turned[2], turned[3]];
     let written = printer::write(front, answer.order, words, out);
-    written.count
+    Told {
+        number: 0,
+        place: 0,
+        count: written.count,
+    }
 }

@@ -14,6 +14,7 @@ use Rattle.printer.specs.declared.Written.{Written as Below-Written}
 use Rattle.home.specs.declared.Home.{Home as Below-Home}
 use Rattle.passes.specs.declared.LineCount.{LineCount as Below-Lines}
 use Rattle.sheet.specs.declared.ResultSheet.{ResultSheet as Below-ResultSheet}
+use Rattle.exports.specs.declared.Told.{Told}
 use Rattle.exports.specs.declared.Sheet.{Sheet}
 use Rattle.exports.specs.declared.Written.{Written}
 use Rattle.exports.specs.declared.Home.{Home}
@@ -132,8 +133,8 @@ pub write-sheet-once : (κs : Lfts 2) (a : Dens κs write-sheet-kinds.ps) (r r�
     → write-sheet.Post κs a r s → write-sheet.Post κs a r′ s′ → (r ≡ r′) × (s .1 .1 .1 .0 .now ≡ s′ .1 .1 .1 .0 .now)
 write-sheet-once κs a r r′ s s′ p q = let e = prints.write-once p q in (ap as-wrote (e .0), e .1)
 
-pub job-once : (κs : Lfts 4) (a : Dens κs job-kinds.ps) (r r′ : ℕ) (s s′ : AtExit (endedOf 4 job-kinds.ps job-kinds.r) κs)
-    → job.Post κs a r s → job.Post κs a r′ s′ → (r ≡ r′) × (s .1 .0 .now ≡ s′ .1 .0 .now) × (s .1 .1 .0 .now ≡ s′ .1 .1 .0 .now) × (s .1 .1 .1 .0 .now ≡ s′ .1 .1 .1 .0 .now)
+pub job-once : (κs : Lfts 4) (a : Dens κs job-kinds.ps) (r r′ : Told) (s s′ : AtExit (endedOf 4 job-kinds.ps job-kinds.r) κs)
+    → job.Post κs a r s → job.Post κs a r′ s′ → (r .number ≡ r′ .number) × (r .place ≡ r′ .place) × (r .count ≡ r′ .count) × (s .1 .0 .now ≡ s′ .1 .0 .now) × (s .1 .1 .0 .now ≡ s′ .1 .1 .0 .now) × (s .1 .1 .1 .0 .now ≡ s′ .1 .1 .1 .0 .now)
 job-once κs a r r′ s s′ p q = jobs.job-once p q
 
 pub repeats-once : (κs : Lfts 0) (a : Dens κs repeats-kinds.ps) (r r′ : Home) (s s′ : AtExit (endedOf 0 repeats-kinds.ps repeats-kinds.r) κs)

@@ -16,6 +16,7 @@ use Rattle.sheet.specs.declared.ResultSheet.{ResultSheet}
 use Rattle.printer.specs.declared.Written.{Written}
 use Rattle.sheet.proofs.OneOutcome as sheets
 use Rattle.printer.proofs.OneOutcome as prints
+use Rattle.job.specs.declared.Told.{Told}
 use Rattle.job.proofs.OneOutcome as jobs
 use Rattle.sheet.proofs.read.Kinds as read-kinds
 use Rattle.sheet.proofs.read.Reads as read
@@ -67,7 +68,7 @@ pub write-refusal-once : (κs : Lfts 1) (a : Dens κs write-refusal-kinds.ps) (r
     → write-refusal.Post κs a r s → write-refusal.Post κs a r′ s′ → (r ≡ r′) × (s .1 .1 .0 .now ≡ s′ .1 .1 .0 .now)
 write-refusal-once κs a r r′ s s′ p q = prints.write-refusal-once p q
 
-pub job-once : (κs : Lfts 4) (a : Dens κs job-kinds.ps) (r r′ : ℕ) (s s′ : AtExit (endedOf 4 job-kinds.ps job-kinds.r) κs)
+pub job-once : (κs : Lfts 4) (a : Dens κs job-kinds.ps) (r r′ : Told) (s s′ : AtExit (endedOf 4 job-kinds.ps job-kinds.r) κs)
     → job.Post κs a r s → job.Post κs a r′ s′
-    → (r ≡ r′) × (s .1 .0 .now ≡ s′ .1 .0 .now) × (s .1 .1 .0 .now ≡ s′ .1 .1 .0 .now) × (s .1 .1 .1 .0 .now ≡ s′ .1 .1 .1 .0 .now)
+    → (r .number ≡ r′ .number) × (r .place ≡ r′ .place) × (r .count ≡ r′ .count) × (s .1 .0 .now ≡ s′ .1 .0 .now) × (s .1 .1 .0 .now ≡ s′ .1 .1 .0 .now) × (s .1 .1 .1 .0 .now ≡ s′ .1 .1 .1 .0 .now)
 job-once κs a r r′ s s′ p q = jobs.job-once p q

@@ -60,7 +60,8 @@ fn main() {
         return;
     }
     let count = input.count;
-    let length = job::job(&bytes[..count], &mut words, &mut scratch, &mut out);
+    let told = job::job(&bytes[..count], &mut words, &mut scratch, &mut out);
+    let length = told.count;
     let written = io::write_all(STDOUT_FILENO, &out[..length]);
     if !written {
         os::fail(b"write");

@@ -19,7 +19,7 @@ slice-aggregate-write-all : tie.Need-slice-aggregate-write-all
 slice-aggregate-write-all c =
     let r : tie.After-job = search in
     let j = r .job in
-    sym (length-take-le (j .result) (j .last .1 .1 .1 .0) (text-inside (j .ensures)))
+    sym (length-take-le (j .result .count) (j .last .1 .1 .1 .0) (text-inside (j .ensures)))
 
 pub main-spec : {M : Type 1} → statement M
 main-spec =

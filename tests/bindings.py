@@ -1,0 +1,132 @@
+"""The Python binding compared with what plain Python computes: prints how many comparisons held, and stops at the first that does not."""
+import doctest
+import itertools
+import pathlib
+import random
+import sys
+from array import array
+
+sys.path.insert(0, str(pathlib.Path(__file__).parent.parent / "bindings" / "python"))
+import zibsnarda  # noqa: E402
+
+held = 0
+
+
+def expect(holds, says):
+    global held
+    if not holds:
+        sys.exit(f"does not hold: {says}")
+    held += 1
+
+
+def refusal(call, *arguments):
+    try:
+        call(*arguments)
+    except zibsnarda.Refused as refused:
+        return refused.number, refused.place
+    return 0, 0
+
+
+def words(count):
+    return array("I", random.sample(range(1 << 32), count))
+
+
+def laid(block, lengths, order):
+    """The block with its axes in another order, by coordinates."""
+    strides = [1] * len(lengths)
+    for k in reversed(range(len(lengths) - 1)):
+        strides[k] = strides[k + 1] * lengths[k + 1]
+    places = itertools.product(*(range(lengths[axis]) for axis in order))
+    return [block[sum(p * strides[axis] for p, axis in zip(place, order))] for place in places]
+
+
+def flat_turns():
+    for m, n in itertools.product(range(1, 9), range(1, 9)):
+        block, turned = words(m * n), None
+        turned = laid(block, [m, n], [1, 0])
+        for call in (zibsnarda.turn, lambda b, s, m, n: zibsnarda.turn_halves(b, m, n)):
+            lent, scratch = array("I", block), array("I", [7] * (max(m, n) + 1))
+            call(lent, scratch, m, n)
+            expect(list(lent) == turned, f"the turn of {m} by {n}")
+        zibsnarda.turn_back(lent, scratch, m, n)
+        expect(lent == block and list(scratch) == [0] * max(m, n) + [7], f"the way back of {m} by {n}")
+        done = 0
+        while done < zibsnarda.lines(m, n):
+            done = zibsnarda.tick(lent, scratch, done, m, n)
+        expect(list(lent) == turned, f"the turn of {m} by {n}, a line a call")
+        expect(refusal(zibsnarda.turn, lent, array("I", [0] * (max(m, n) - 1)), m, n) == (4, 0), "short scratch")
+        expect(refusal(zibsnarda.turn, memoryview(lent)[1:], scratch, m, n) == (3, 0), "a short buffer")
+
+
+def orders():
+    for lengths in ([2, 3, 4, 5], [3, 1, 2, 6], [1, 1, 1, 1]):
+        for number, order in enumerate(itertools.permutations(range(4))):
+            block = words(lengths[0] * lengths[1] * lengths[2] * lengths[3])
+            expected = laid(block, lengths, order)
+            lent, scratch = array("I", block), array("I", [0] * max(lengths))
+            moved = zibsnarda.request(lent, scratch, lengths, 1, number)
+            expect(list(lent) == expected and moved.lengths == [lengths[k] for k in order], f"order {number} of {lengths}")
+            lent = array("I", block)
+            moved = zibsnarda.chain(lent, scratch, lengths, zibsnarda.plan(number))
+            expect(list(lent) == expected and moved.order == number, f"the plan of order {number} of {lengths}")
+    expect(refusal(zibsnarda.chain, lent, scratch, lengths, [0, 3]) == (6, 1), "a bad swap")
+    expect(refusal(zibsnarda.plan, 24) == (7, 0), "a bad order number")
+
+
+def five_axes():
+    lengths = [2, 3, 1, 4, 2]
+    for number, order in enumerate(itertools.permutations(range(5))):
+        block = words(48)
+        expected = laid(block, lengths, order)
+        lent, scratch = array("I", block), array("I", [0] * 4)
+        moved = zibsnarda.request5(lent, scratch, lengths, 1, number)
+        expect(list(lent) == expected and moved.lengths == [lengths[k] for k in order], f"order {number} of {lengths}")
+        lent = array("I", block)
+        expect(zibsnarda.chain5(lent, scratch, lengths, zibsnarda.plan5(number)).order == number and list(lent) == expected, f"plan {number}")
+
+
+def stopped_turns():
+    for m, n in ((4, 6), (7, 5)):
+        block = words(m * n)
+        lent, scratch, progress = array("I", block), array("I", [0] * max(m, n)), array("I", [0])
+        while progress[0] < 2 * zibsnarda.lines(m, n) + 1:
+            zibsnarda.resume(lent, scratch, progress, m, n, random.randrange(40))
+        expect(list(lent) == laid(block, [m, n], [1, 0]), f"the stopped turn of {m} by {n}")
+
+
+def sheets():
+    text = b"shape\t1\t1\t2\t3\nchain\t2\nrow\t1\t2\t3\nrow\t4\t5\t6\n"
+    lent, scratch, out = array("I", [0] * 1024), array("I", [0] * 1024), bytearray(16384)
+    done = zibsnarda.job(text, lent, scratch, out)
+    expect(out[: done.bytes] == b"shape\t1\t1\t3\t2\norder\t1\nrow\t1\t4\nrow\t2\t5\nrow\t3\t6\n" and done.refused is None, "the job")
+    expect(zibsnarda.read_result(out[: done.bytes], lent) == ([1, 1, 3, 2], 0, 1), "its result read back")
+    done = zibsnarda.job(text[:-1], lent, scratch, out)
+    expect((done.refused.number, done.refused.place) == (10, 4), "a line without its end")
+    expect(out[: done.bytes] == b"refused\t10\t4\n", "its text")
+
+
+def memory():
+    block = words(6)
+    for buffer, scratch in ((block, block), (block, memoryview(block)[2:5])):
+        try:
+            zibsnarda.turn(buffer, scratch, 2, 3)
+        except ValueError:
+            expect(True, "")
+        else:
+            expect(False, "buffers that overlap are taken")
+    for buffer in (array("H", [0] * 6), bytes(24), memoryview(words(12))[::2]):
+        try:
+            zibsnarda.turn(buffer, array("I", [0] * 3), 2, 3)
+        except TypeError:
+            expect(True, "")
+        else:
+            expect(False, f"{buffer} is taken")
+
+
+random.seed(1)
+failed, tried = doctest.testmod(zibsnarda)
+expect(failed == 0 and tried > 0, "an example in the documentation")
+held += tried - 1
+for group in (flat_turns, orders, five_axes, stopped_turns, sheets, memory):
+    group()
+print(held)
