@@ -33,15 +33,6 @@ filled-more {to} {word} {count} {k} {before} {now} apart h inside f = record {
   others = λ p g. getD-set-other now (to k) p (word k) 0 (λ e. g k (omega arith) (sym e)) ∙ f .others p (λ j l. g j (omega arith));
 }
 
--- the same stores by other names of their places and words
-pub filled-as : {to word to′ word′ : ℕ → ℕ} {count : ℕ} {xs ys : List ℕ} → ((k : ℕ) → k < count → to k ≡ to′ k) → ((k : ℕ) → k < count → word k ≡ word′ k)
-    → Filled to′ word′ count xs ys → Filled to word count xs ys
-filled-as {ys = ys} to-is word-is f = record {
-  same = f .same;
-  placed = λ k h. ap (λ (z : ℕ). getD ys z 0) (to-is k h) ∙ f .placed k h ∙ sym (word-is k h);
-  others = λ p h. f .others p (λ k l e. h k l (to-is k l ∙ e));
-}
-
 -- the same loop from the last word down to word k
 pub record FilledFrom (to word : ℕ → ℕ) (k count : ℕ) (before after : List ℕ) : Type 0 where
   pub same : length after ≡ length before

@@ -3,26 +3,19 @@ use mathlib.Core.Path.{_≡_, refl, sym, ap, _∙_, subst}
 use mathlib.Core.Bool.{Bool, true, false, cond, _&&_, true≢false}
 use mathlib.Core.List.{List}
 use mathlib.Core.Logic.{⊎-elim}
-use Prim.Native.Nat.{ℕ, _<_, _≤_}
+use Prim.Native.Nat.{ℕ, _<_}
 use native.Mathlib.Omega.{arith}
 use lib.Dec.{eqb}
-use lib.ListN.{length, getD}
+use lib.ListN.{getD}
 use borrow.Author.Tests.{eq-eqb, ne-eqb, eqb-true, eqb-false}
 use Rattle.lists.proofs.Decide.{eq-or-ne}
 use Rattle.flat.specs.Passes.{row1, column2, source2, row3}
 use Rattle.flat.proofs.Sides.{Sides}
 use Rattle.flat.proofs.Passes.{source-is}
 use Rattle.passes.specs.Lines.{Moved, LineMoved, posOn, paired, received, toPlace, fromPlace}
-use Rattle.passes.specs.ThroughScratch.{OfPass, Inside, taken, Filled, Lifted, Fits, Past, scratchLine}
+use Rattle.passes.specs.ThroughScratch.{OfPass, taken, Filled, Lifted, Fits, Past}
 use Rattle.passes.specs.declared.line.Line.{Line}
 use Rattle.passes.proofs.Filled.{all-lifted}
-
--- scratch as a line: its places lie in it, and each is where it says
-pub scratch-inside : (held : List ℕ) {count : ℕ} → count ≤ length held → Inside (scratchLine count) count held
-scratch-inside held h k d = omega arith
-
-pub scratch-place : (held : List ℕ) (count k : ℕ) → getD held k 0 ≡ getD held (posOn (scratchLine count) k) 0
-scratch-place held count k = ap (λ (z : ℕ). getD held z 0) (omega arith)
 
 -- the test of the pass decided, in what holds of the places that a line's words go to and come from
 decided : (F : (ℕ → ℕ) → (ℕ → ℕ) → Type 0) (p : ℕ → ℕ) {t b : Bool} → t ≡ b

@@ -79,10 +79,6 @@ pub record Follows (w : Walk) (count : ℕ) (f : ℕ → ℕ) : Type 0 where
 abbrev pub Inside : Line → ℕ → List ℕ → Type 0
 Inside l count xs = (k : ℕ) → k < count → posOn l k < length xs
 
--- scratch as a line
-abbrev pub scratchLine : ℕ → Line
-scratchLine count = record { pass = 0; index = 0; start = 0; stride = 1; count = count }
-
 -- the first `size` places of a group that starts at `place` can be walked: they are those of the line from `from` on, the line lies in the buffer, and
 -- scratch has room for it
 pub record GroupFits (l : Line) (w : Walk) (from place size : ℕ) (xs scratch : List ℕ) : Type 0 where

@@ -9,30 +9,29 @@ ghost use mathlib.Core.Path.{_≡_};
 ghost use Prim.Native.Nat.{ℕ, _+_, _<_, _≤_};
 ghost use lib.ListN.{length, getD};
 ghost use Rattle.passes.specs.Lines.{paired, posOn, LineMoved};
-ghost use Rattle.passes.specs.ThroughScratch.{Grouped, Inside, GroupFits, stands, scratchLine, Fits, Filled, Past};
+ghost use Rattle.passes.specs.ThroughScratch.{Grouped, Inside, GroupFits, stands, Fits, Filled, Past};
 
-// Scratch as a line.
-pub(crate) fn in_scratch(count: usize) -> Line
-    ensures { λ r. ⌜ r ≡ scratchLine count ⌝ }
+// Scratch receives the line as it stands, the last word first.
+fn hold(buf: &[u32], scratch: &mut [u32], l: Line)
+    requires { ⌜ Inside l (l .count) (now buf) × (l .count ≤ length (now scratch)) ⌝ }
+    ensures { λ _. ⌜ Filled (λ k. k) (λ k. getD (now (buf .entry)) (posOn l k) 0) (l .count) (now (scratch .entry)) (now (scratch .exit)) ⌝ }
 {
-    Line {
-        pass: 0,
-        index: 0,
-        start: 0,
-        stride: 1,
-        count,
+    let mut k = l.count;
+    while 0 < k {
+        k -= 1;
+        scratch[k] = buf[l.start + l.stride * k];
     }
 }
 
-// The first `count` places of one line receive those of another, the last first.
-pub(crate) fn copy_down(src: &[u32], dst: &mut [u32], from: Line, to: Line, count: usize)
-    requires { ⌜ Inside from count (now src) × Inside to count (now dst) × (0 < to .stride) ⌝ }
-    ensures { λ _. ⌜ Filled (posOn to) (λ k. getD (now (src .entry)) (posOn from k) 0) count (now (dst .entry)) (now (dst .exit)) ⌝ }
+// The line receives the words of scratch, the last first.
+pub(crate) fn put_down(buf: &mut [u32], scratch: &[u32], l: Line)
+    requires { ⌜ Inside l (l .count) (now buf) × (l .count ≤ length (now scratch)) × (0 < l .stride) ⌝ }
+    ensures { λ _. ⌜ Filled (posOn l) (λ k. getD (now (scratch .entry)) k 0) (l .count) (now (buf .entry)) (now (buf .exit)) ⌝ }
 {
-    let mut k = count;
+    let mut k = l.count;
     while 0 < k {
         k -= 1;
-        dst[to.start + to.stride * k] = src[from.start + from.stride * k];
+        buf[l.start + l.stride * k] = scratch[k];
     }
 }
 
@@ -93,7 +92,6 @@ pub(crate) fn forth(buf: &mut [u32], scratch: &mut [u32], s: GroupedSides, l: Li
         line::put_back(buf, scratch, l, l.count);
         return;
     }
-    let held = in_scratch(l.count);
-    copy_down(buf, scratch, l, held, l.count);
+    hold(buf, scratch, l);
     give(buf, scratch, s, l);
 }

@@ -238,6 +238,5 @@ pub(crate) fn back(buf: &mut [u32], scratch: &mut [u32], s: GroupedSides, l: Lin
     ensures { λ _. ⌜ LineMoved (s .m) (s .n) l (now (buf .exit)) (now (buf .entry)) × Past (l .count) (now (scratch .entry)) (now (scratch .exit)) ⌝ }
 {
     lift_home(buf, scratch, s, l);
-    let held = column::in_scratch(l.count);
-    column::copy_down(scratch, buf, held, l, l.count);
+    column::put_down(buf, scratch, l);
 }

@@ -3,7 +3,7 @@ use crate::line::GroupedSides;
 use crate::line::Line;
 ghost use mathlib.Core.Bool.{cond, _&&_};
 ghost use mathlib.Core.Path.{_≡_};
-ghost use Prim.Native.Nat.{ℕ, _+_, _%_, _<_, _≤_};
+ghost use Prim.Native.Nat.{ℕ, _+_, _/_, _%_, _<_, _≤_};
 ghost use lib.Dec.{eqb};
 ghost use Rattle.flat.specs.Passes.{row1, column2, row3};
 ghost use Rattle.passes.specs.Lines.{paired};
@@ -54,6 +54,28 @@ pub(crate) fn straight(w: Walk) -> bool
     w.groups == 1
 }
 
+// x modulo y, without a division where x is below y.
+fn modulo(x: usize, y: usize) -> usize
+    requires { ⌜ 0 < y ⌝ }
+    ensures { λ r. ⌜ r ≡ x % y ⌝ }
+{
+    if x < y {
+        return x;
+    }
+    x % y
+}
+
+// x by y, rounded down, without a division where y is 1.
+fn quotient(x: usize, y: usize) -> usize
+    requires { ⌜ 0 < y ⌝ }
+    ensures { λ r. ⌜ r ≡ x / y ⌝ }
+{
+    if y == 1 {
+        return x;
+    }
+    x / y
+}
+
 // A walk in one group, over as many places as its modulus.
 pub(crate) fn one_group(first: usize, step: usize, modulus: usize) -> Walk
     ensures { λ r. ⌜ r ≡ alone first step modulus ⌝ }
@@ -74,7 +96,7 @@ fn row_walk(s: GroupedSides, i: usize) -> Walk
     requires { ⌜ Grouped s × (i < s .m) ⌝ }
     ensures { λ r. ⌜ Follows r (s .n) (λ k. column2 (s .m) (s .n) i k) ⌝ }
 {
-    let first = i % s.n;
+    let first = modulo(i, s.n);
     if s.b == 1 {
         return one_group(first, 1, s.n);
     }
@@ -94,7 +116,7 @@ fn column_walk(s: GroupedSides, j: usize) -> Walk
     requires { ⌜ Grouped s ⌝ }
     ensures { λ r. ⌜ Follows r (s .m) (λ k. row3 (s .m) (s .n) k j) ⌝ }
 {
-    let first = j % s.m;
+    let first = modulo(j, s.m);
     if s.a == 1 {
         return one_group(first, s.m - 1, s.m);
     }
@@ -115,7 +137,8 @@ pub(crate) fn walk_of(s: GroupedSides, l: Line) -> Walk
     ensures { λ r. ⌜ Follows r (l .count) (paired (s .m) (s .n) (l .pass) (l .index)) ⌝ }
 {
     if l.pass == 1 {
-        return one_group(l.index / s.b, 1, s.m);
+        let first = quotient(l.index, s.b);
+        return one_group(first, 1, s.m);
     }
     if l.pass == 2 {
         return row_walk(s, l.index);

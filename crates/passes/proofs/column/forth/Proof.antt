@@ -1,27 +1,19 @@
 -- `forth` meets its contract: a row goes through scratch; a column stands in scratch as it stood, and each place receives the word of the place
 -- that it is paired with.
-use mathlib.Core.Path.{refl}
 use native.Mathlib.Omega.{arith}
 use borrow.Author.Needs.{needs}
 use Rattle.flat.proofs.Sides.{sides-are}
-use Rattle.passes.proofs.Filled.{filled-as}
-use Rattle.passes.proofs.Lifted.{moved-swept, moved-scattered, scratch-inside}
+use Rattle.passes.proofs.Lifted.{moved-swept, moved-scattered}
 use Rattle.passes.proofs.column.forth.Statement.{statement}
 use Rattle.passes.proofs.column.forth.Tie as tie
 
-copy-down-requires : tie.Need-copy-down-requires
-copy-down-requires c κs =
-    let h : tie.After-in-scratch = search in
-    let x : tie.Start = search in
-    (x .pre .1 .inside, rw (h .in-scratch .ensures) (scratch-inside (x .args .scratch .now) (x .pre .1 .room)), rw (h .in-scratch .ensures) (omega arith))
-
 give-requires : tie.Need-give-requires
 give-requires c κs =
-    let p : tie.After-copy-down = search in
+    let p : tie.After-hold = search in
     let x : tie.Start = search in
     let f = x .pre .1 in (
       x .pre .0,
-      record { of-pass = f .of-pass; inside = f .inside; step = f .step; room = omega (arith, f .room, p .copy-down .ensures .same); within = f .within; apart = f .apart },
+      record { of-pass = f .of-pass; inside = f .inside; step = f .step; room = omega (arith, f .room, p .hold .ensures .same); within = f .within; apart = f .apart },
     )
 
 returns : tie.Need-returns
@@ -35,12 +27,11 @@ returns c =
 returns-2 : tie.Need-returns-2
 returns-2 c =
     let g : tie.After-give = search in
-    let p : tie.After-copy-down = search in
-    let h : tie.After-in-scratch = search in
+    let p : tie.After-hold = search in
     let t : tie.Else1 = search in
     let x : tie.Start = search in
     moved-swept (x .pre .1) (sides-are (x .args .s .m) (x .args .s .n) (x .pre .0 .m-pos) (x .pre .0 .n-pos)) (t .if1 .left)
-    (filled-as (λ k d. omega arith) (λ k d. refl) (rw (h .in-scratch .ensures) at (p .copy-down .ensures))) (g .give .ensures)
+    (p .hold .ensures) (g .give .ensures)
 
 pub forth-spec : {M : Type 1} → statement M
 forth-spec =
@@ -52,7 +43,6 @@ forth-spec =
     (search needs)
     returns
     (λ c κs. search needs)
-    copy-down-requires
     give-requires
     (search needs)
     (search needs)

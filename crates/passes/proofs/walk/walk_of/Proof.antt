@@ -14,7 +14,8 @@ returns : tie.Need-returns
 returns c =
     let t : tie.Then1 = search in
     let x : tie.Start = search in
-    walk-1 _ _ (x .args .l) (x .pre .1) (t .if1 .taken) (λ h. rw (c .one-group .ensures) (turn-follows (x .pre .0) _ h))
+    let q : tie.After-quotient = search in
+    walk-1 _ _ (x .args .l) (x .pre .1) (t .if1 .taken) (λ h. rw (c .one-group .ensures, q .quotient .ensures) (turn-follows (x .pre .0) _ h))
 
 row-walk-requires : tie.Need-row-walk-requires
 row-walk-requires c κs = let x : tie.Start = search in (x .pre .0, rw (c .if2 .taken) at (x .pre .1 .1))
@@ -33,4 +34,4 @@ returns-3 c =
     walk-3 _ _ (x .args .l) (x .pre .1) (e .if1 .left) (f .if2 .left) (c .column-walk .ensures)
 
 pub walk-of-spec : {M : Type 1} → statement M
-walk-of-spec = tie.close (tie.spec (λ c. columns (search)) (λ c κs. search needs) returns row-walk-requires returns-2 (λ c κs. search needs) returns-3)
+walk-of-spec = tie.close (tie.spec (λ c κs. columns (search)) (λ c κs. search needs) returns row-walk-requires returns-2 (λ c κs. search needs) returns-3)
