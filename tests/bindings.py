@@ -114,6 +114,12 @@ def memory():
             expect(True, "")
         else:
             expect(False, "buffers that overlap are taken")
+    try:
+        zibsnarda.turn(memoryview(bytearray(29))[1:25].cast("I"), array("I", [0] * 3), 2, 3)
+    except ValueError:
+        expect(True, "")
+    else:
+        expect(False, "a buffer that is not aligned is taken")
     for buffer in (array("H", [0] * 6), bytes(24), memoryview(words(12))[::2]):
         try:
             zibsnarda.turn(buffer, array("I", [0] * 3), 2, 3)

@@ -5,8 +5,8 @@ readings are 64-bit and signed ("q", int64), text is bytes or a bytearray. Nothi
 may be any sequence of numbers, or bytes.
 
 A refused call raises Refused, with the number, the place, the name in C and a sentence, and has changed nothing. What the proof assumes and
-Python does not guarantee is tested before each call: items of the right size, memory in one piece, and buffers apart from one another
-(TypeError, ValueError). That nobody else writes to them meanwhile is left to the caller.
+Python does not guarantee is tested before each call: items of the right size, memory in one piece and aligned, and buffers apart from one
+another (TypeError, ValueError). That nobody else writes to them meanwhile is left to the caller.
 
 The library is the shared one that install.sh made, found by the system's loader or named by ZIBSNARDA_LIBRARY.
 
@@ -108,7 +108,10 @@ def _lent(items, kind, fixed=None):
     count = view.nbytes // size
     if count == 0:
         return (kind * 1)(), 0
-    return ((kind * count).from_buffer_copy(items) if view.readonly else (kind * count).from_buffer(items)), count
+    lent = (kind * count).from_buffer_copy(items) if view.readonly else (kind * count).from_buffer(items)
+    if ctypes.addressof(lent) % size:
+        raise ValueError(f"the buffer must begin at a multiple of {size} bytes")
+    return lent, count
 
 
 def _written(items, kind, fixed=None):
