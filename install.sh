@@ -7,7 +7,7 @@ set -eu
 uninstall=
 [ "${1:-}" != --uninstall ] || { uninstall=yes; shift; }
 prefix=${1:-/usr/local}
-header=include/zibsnarda.h archive=lib/libzibsnarda.a pc=lib/pkgconfig/zibsnarda.pc shared=lib/libzibsnarda.so program=bin/turn
+header=include/zibsnarda.h archive=lib/libzibsnarda.a pc=lib/pkgconfig/zibsnarda.pc shared=lib/libzibsnarda-python.so program=bin/turn
 manual=share/man/man1/turn.1
 
 if [ -n "$uninstall" ]; then
@@ -33,9 +33,10 @@ version=$(sed -n 's/^#define ZIB_VERSION "\(.*\)"$/\1/p' include/zibsnarda.h)
 sed -e "s|@PREFIX@|$prefix|" -e "s|@VERSION@|$version|" share/zibsnarda.pc >target/zibsnarda.pc
 put 644 include/zibsnarda.h "$header"
 put 644 target/staticlib/libexports.a "$archive"
+# under a name of its own, so that -lzibsnarda is the archive
 if [ "$(uname -m)" = x86_64 ] && command -v cc >/dev/null 2>&1; then
-    cc -shared -Wl,--whole-archive target/staticlib/libexports.a -Wl,--no-whole-archive -o target/libzibsnarda.so
-    put 755 target/libzibsnarda.so "$shared"
+    cc -shared -Wl,--whole-archive target/staticlib/libexports.a -Wl,--no-whole-archive -o target/libzibsnarda-python.so
+    put 755 target/libzibsnarda-python.so "$shared"
 else
     echo "no C compiler for x86-64: $prefix/$shared, which Python loads, is not made"
 fi

@@ -85,7 +85,7 @@ _Pair = _struct("Pair", number=c_uint32, first=c_int64, second=c_int64)
 _Frames = _struct("Frames", number=c_uint32, frames=c_int64)
 _Part = _struct("Part", readings=POINTER(c_int64), count=c_size_t)
 
-_library = ctypes.CDLL(os.environ.get("ZIBSNARDA_LIBRARY", "libzibsnarda.so"))
+_library = ctypes.CDLL(os.environ.get("ZIBSNARDA_LIBRARY", "libzibsnarda-python.so"))
 
 
 def _call(name, answer, *arguments):
