@@ -20,15 +20,16 @@
 /* Under valgrind no byte outside the lent ones may be touched, on either side; see tests/sanitised. */
 #ifdef WATCHED
 #include <valgrind/memcheck.h>
-#define CLOSE_ROOM(k) VALGRIND_MAKE_MEM_NOACCESS(buffers[k].room, ROOM)
-#define OPEN_LENT(k) VALGRIND_MAKE_MEM_UNDEFINED(buffers[k].at, buffers[k].bytes)
+#define CLOSE(from, bytes) VALGRIND_MAKE_MEM_NOACCESS(from, bytes)
+#define OPEN(from, bytes) VALGRIND_MAKE_MEM_UNDEFINED(from, bytes)
 #else
-#define CLOSE_ROOM(k) (void)(k)
-#define OPEN_LENT(k) (void)(k)
+#define CLOSE(from, bytes) ((void)(from), (void)(bytes))
+#define OPEN(from, bytes) ((void)(from), (void)(bytes))
 #endif
 
 enum { MOST_BUFFERS = 4, MOST_NUMBERS = 64 };
 enum { ROOM = 5 << 20 }; /* the largest block is 4 MiB; a tail comes on top */
+enum { PIECE = 1 << 14 };
 
 enum {
     TURN = 1,
@@ -84,8 +85,15 @@ static void fail(const char *why) {
     exit(2);
 }
 
+/* Reads in pieces: a pipe hands over a little at a time, and valgrind looks at all that is asked for each time. */
 static void get(void *to, size_t bytes) {
-    if (bytes != 0 && fread(to, 1, bytes, stdin) != bytes) fail("a request ends early");
+    unsigned char *at = to;
+    while (bytes != 0) {
+        size_t piece = bytes < PIECE ? bytes : PIECE;
+        if (fread(at, 1, piece, stdin) != piece) fail("a request ends early");
+        at += piece;
+        bytes -= piece;
+    }
 }
 
 static void put(const void *from, size_t bytes) {
@@ -211,6 +219,7 @@ static void make_rooms(void) {
         if (all == MAP_FAILED) fail("no memory");
         buffers[k].room = all + page;
         if (mprotect(buffers[k].room, ROOM, PROT_READ | PROT_WRITE) != 0) fail("mprotect");
+        CLOSE(buffers[k].room, ROOM);
     }
 }
 
@@ -226,8 +235,7 @@ static void read_request(uint64_t side) {
         buffers[k].writable = get_number();
         if (buffers[k].bytes > ROOM) fail("a buffer is too large");
         buffers[k].at = side == 0 ? buffers[k].room + ROOM - buffers[k].bytes : buffers[k].room;
-        CLOSE_ROOM(k);
-        OPEN_LENT(k);
+        OPEN(buffers[k].at, buffers[k].bytes);
     }
     for (uint64_t k = 0; k < count; k++) get(buffers[k].at, buffers[k].bytes);
 }
@@ -357,7 +365,10 @@ int main(void) {
         protect(PROT_READ | PROT_WRITE);
         put(&answered, sizeof answered);
         put(answer, answered * sizeof answer[0]);
-        for (int k = 0; k < MOST_BUFFERS; k++) put(buffers[k].at, buffers[k].bytes);
+        for (int k = 0; k < MOST_BUFFERS; k++) {
+            put(buffers[k].at, buffers[k].bytes);
+            CLOSE(buffers[k].at, buffers[k].bytes);
+        }
         if (fflush(stdout) != 0) fail("cannot write");
     }
     return 0;
