@@ -15,7 +15,7 @@ use Rattle.orbits.specs.Orbit.{first}
 use Rattle.orbits.proofs.First.{first-holds, first-least}
 use Rattle.stages.proofs.Filled.{filled, length-filled, filled-at, filled-others}
 use Rattle.passes.specs.Lines.{posOn}
-use Rattle.passes.specs.ThroughScratch.{Apart, Filled, Lifted}
+use Rattle.passes.specs.ThroughScratch.{Apart, Inside, Filled, Lifted}
 use Rattle.passes.specs.declared.line.Line.{Line}
 
 pub filled-none : (to word : ℕ → ℕ) (xs : List ℕ) → Filled to word 0 xs xs
@@ -63,6 +63,18 @@ line-apart start stride count h i j _ _ e = eq-of-mul-eq-mul-left stride h i j (
 
 pub part-apart : (start stride from count : ℕ) → 0 < stride → Apart (λ j. start + stride * (from + j)) count
 part-apart start stride from count h i j _ _ e = let q = eq-of-mul-eq-mul-left stride h (from + i) (from + j) (omega arith) in omega arith
+
+-- the places of a row are side by side: that they lie in the buffer, that they are copied, that they receive words
+pub inside-row : {count : ℕ} (xs : List ℕ) (l : Line) → l .stride ≡ 1 → Inside l count xs → (k : ℕ) → k < count → l .start + 1 * k < length xs
+inside-row xs l e h k below = subst (λ (s : ℕ). l .start + s * k < length xs) e (h k below)
+
+pub row-copied : {to : ℕ → ℕ} {size : ℕ} {ys zs : List ℕ} (xs : List ℕ) (l : Line) (from : ℕ) → l .stride ≡ 1
+    → Filled to (λ t. getD xs (l .start + 1 * (from + t)) 0) size ys zs → Filled to (λ t. getD xs (posOn l (from + t)) 0) size ys zs
+row-copied {to} {size} {ys} {zs} xs l from e = subst (λ (s : ℕ). Filled to (λ t. getD xs (l .start + s * (from + t)) 0) size ys zs) (sym e)
+
+pub row-put : {word : ℕ → ℕ} {size : ℕ} {ys zs : List ℕ} (l : Line) → l .stride ≡ 1
+    → Filled (λ k. l .start + 1 * k) word size ys zs → Filled (posOn l) word size ys zs
+row-put {word} {size} {ys} {zs} l e = subst (λ (s : ℕ). Filled (λ k. l .start + s * k) word size ys zs) (sym e)
 
 -- two outcomes of such a loop are one, and that is the list stored into one word after the other
 pub one-filled : {to word : ℕ → ℕ} {count : ℕ} {xs ys zs : List ℕ} → Filled to word count xs ys → Filled to word count xs zs → ys ≡ zs

@@ -5,7 +5,7 @@ use crate::walk;
 use crate::walk::Walk;
 ghost use mathlib.Core.Bool.{_&&_};
 ghost use mathlib.Core.Path.{_≡_};
-ghost use Prim.Native.Nat.{ℕ, _+_, _<_, _≤_};
+ghost use Prim.Native.Nat.{ℕ, _+_, _*_, _<_, _≤_};
 ghost use lib.Dec.{eqb};
 ghost use lib.ListN.{length, getD};
 ghost use Rattle.flat.specs.Passes.{source2};
@@ -35,16 +35,35 @@ pub(crate) struct Line {
     pub count: usize,
 }
 
-// Scratch receives, from place `to` on, the words of the line from place `from` on.
+// Scratch receives, from place `to` on, the words that stand `stride` apart, from the one numbered `from` on.
+fn copy_words(
+    buf: &[u32],
+    scratch: &mut [u32],
+    start: usize,
+    stride: usize,
+    from: usize,
+    to: usize,
+    size: usize,
+)
+    requires { ⌜ ((k : ℕ) → k < from + size → start + stride * k < length (now buf)) × (from + size ≤ length (now scratch)) × (to + size ≤ length (now scratch)) ⌝ }
+    ensures { λ _. ⌜ Filled (λ t. to + t) (λ t. getD (now (buf .entry)) (start + stride * (from + t)) 0) size (now (scratch .entry)) (now (scratch .exit)) ⌝ }
+{
+    for t in 0..size {
+        scratch[to + t] = buf[start + stride * (from + t)];
+    }
+}
+
+// Scratch receives, from place `to` on, the words of the line from place `from` on. A row's words stand side by side, and a loop that knows it is
+// compiled to one move.
 fn copy_run(buf: &[u32], scratch: &mut [u32], l: Line, from: usize, to: usize, size: usize)
     requires { ⌜ Inside l (from + size) (now buf) × (from + size ≤ length (now scratch)) × (to + size ≤ length (now scratch)) ⌝ }
     ensures { λ _. ⌜ Filled (λ t. to + t) (λ t. getD (now (buf .entry)) (posOn l (from + t)) 0) size (now (scratch .entry)) (now (scratch .exit)) ⌝ }
 {
-    let start = l.start;
-    let stride = l.stride;
-    for t in 0..size {
-        scratch[to + t] = buf[start + stride * (from + t)];
+    if l.stride == 1 {
+        copy_words(buf, scratch, l.start, 1, from, to, size);
+        return;
     }
+    copy_words(buf, scratch, l.start, l.stride, from, to, size);
 }
 
 // Scratch receives, from place `from` on, the first `size` words of a group that starts at `place`.
@@ -170,16 +189,26 @@ pub(crate) fn scatter(buf: &[u32], scratch: &mut [u32], s: GroupedSides, l: Line
     }
 }
 
-// The first `until` words of scratch go back to the line.
+// The words that stand `stride` apart receive the first `until` words of scratch.
+fn put_words(buf: &mut [u32], scratch: &[u32], start: usize, stride: usize, until: usize)
+    requires { ⌜ ((k : ℕ) → k < until → start + stride * k < length (now buf)) × (0 < stride) × (until ≤ length (now scratch)) ⌝ }
+    ensures { λ _. ⌜ Filled (λ k. start + stride * k) (λ k. getD (now (scratch .entry)) k 0) until (now (buf .entry)) (now (buf .exit)) ⌝ }
+{
+    for k in 0..until {
+        buf[start + stride * k] = scratch[k];
+    }
+}
+
+// The first `until` words of scratch go back to the line, to a row in one move.
 pub(crate) fn put_back(buf: &mut [u32], scratch: &[u32], l: Line, until: usize)
     requires { ⌜ Inside l until (now buf) × (0 < l .stride) × (until ≤ length (now scratch)) ⌝ }
     ensures { λ _. ⌜ Filled (posOn l) (λ k. getD (now (scratch .entry)) k 0) until (now (buf .entry)) (now (buf .exit)) ⌝ }
 {
-    let start = l.start;
-    let stride = l.stride;
-    for k in 0..until {
-        buf[start + stride * k] = scratch[k];
+    if l.stride == 1 {
+        put_words(buf, scratch, l.start, 1, until);
+        return;
     }
+    put_words(buf, scratch, l.start, l.stride, until);
 }
 
 // Whether a line is gathered from its sources: forwards in pass 2.
@@ -232,11 +261,15 @@ pub(crate) fn forth(buf: &mut [u32], scratch: &mut [u32], s: GroupedSides, l: Li
     put_back(buf, scratch, l, l.count);
 }
 
-// The line moves back to where its pass found it.
+// The line moves back to where its pass found it: a row in one move, a column the last word first, which is what the cache still holds.
 pub(crate) fn back(buf: &mut [u32], scratch: &mut [u32], s: GroupedSides, l: Line)
     requires { ⌜ Grouped s × Fits (s .m) (s .n) l (now buf) (now scratch) ⌝ }
     ensures { λ _. ⌜ LineMoved (s .m) (s .n) l (now (buf .exit)) (now (buf .entry)) × Past (l .count) (now (scratch .entry)) (now (scratch .exit)) ⌝ }
 {
     lift_home(buf, scratch, s, l);
+    if l.pass == 2 {
+        put_back(buf, scratch, l, l.count);
+        return;
+    }
     column::put_down(buf, scratch, l);
 }

@@ -1,56 +1,21 @@
--- `copy_run` meets its contract: the words of the run are stored one after the other.
-use mathlib.Core.Path.{_≡_}
-use Prim.Native.Nat.{ℕ, _+_, _*_, _-_, _<_, _≤_}
-use native.Mathlib.Omega.{arith}
+-- `copy_run` meets its contract: either way the words are copied with the line's own stride, which for a row is 1.
 use borrow.Author.Needs.{needs}
-use lib.ListN.{length, getD}
-use Rattle.passes.specs.Lines.{posOn}
-use Rattle.passes.specs.ThroughScratch.{Filled}
-use Rattle.passes.proofs.Filled.{filled-none, filled-more}
+use Rattle.passes.proofs.Filled.{inside-row, row-copied}
 use Rattle.passes.proofs.line.copy_run.Statement.{statement}
 use Rattle.passes.proofs.line.copy_run.Tie as tie
 
-abbrev Inv-loop : tie.InvT-loop
-Inv-loop buf scratch₀ from to size start stride t₀ scratch t =
-    (t ≤ size) × Filled (λ j. to + j) (λ j. getD buf (start + stride * (from + j)) 0) t scratch₀ scratch
+copy-words-requires : tie.Need-copy-words-requires
+copy-words-requires c κs =
+    let t : tie.Then1 = search in
+    let x : tie.Start = search in
+    (inside-row (x .args .buf .now) (x .args .l) (t .if1 .taken) (x .pre .0), x .pre .1, x .pre .2)
 
-abbrev μ-loop : tie.MeasureT-loop
-μ-loop buf scratch₀ from to size start stride t₀ scratch t = size - t
-
--- the word that is read lies in the buffer
-inside : (c : tie.In-loop Inv-loop μ-loop) → let a = c .before .before .args in posOn (a .l) (a .from + c .before .loop .t) < length (a .buf .now)
-inside c = let x : tie.Start Inv-loop μ-loop = search in x .pre .0 _ (omega arith)
-
-loop-again : tie.Need-loop-again Inv-loop μ-loop
-loop-again c =
-    let l : tie.At-loop Inv-loop μ-loop = search in
-    let x : tie.Start Inv-loop μ-loop = search in
-    (omega arith, filled-more {count = x .args .size} (λ i j _ _ e. omega arith) (omega arith) (omega arith) (l .loop .inv .1))
-
-returns : tie.Need-returns Inv-loop μ-loop
+returns : tie.Need-returns
 returns c =
-    let l : tie.At-loop Inv-loop μ-loop = search in
-    let x : tie.Start Inv-loop μ-loop = search in
-    let e : l .loop .t ≡ x .args .size = omega arith in
-    rw e at (l .loop .inv .1)
+    let w : tie.After-copy-words = search in
+    let t : tie.Then1 = search in
+    let x : tie.Start = search in
+    row-copied (x .args .buf .now) (x .args .l) (x .args .from) (t .if1 .taken) (w .copy-words .ensures)
 
 pub copy-run-spec : {M : Type 1} → statement M
-copy-run-spec =
-    tie.close
-    (tie.spec
-    Inv-loop
-    μ-loop
-    (λ c. (omega arith, filled-none _ _ _))
-    (search needs)
-    (λ c. omega (arith, inside (search)))
-    (λ c. omega (arith, inside (search)))
-    (λ c. omega (arith, inside (search)))
-    (λ c. inside (search))
-    (search needs)
-    (search needs)
-    (search needs)
-    (search needs)
-    (search needs)
-    loop-again
-    (search needs)
-    returns)
+copy-run-spec = tie.close (tie.spec copy-words-requires (search needs) returns (λ c κs. let x : tie.Start = search in x .pre) (search needs) (λ c. let w : tie.After-copy-words2 = search in w .copy-words2 .ensures))

@@ -1,53 +1,22 @@
--- `put_back` meets its contract: the line is filled place by place from scratch.
-use mathlib.Core.Path.{_≡_}
-use Prim.Native.Nat.{ℕ, _+_, _*_, _-_, _<_, _≤_}
+-- `put_back` meets its contract: either way the words go back with the line's own stride, which for a row is 1.
 use native.Mathlib.Omega.{arith}
 use borrow.Author.Needs.{needs}
-use lib.ListN.{length, getD}
-use Rattle.passes.specs.Lines.{posOn}
-use Rattle.passes.specs.ThroughScratch.{Filled}
-use Rattle.passes.proofs.Filled.{filled-none, filled-more, line-apart}
+use Rattle.passes.proofs.Filled.{inside-row, row-put}
 use Rattle.passes.proofs.line.put_back.Statement.{statement}
 use Rattle.passes.proofs.line.put_back.Tie as tie
 
-abbrev Inv-loop : tie.InvT-loop
-Inv-loop buf₀ scratch until start stride k₀ buf k = (k ≤ until) × Filled (λ j. start + stride * j) (λ j. getD scratch j 0) k buf₀ buf
+put-words-requires : tie.Need-put-words-requires
+put-words-requires c κs =
+    let t : tie.Then1 = search in
+    let x : tie.Start = search in
+    (inside-row (x .args .buf .now) (x .args .l) (t .if1 .taken) (x .pre .0), omega arith, x .pre .2)
 
-abbrev μ-loop : tie.MeasureT-loop
-μ-loop buf₀ scratch until start stride k₀ buf k = until - k
-
--- the place that is written lies in the buffer
-inside : (c : tie.In-loop Inv-loop μ-loop) → let a = c .before .before .args in posOn (a .l) (c .before .loop .k) < length (a .buf .now)
-inside c = let x : tie.Start Inv-loop μ-loop = search in x .pre .0 _ (omega arith)
-
-loop-again : tie.Need-loop-again Inv-loop μ-loop
-loop-again c =
-    let l : tie.At-loop Inv-loop μ-loop = search in
-    let x : tie.Start Inv-loop μ-loop = search in
-    (omega arith, filled-more (line-apart (x .args .l .start) (x .args .l .stride) (x .args .until) (x .pre .1)) (omega arith) (inside (search)) (l .loop .inv .1))
-
-returns : tie.Need-returns Inv-loop μ-loop
+returns : tie.Need-returns
 returns c =
-    let l : tie.At-loop Inv-loop μ-loop = search in
-    let x : tie.Start Inv-loop μ-loop = search in
-    let e : l .loop .k ≡ x .args .until = omega arith in
-    rw e at (l .loop .inv .1)
+    let w : tie.After-put-words = search in
+    let t : tie.Then1 = search in
+    let x : tie.Start = search in
+    row-put (x .args .l) (t .if1 .taken) (w .put-words .ensures)
 
 pub put-back-spec : {M : Type 1} → statement M
-put-back-spec =
-    tie.close
-    (tie.spec
-    Inv-loop
-    μ-loop
-    (λ c. (omega arith, filled-none _ _ _))
-    (search needs)
-    (search needs)
-    (λ c. omega (arith, inside (search)))
-    (λ c. omega (arith, inside (search)))
-    (λ c. omega (arith, inside (search)))
-    (λ c. omega (arith, inside (search)))
-    (search needs)
-    (search needs)
-    loop-again
-    (search needs)
-    returns)
+put-back-spec = tie.close (tie.spec put-words-requires (search needs) returns (λ c κs. let x : tie.Start = search in x .pre) (search needs) (λ c. let w : tie.After-put-words2 = search in w .put-words2 .ensures))

@@ -1,0 +1,55 @@
+-- `copy_words` meets its contract: the words are stored one after the other.
+use mathlib.Core.Path.{_≡_}
+use Prim.Native.Nat.{ℕ, _+_, _*_, _-_, _<_, _≤_}
+use native.Mathlib.Omega.{arith}
+use borrow.Author.Needs.{needs}
+use lib.ListN.{length, getD}
+use Rattle.passes.specs.ThroughScratch.{Filled}
+use Rattle.passes.proofs.Filled.{filled-none, filled-more}
+use Rattle.passes.proofs.line.copy_words.Statement.{statement}
+use Rattle.passes.proofs.line.copy_words.Tie as tie
+
+abbrev Inv-loop : tie.InvT-loop
+Inv-loop buf scratch₀ start stride from to size t₀ scratch t =
+    (t ≤ size) × Filled (λ j. to + j) (λ j. getD buf (start + stride * (from + j)) 0) t scratch₀ scratch
+
+abbrev μ-loop : tie.MeasureT-loop
+μ-loop buf scratch₀ start stride from to size t₀ scratch t = size - t
+
+-- the word that is read lies in the buffer
+inside : (c : tie.In-loop Inv-loop μ-loop) → let a = c .before .before .args in a .start + a .stride * (a .from + c .before .loop .t) < length (a .buf .now)
+inside c = let x : tie.Start Inv-loop μ-loop = search in x .pre .0 _ (omega arith)
+
+loop-again : tie.Need-loop-again Inv-loop μ-loop
+loop-again c =
+    let l : tie.At-loop Inv-loop μ-loop = search in
+    let x : tie.Start Inv-loop μ-loop = search in
+    (omega arith, filled-more {count = x .args .size} (λ i j _ _ e. omega arith) (omega arith) (omega arith) (l .loop .inv .1))
+
+returns : tie.Need-returns Inv-loop μ-loop
+returns c =
+    let l : tie.At-loop Inv-loop μ-loop = search in
+    let x : tie.Start Inv-loop μ-loop = search in
+    let e : l .loop .t ≡ x .args .size = omega arith in
+    rw e at (l .loop .inv .1)
+
+pub copy-words-spec : {M : Type 1} → statement M
+copy-words-spec =
+    tie.close
+    (tie.spec
+    Inv-loop
+    μ-loop
+    (λ c. (omega arith, filled-none _ _ _))
+    (search needs)
+    (λ c. omega (arith, inside (search)))
+    (λ c. omega (arith, inside (search)))
+    (λ c. omega (arith, inside (search)))
+    (λ c. inside (search))
+    (search needs)
+    (search needs)
+    (search needs)
+    (search needs)
+    (search needs)
+    loop-again
+    (search needs)
+    returns)
