@@ -82,14 +82,28 @@ fn give(buf: &mut [u32], scratch: &[u32], s: GroupedSides, l: Line)
     }
 }
 
+// The row moves as pass 2 says, through scratch.
+fn row_forth(buf: &mut [u32], scratch: &mut [u32], s: GroupedSides, l: Line)
+    requires { ⌜ Grouped s × Fits (s .m) (s .n) l (now buf) (now scratch) × (l .pass ≡ 2) ⌝ }
+    ensures { λ _. ⌜ LineMoved (s .m) (s .n) l (now (buf .entry)) (now (buf .exit)) × Past (l .count) (now (scratch .entry)) (now (scratch .exit)) ⌝ }
+{
+    let w = walk::walk_of(s, l);
+    if walk::straight(w) {
+        line::scatter_runs(buf, scratch, s, l, w);
+        line::put_back(buf, scratch, l, l.count);
+        return;
+    }
+    line::scatter(buf, scratch, s, l, w);
+    line::put_back(buf, scratch, l, l.count);
+}
+
 // The line moves as its pass says: a row is sent into scratch and put back; a column stands in scratch as it stood, and receives its words from there.
 pub(crate) fn forth(buf: &mut [u32], scratch: &mut [u32], s: GroupedSides, l: Line)
     requires { ⌜ Grouped s × Fits (s .m) (s .n) l (now buf) (now scratch) ⌝ }
     ensures { λ _. ⌜ LineMoved (s .m) (s .n) l (now (buf .entry)) (now (buf .exit)) × Past (l .count) (now (scratch .entry)) (now (scratch .exit)) ⌝ }
 {
     if l.pass == 2 {
-        line::scatter(buf, scratch, s, l);
-        line::put_back(buf, scratch, l, l.count);
+        row_forth(buf, scratch, s, l);
         return;
     }
     hold(buf, scratch, l);

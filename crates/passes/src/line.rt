@@ -3,14 +3,14 @@ use crate::column;
 use crate::source;
 use crate::walk;
 use crate::walk::Walk;
-ghost use mathlib.Core.Bool.{_&&_};
+ghost use mathlib.Core.Bool.{true, _&&_};
 ghost use mathlib.Core.Path.{_≡_};
 ghost use Prim.Native.Nat.{ℕ, _+_, _*_, _<_, _≤_};
 ghost use lib.Dec.{eqb};
 ghost use lib.ListN.{length, getD};
 ghost use Rattle.flat.specs.Passes.{source2};
 ghost use Rattle.passes.specs.Lines.{paired, posOn, toPlace, fromPlace, LineMoved};
-ghost use Rattle.passes.specs.ThroughScratch.{Grouped, Inside, Apart, GroupFits, stands, taken, Fits, Filled, Lifted, Past};
+ghost use Rattle.passes.specs.ThroughScratch.{Grouped, Follows, Inside, Apart, GroupFits, stands, taken, Fits, Filled, Lifted, Past};
 
 // The sides m and n, their greatest common divisor c and their quotients a and b by it, what each side leaves modulo the other, the
 // inverse of a modulo b, and the columns of pass 1 that are left out.
@@ -108,12 +108,11 @@ fn copy_runs(buf: &[u32], scratch: &mut [u32], l: Line, first: usize, rest: usiz
     copy_run(buf, scratch, l, 0, size, until - size);
 }
 
-// Scratch receives, place by place, the first `until` words that the line's places are paired with.
-fn gather(buf: &[u32], scratch: &mut [u32], s: GroupedSides, l: Line, until: usize)
-    requires { ⌜ Grouped s × Fits (s .m) (s .n) l (now buf) (now scratch) × (until ≤ l .count) ⌝ }
+// Scratch receives, place by place, the first `until` words that the line's places are paired with, by its walk.
+fn gather(buf: &[u32], scratch: &mut [u32], s: GroupedSides, l: Line, w: Walk, until: usize)
+    requires { ⌜ Follows w (l .count) (paired (s .m) (s .n) (l .pass) (l .index)) × Fits (s .m) (s .n) l (now buf) (now scratch) × (until ≤ l .count) ⌝ }
     ensures { λ _. ⌜ Filled (λ k. k) (λ k. getD (now (buf .entry)) (posOn l (paired (s .m) (s .n) (l .pass) (l .index) k)) 0) until (now (scratch .entry)) (now (scratch .exit)) ⌝ }
 {
-    let w = walk::walk_of(s, l);
     if walk::straight(w) {
         copy_runs(buf, scratch, l, w.first, w.modulus - w.first, until);
         return;
@@ -168,18 +167,21 @@ fn scatter_group(buf: &[u32], scratch: &mut [u32], l: Line, w: Walk, from: usize
     }
 }
 
-// Each word of the line goes to the place of scratch that its own is paired with.
-pub(crate) fn scatter(buf: &[u32], scratch: &mut [u32], s: GroupedSides, l: Line)
-    requires { ⌜ Grouped s × Fits (s .m) (s .n) l (now buf) (now scratch) ⌝ }
+// Each word of the line goes to the place of scratch that its own is paired with, by a walk that is two runs.
+pub(crate) fn scatter_runs(buf: &[u32], scratch: &mut [u32], s: GroupedSides, l: Line, w: Walk)
+    requires { ⌜ Follows w (l .count) (paired (s .m) (s .n) (l .pass) (l .index)) × Fits (s .m) (s .n) l (now buf) (now scratch) × ((eqb (w .step) 1 && eqb (w .groups) 1) ≡ true) ⌝ }
     ensures { λ _. ⌜ Lifted l (paired (s .m) (s .n) (l .pass) (l .index)) (λ k. k) (now (buf .entry)) (now (scratch .entry)) (now (scratch .exit)) ⌝ }
 {
-    let w = walk::walk_of(s, l);
-    if walk::straight(w) {
-        let rest = w.modulus - w.first;
-        copy_run(buf, scratch, l, 0, w.first, rest);
-        copy_run(buf, scratch, l, rest, 0, w.first);
-        return;
-    }
+    let rest = w.modulus - w.first;
+    copy_run(buf, scratch, l, 0, w.first, rest);
+    copy_run(buf, scratch, l, rest, 0, w.first);
+}
+
+// The same by a walk of groups.
+pub(crate) fn scatter(buf: &[u32], scratch: &mut [u32], s: GroupedSides, l: Line, w: Walk)
+    requires { ⌜ Follows w (l .count) (paired (s .m) (s .n) (l .pass) (l .index)) × Fits (s .m) (s .n) l (now buf) (now scratch) ⌝ }
+    ensures { λ _. ⌜ Lifted l (paired (s .m) (s .n) (l .pass) (l .index)) (λ k. k) (now (buf .entry)) (now (scratch .entry)) (now (scratch .exit)) ⌝ }
+{
     let mut from = 0;
     let mut place = w.first;
     for g in 0..w.groups {
@@ -237,19 +239,37 @@ pub(crate) fn lift(
         gather_row(buf, scratch, s, l, until);
         return;
     }
-    gather(buf, scratch, s, l, until);
+    let w = walk::walk_of(s, l);
+    gather(buf, scratch, s, l, w, until);
 }
 
-// Scratch receives the line as its pass found it.
+// Scratch receives a row as pass 2 found it.
+fn lift_row_home(buf: &[u32], scratch: &mut [u32], s: GroupedSides, l: Line, w: Walk)
+    requires { ⌜ Follows w (l .count) (paired (s .m) (s .n) (l .pass) (l .index)) × Fits (s .m) (s .n) l (now buf) (now scratch) ⌝ }
+    ensures { λ _. ⌜ Filled (λ k. k) (λ k. getD (now (buf .entry)) (posOn l (paired (s .m) (s .n) (l .pass) (l .index) k)) 0) (l .count) (now (scratch .entry)) (now (scratch .exit)) ⌝ }
+{
+    if walk::straight(w) {
+        copy_runs(buf, scratch, l, w.first, w.modulus - w.first, l.count);
+        return;
+    }
+    gather(buf, scratch, s, l, w, l.count);
+}
+
+// Scratch receives the line as its pass found it. A walk that is two runs is followed here, since a row of few words is over before a call is.
 fn lift_home(buf: &[u32], scratch: &mut [u32], s: GroupedSides, l: Line)
     requires { ⌜ Grouped s × Fits (s .m) (s .n) l (now buf) (now scratch) ⌝ }
     ensures { λ _. ⌜ Lifted l (fromPlace (s .m) (s .n) l) (toPlace (s .m) (s .n) l) (now (buf .entry)) (now (scratch .entry)) (now (scratch .exit)) ⌝ }
 {
+    let w = walk::walk_of(s, l);
     if l.pass == 2 {
-        lift(buf, scratch, s, l, l.count, false);
+        lift_row_home(buf, scratch, s, l, w);
         return;
     }
-    scatter(buf, scratch, s, l);
+    if walk::straight(w) {
+        scatter_runs(buf, scratch, s, l, w);
+        return;
+    }
+    scatter(buf, scratch, s, l, w);
 }
 
 // The line moves as its pass says, and stands finished in scratch.

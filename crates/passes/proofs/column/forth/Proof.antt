@@ -1,9 +1,9 @@
--- `forth` meets its contract: a row goes through scratch; a column stands in scratch as it stood, and each place receives the word of the place
+-- `forth` meets its contract: a row goes its own way; a column stands in scratch as it stood, and each place receives the word of the place
 -- that it is paired with.
 use native.Mathlib.Omega.{arith}
 use borrow.Author.Needs.{needs}
 use Rattle.flat.proofs.Sides.{sides-are}
-use Rattle.passes.proofs.Lifted.{moved-swept, moved-scattered}
+use Rattle.passes.proofs.Lifted.{moved-swept}
 use Rattle.passes.proofs.column.forth.Statement.{statement}
 use Rattle.passes.proofs.column.forth.Tie as tie
 
@@ -17,12 +17,7 @@ give-requires c κs =
     )
 
 returns : tie.Need-returns
-returns c =
-    let p : tie.After-put-back = search in
-    let g : tie.After-scatter = search in
-    let t : tie.Then1 = search in
-    let x : tie.Start = search in
-    moved-scattered (x .pre .1) (t .if1 .taken) (g .scatter .ensures) (p .put-back .ensures)
+returns c = let r : tie.After-row-forth = search in r .row-forth .ensures
 
 returns-2 : tie.Need-returns-2
 returns-2 c =
@@ -37,8 +32,7 @@ pub forth-spec : {M : Type 1} → statement M
 forth-spec =
     tie.close
     (tie.spec
-    (λ c κs. search needs)
-    (λ c κs. search needs)
+    (λ c κs. let t : tie.Then1 = search in let x : tie.Start = search in (x .pre .0, x .pre .1, t .if1 .taken))
     (search needs)
     (search needs)
     returns

@@ -16,7 +16,7 @@ use Rattle.passes.proofs.line.gather.Statement.{statement}
 use Rattle.passes.proofs.line.gather.Tie as tie
 
 abbrev Inv-loop : tie.InvT-loop
-Inv-loop buf scratch₀ l until w from₀ place₀ g₀ g-end scratch from place g =
+Inv-loop buf scratch₀ l w until from₀ place₀ g₀ g-end scratch from place g =
     (g ≤ w .groups)
     × (from ≤ until)
     × (from < until → from ≡ g * w .size)
@@ -24,14 +24,11 @@ Inv-loop buf scratch₀ l until w from₀ place₀ g₀ g-end scratch from place
     × ((f : ℕ → ℕ) → Follows w (l .count) f → Filled (λ k. k) (λ k. getD buf (posOn l (f k)) 0) from scratch₀ scratch)
 
 abbrev μ-loop : tie.MeasureT-loop
-μ-loop buf scratch₀ l until w from₀ place₀ g₀ g-end scratch from place g = w .groups - g
+μ-loop buf scratch₀ l w until from₀ place₀ g₀ g-end scratch from place g = w .groups - g
 
 -- the places that the answers look back to
 abbrev Start : Type 0
 Start = tie.Start Inv-loop μ-loop
-
-abbrev Walked : Type 0
-Walked = tie.After-walk-of Inv-loop μ-loop
 
 abbrev Loop : Type 0
 Loop = tie.At-loop Inv-loop μ-loop
@@ -41,9 +38,8 @@ Size = tie.After-smaller Inv-loop μ-loop
 
 copy-runs-requires : tie.Need-copy-runs-requires Inv-loop μ-loop
 copy-runs-requires c κs =
-    let w : Walked = search in
     let x : Start = search in
-    let y = w .walk-of .ensures in
+    let y = x .pre .0 in
     (λ k h. x .pre .1 .inside k (omega (arith, y)), omega (arith, y), omega (arith, y))
 
 returns : tie.Need-returns Inv-loop μ-loop
@@ -51,29 +47,26 @@ returns c =
     let r : tie.After-copy-runs Inv-loop μ-loop = search in
     let t : tie.Then1 Inv-loop μ-loop = search in
     let s : tie.After-straight Inv-loop μ-loop = search in
-    let w : Walked = search in
     let x : Start = search in
-    let y = w .walk-of .ensures in
+    let y = x .pre .0 in
     let e = sym (s .straight .ensures) ∙ t .if1 .taken in
     r .copy-runs .ensures .1 _ (first-run (x .args .l) y e) (second-run (x .args .l) y e)
 
 loop-holds : tie.Need-loop-holds Inv-loop μ-loop
 unfolding starts
 loop-holds c =
-    let w : Walked = search in
+    let x : Start = search in
     (omega arith, omega arith, λ _. sym (zero-mul _), refl, λ f h. filled-none _ _ _)
 
 -- the group at hand
 fits : (c : Size)
     → let l = c .before .before in
-    let w = l .before .before .before in
-    let a = w .before .before .before .args in
-    GroupFits (a .l) (w .walk-of .result) (l .loop .from) (l .loop .place) (c .smaller .result) (a .buf .now) (l .loop .scratch)
+    let a = l .before .before .before .before .before .args in
+    GroupFits (a .l) (a .w) (l .loop .from) (l .loop .place) (c .smaller .result) (a .buf .now) (l .loop .scratch)
 fits c =
     let l : Loop = search in
-    let w : Walked = search in
     let x : Start = search in
-    let y = w .walk-of .ensures in
+    let y = x .pre .0 in
     let v = l .loop .inv in
     group-fits y (l .loop .g) (omega arith) (omega (arith, c .smaller .ensures .1, x .pre .2)) (v .3) (x .pre .1 .inside) (rw (v .4 _ y .same) (x .pre .1 .room))
 
@@ -82,11 +75,10 @@ loop-again c =
     let n : tie.After-gather-group Inv-loop μ-loop = search in
     let z : Size = search in
     let l : Loop = search in
-    let w : Walked = search in
     let x : Start = search in
     let v = l .loop .inv in
     let g = l .loop .g in
-    let size = w .walk-of .result .size in
+    let size = x .args .w .size in
     let b = x .args .buf .now in
     let e = z .smaller .ensures in (
       omega arith,
@@ -95,24 +87,23 @@ loop-again c =
           let q = v .2 (omega arith) in
           let w-is : z .smaller .result ≡ size = e .2 (omega arith) in
           omega (arith, add-mul g 1 size, one-mul size),
-      start-on (w .walk-of .result) g (v .3) (c .next-start .ensures),
+      start-on (x .args .w) g (v .3) (c .next-start .ensures),
       λ f y.
           filled-on {count = x .args .l .count} (λ i j _ _ q. q) (omega (arith, e .1, x .pre .2)) (λ t d. refl)
           (λ t d.
           let q = v .2 (omega (arith, e .1)) in
           ap (λ (k : ℕ). getD b (posOn (x .args .l) k) 0)
-          (ap (λ (k : ℕ). f (k + t)) q ∙ y .pairs g t (omega arith) (omega (arith, e .0)) ∙ ap (λ (k : ℕ). stands (w .walk-of .result) k t) (sym (v .3))))
+          (ap (λ (k : ℕ). f (k + t)) q ∙ y .pairs g t (omega arith) (omega (arith, e .0)) ∙ ap (λ (k : ℕ). stands (x .args .w) k t) (sym (v .3))))
           (v .4 f y) (n .gather-group .ensures),
     )
 
 returns-2 : tie.Need-returns-2 Inv-loop μ-loop
 returns-2 c =
     let l : Loop = search in
-    let w : Walked = search in
     let x : Start = search in
-    let y = w .walk-of .ensures in
+    let y = x .pre .0 in
     let v = l .loop .inv in
-    let all : l .loop .g * w .walk-of .result .size ≡ x .args .l .count = ap (λ (z : ℕ). z * w .walk-of .result .size) (omega arith) ∙ y .whole in
+    let all : l .loop .g * x .args .w .size ≡ x .args .l .count = ap (λ (z : ℕ). z * x .args .w .size) (omega arith) ∙ y .whole in
     let e : l .loop .from ≡ x .args .until = ⊎-elim (λ (h : l .loop .from < x .args .until). omega (arith, v .2 h, x .pre .2)) (λ (h : x .args .until ≤ l .loop .from). omega arith) (lt-or-ge (l .loop .from) (x .args .until)) in
     rw e at (v .4 _ y)
 
@@ -122,9 +113,8 @@ gather-spec =
     (tie.spec
     Inv-loop
     μ-loop
-    (λ c κs. let x : Start = search in (x .pre .0, x .pre .1 .of-pass))
     (λ c κs. search needs)
-    (λ c. let w : Walked = search in omega (arith, w .walk-of .ensures))
+    (λ c. let x : Start = search in omega (arith, x .pre .0))
     copy-runs-requires
     (search needs)
     returns
@@ -133,10 +123,10 @@ gather-spec =
     (λ c κs. search needs)
     (λ c κs. fits (search))
     (λ c. let l : Loop = search in let z : Size = search in let x : Start = search in omega (arith, z .smaller .ensures .1, fits (search), x .pre))
-    (search needs)
-    (λ c κs. let w : Walked = search in (fits (search) .low, w .walk-of .ensures .shifts))
-    (search needs)
+    (λ c. let i : tie.In-loop Inv-loop μ-loop = search in let x : Start = search in omega (arith, x .good .1 .1 .1 .1 .0))
+    (λ c κs. let x : Start = search in (fits (search) .low, x .pre .0 .shifts))
+    (λ c. let i : tie.In-loop Inv-loop μ-loop = search in let x : Start = search in omega (arith, x .good .1 .1 .1 .1 .0))
     (search needs)
     loop-again
-    (λ c. let l : Loop = search in let w : Walked = search in l .loop .inv .4 _ (w .walk-of .ensures) .same)
+    (λ c. let l : Loop = search in let x : Start = search in l .loop .inv .4 _ (x .pre .0) .same)
     returns-2)

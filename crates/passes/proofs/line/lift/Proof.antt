@@ -30,6 +30,7 @@ lift-spec =
     (λ c κs. let b : tie.After-by-sources = search in let t : tie.Then1 = search in let x : tie.Start = search in (x .pre .0, x .pre .1, in-pass-2 (x .args .forwards) (sym (b .by-sources .ensures) ∙ t .if1 .taken), x .pre .2))
     (search needs)
     returns
-    (λ c κs. search needs)
+    (λ c κs. let x : tie.Start = search in (x .pre .0, x .pre .1 .of-pass))
+    (λ c κs. let w : tie.After-walk-of = search in let x : tie.Start = search in (w .walk-of .ensures, x .pre .1, x .pre .2))
     (search needs)
     returns-2)

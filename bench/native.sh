@@ -1,0 +1,27 @@
+# The library's module compiled for a machine other than x86-64, for which alone the kit makes an archive. Sourced by the scripts that time.
+
+# native_object FOLDER OBJECT: the module of the library that lies in FOLDER, compiled for this machine by the kit's clang at the archive's level.
+#
+# The module is what the kit hands to its clang on the way to the archive: the kit is shadowed by links, with a recorder in the place of its
+# clang. `rt staticlib` makes an archive for x86-64 and hands out nothing else, so there is no other way to have the module.
+native_object() {
+    kit=${RATTLE_HOME:-$(dirname "$(dirname "$(readlink -f "$(command -v rt)")")")}
+    tools=on/$machine/toolchain
+    shadow=$(mktemp -d)
+    mkdir -p "$shadow/$tools/bin"
+    for f in "$kit"/* "$kit/on/$machine"/* "$kit/$tools"/* "$kit/$tools/bin"/*; do
+        link=$shadow${f#"$kit"}
+        case $link in */bin/clang) ;; *) [ -e "$link" ] || ln -s "$f" "$link" ;; esac
+    done
+    cat >"$shadow/$tools/bin/clang" <<RECORDER
+#!/bin/sh
+for word in "\$@"; do case \$word in *module.bc) cp "\$word" '$shadow/module.bc' ;; esac; done
+exec '$kit/$tools/bin/clang' "\$@"
+RECORDER
+    chmod +x "$shadow/$tools/bin/clang"
+    (cd "$1" && RATTLE_HOME=$shadow rt staticlib exports) >"$2.log" 2>&1 && [ -f "$shadow/module.bc" ] &&
+        "$kit/$tools/bin/clang" --target="$machine-unknown-linux-gnu" -O3 -fPIC -ffunction-sections -x ir -c "$shadow/module.bc" -o "$2" 2>>"$2.log"
+    made=$?
+    rm -rf "$shadow"
+    return $made
+}
