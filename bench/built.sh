@@ -1,4 +1,9 @@
-# The library's module compiled for a machine other than x86-64, for which alone the kit makes an archive. Sourced by the scripts that time.
+# The library built for a measurement. Sourced by the scripts that measure.
+
+# archive FOLDER FILE: the archive for x86-64 of the library that lies in FOLDER.
+archive() {
+    (cd "$1" && rt staticlib exports) >"$2.log" 2>&1 && cp "$1/target/staticlib/libexports.a" "$2"
+}
 
 # native_object FOLDER OBJECT: the module of the library that lies in FOLDER, compiled for this machine by the kit's clang at the archive's level.
 #
@@ -24,4 +29,13 @@ RECORDER
     made=$?
     rm -rf "$shadow"
     return $made
+}
+
+# of_revision REVISION WAY FILE: what WAY (archive or native_object) builds of a revision, in a folder outside the repository, unless FILE is there.
+of_revision() {
+    [ ! -f "$3" ] || return 0
+    folder=$(mktemp -d)
+    git archive "$1" | tar -x -C "$folder"
+    "$2" "$folder" "$3" || { cat "$3.log" >&2; exit 1; }
+    rm -rf "$folder"
 }
