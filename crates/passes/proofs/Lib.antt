@@ -50,3 +50,5 @@ pub mod ChunkLines
 pub mod ChunkBlocks
 -- a block of chunks turned by recursion, and a swap that moves nothing
 pub mod Halved
+-- whether a longer side comes of a shorter one by doubling it
+pub mod Doubles

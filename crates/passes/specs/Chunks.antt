@@ -4,6 +4,7 @@
 use mathlib.Core.Bool.{Bool, cond}
 use mathlib.Core.Path.{_≡_}
 use mathlib.Core.List.{List}
+use mathlib.Core.Logic.{_⊎_}
 use Prim.Native.Nat.{ℕ, _+_, _*_, _/_, _%_, _<_, _≤_}
 use lib.ListN.{length, getD}
 use Rattle.passes.specs.Lines.{toPlace, fromPlace, posOn}
@@ -78,3 +79,12 @@ pub record BlockLies (m n base chunk : ℕ) (xs scratch : List ℕ) : Type 0 whe
   pub part : PartLies m n base chunk xs
   pub rows : m ≤ length scratch
   pub columns : n ≤ length scratch
+
+-- the sides that come of a side by doubling it again and again
+pub data Doubled (side : ℕ) : ℕ → Type 0 where
+  itself : Doubled side side
+  twice : {t : ℕ} → Doubled side t → Doubled side (t + t)
+
+-- halving the longer side again and again ends in squares
+abbrev pub EndsInSquares : ℕ → ℕ → Type 0
+EndsInSquares m n = Doubled m n ⊎ Doubled n m

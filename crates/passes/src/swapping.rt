@@ -5,13 +5,14 @@ use crate::line::Line;
 use crate::table;
 use crate::turning;
 ghost use mathlib.Core.Bool.{true};
+ghost use mathlib.Core.Logic.{_↔_};
 ghost use mathlib.Core.Path.{_≡_};
 ghost use Prim.Native.Nat.{_<_, _≤_};
 ghost use Rattle.layout.specs.Layout.{Laid};
 ghost use Rattle.flat.specs.Turn.{sides};
 ghost use Rattle.refusals.specs.Scratch.{need};
 ghost use Rattle.passes.specs.ThroughScratch.{Grouped, Fits, AllLie, Past};
-ghost use Rattle.passes.specs.Chunks.{ChunksLie, ChunkLineMoved, PartLies, BlockLies, ChunksTurnedAt};
+ghost use Rattle.passes.specs.Chunks.{ChunksLie, ChunkLineMoved, PartLies, BlockLies, ChunksTurnedAt, Doubled, EndsInSquares};
 ghost use Rattle.passes.specs.Promises.{swapBlock, middle};
 
 // The chunks of a line move as its pass says.
@@ -87,6 +88,7 @@ fn turn_blocks(
 // Whether the shorter side, doubled again and again, comes to the longer one.
 fn doubles(shorter: usize, longer: usize) -> bool
     requires { ⌜ (0 < shorter) × (longer ≤ 4096) ⌝ }
+    ensures { λ r. ⌜ (r ≡ true) ↔ Doubled shorter longer ⌝ }
 {
     let mut side = shorter;
     while side < longer {
@@ -99,7 +101,7 @@ fn doubles(shorter: usize, longer: usize) -> bool
 // as many words as an axis may have, or fewer.
 fn by_halves(m: usize, n: usize, chunk: usize) -> bool
     requires { ⌜ (0 < m) × (0 < n) × (m ≤ 4096) × (n ≤ 4096) ⌝ }
-    ensures { λ r. ⌜ (r ≡ true → chunk ≤ 4096) ⌝ }
+    ensures { λ r. ⌜ (r ≡ true) ↔ ((chunk ≤ 4096) × EndsInSquares m n) ⌝ }
 {
     if 4096 < chunk {
         return false;

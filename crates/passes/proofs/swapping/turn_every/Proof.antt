@@ -26,7 +26,7 @@ turn-blocks-requires c κs =
     let t : tie.Then3 = search in
     let h : tie.After-by-halves = search in
     let x : tie.Start = search in
-    (x .pre .0, x .pre .1, λ _. h .by-halves .ensures (t .if3 .taken))
+    (x .pre .0, x .pre .1, λ _. h .by-halves .ensures .0 (t .if3 .taken) .0)
 
 turn-blocks-requires-2 : tie.Need-turn-blocks-requires-2
 turn-blocks-requires-2 c κs = let x : tie.Start = search in (x .pre .0, x .pre .1, λ e. absurd (true≢false (sym e)))
