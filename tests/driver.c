@@ -240,9 +240,14 @@ static void read_request(uint64_t side) {
     for (uint64_t k = 0; k < count; k++) get(buffers[k].at, buffers[k].bytes);
 }
 
+/* The pages of what is lent for reading. */
 static void protect(int prot) {
-    for (int k = 0; k < MOST_BUFFERS; k++)
-        if (buffers[k].bytes != 0 && !buffers[k].writable && mprotect(buffers[k].room, ROOM, prot) != 0) fail("mprotect");
+    uintptr_t page = (uintptr_t)sysconf(_SC_PAGESIZE);
+    for (int k = 0; k < MOST_BUFFERS; k++) {
+        unsigned char *from = (unsigned char *)((uintptr_t)buffers[k].at & ~(page - 1));
+        if (buffers[k].bytes != 0 && !buffers[k].writable && mprotect(from, (size_t)(buffers[k].at - from) + buffers[k].bytes, prot) != 0)
+            fail("mprotect");
+    }
 }
 
 static void run(uint64_t call) {
