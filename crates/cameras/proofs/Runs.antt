@@ -12,7 +12,7 @@ use lib.Seq.{getD-set-same, getD-set-other}
 use borrow.Author.Tests.{lt-ltb, le-ltb}
 use Rattle.lists.proofs.Decide.{lt-or-ge, eq-or-ne}
 use Rattle.cameras.specs.Columns.{past, Added}
-use Rattle.cameras.specs.Moves.{Stretch, From, RunClosed, RunOpened, OpenedFrom, Closed}
+use Rattle.cameras.specs.Moves.{Stretch, Before, From, ClosedTo, OpenedFrom, Closed}
 
 -- columns before k stand, columns from k on are one further
 pub past-before : (k j : ℕ) → j < k → past k j ≡ j
@@ -25,9 +25,21 @@ past-after k j h = rw (le-ltb j k h)
 pub at : (l : List ℕ) {p q : ℕ} → p ≡ q → getD l p 0 ≡ getD l q 0
 at l e = ap (λ (z : ℕ). getD l z 0) e
 
--- place (i, j) lies before column k of row r
-abbrev pub Before : ℕ → ℕ → ℕ → ℕ → Type 0
-Before k r i j = (i < r) ⊎ ((i ≡ r) × (j < k))
+-- run r has closed up: its n words, which stood from behind column k of row r of n + 1 columns on, stand from column k of row r of n columns on;
+-- words before those stand, and words from column k of the next row on
+pub record RunClosed (n k r : ℕ) (xs ys : List ℕ) : Type 0 where
+  pub same : length ys ≡ length xs
+  pub closed : (p : ℕ) → p < n → getD ys (r * n + k + p) 0 ≡ getD xs (r * suc n + k + 1 + p) 0
+  pub below : (q : ℕ) → q < r * n + k → getD ys q 0 ≡ getD xs q 0
+  pub above : (q : ℕ) → suc r * suc n + k ≤ q → getD ys q 0 ≡ getD xs q 0
+
+-- run r has opened, and the word stands before it at column k of row r; words before those that were read stand, and words past the run
+pub record RunOpened (n k r word : ℕ) (xs ys : List ℕ) : Type 0 where
+  pub same : length ys ≡ length xs
+  pub opened : (p : ℕ) → p < n → getD ys (r * suc n + k + 1 + p) 0 ≡ getD xs (r * n + k + p) 0
+  pub new : getD ys (r * suc n + k) 0 ≡ word
+  pub below : (q : ℕ) → q < r * n + k → getD ys q 0 ≡ getD xs q 0
+  pub above : (q : ℕ) → suc r * suc n + k ≤ q → getD ys q 0 ≡ getD xs q 0
 
 -- place (i, j) is place p of run r, in the block without the column and in the block with it
 pub record InRun (n k r i j : ℕ) : Type 0 where
@@ -78,12 +90,6 @@ module _ {n k : ℕ} (low : k ≤ n) where
   from-offset : (r i j : ℕ) → From k r i j → r * suc n + k ≤ i * suc n + past k j
   from-offset r i j (inl l) = omega (arith, mul-le-mul-right (suc n) l)
   from-offset r i j (inr (e, b)) = rw (e, past-after k j b) (omega arith)
-
--- the runs before r have closed up; what stood from column k of row r on stands
-pub record ClosedTo (r n k : ℕ) (xs ys : List ℕ) : Type 0 where
-  pub same : length ys ≡ length xs
-  pub closed : (i j : ℕ) → j < n → Before k r i j → getD ys (i * n + j) 0 ≡ getD xs (i * suc n + past k j) 0
-  pub above : (q : ℕ) → r * suc n + k ≤ q → getD ys q 0 ≡ getD xs q 0
 
 -- the last row and those before it
 pub last-row : (frames n : ℕ) → 0 < frames → frames * suc n ≡ (frames - 1) * suc n + suc n

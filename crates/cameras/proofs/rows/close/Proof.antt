@@ -1,68 +1,82 @@
--- `close` meets its contract. The loop's invariant: the runs passed have closed up, and what lies past them stands. The words behind the
--- column of the last row close up in the end.
-use mathlib.Core.Path.{_≡_}
-use Prim.Native.Nat.{suc, _+_, _*_, _-_, _≤_}
+-- `close` meets its contract: the runs close up, range after range, then the words behind the column of the last row. The runs between the first
+-- few and the last few have room for sixteens.
+use mathlib.Core.Path.{_≡_, _∙_}
+use Prim.Native.Nat.{suc, _+_, _*_, _-_, _<_, _≤_}
 use native.Mathlib.Nat.{mul-le-mul-right}
 use native.Mathlib.Omega.{arith}
 use borrow.Author.Needs.{needs}
-use Rattle.cameras.proofs.Runs.{ClosedTo, none-closed, closed-more, all-closed, last-row}
+use Rattle.cameras.specs.Moves.{ClosedTo}
+use Rattle.cameras.proofs.Runs.{none-closed, all-closed, last-row}
 use Rattle.cameras.proofs.rows.close.Statement.{statement}
 use Rattle.cameras.proofs.rows.close.Tie as tie
 
-abbrev Inv-loop : tie.InvT-loop
-Inv-loop buf₀ frames n k sixteens last r₀ buf r = (r ≤ last) × ClosedTo r n k buf₀ buf
-
-abbrev μ-loop : tie.MeasureT-loop
-μ-loop buf₀ frames n k sixteens last r₀ buf r = last - r
-
-abbrev Loop : Type 0
-Loop = tie.At-loop Inv-loop μ-loop
-
-abbrev Begin : Type 0
-Begin = tie.Start Inv-loop μ-loop
-
-ends : (s : Begin) → let a = s .args in a .frames * suc (a .n) ≡ (a .frames - 1) * suc (a .n) + suc (a .n)
+ends : (s : tie.Start) → let a = s .args in a .frames * suc (a .n) ≡ (a .frames - 1) * suc (a .n) + suc (a .n)
 ends s = last-row _ _ (omega arith)
 
-close-run-requires : tie.Need-close-run-requires Inv-loop μ-loop
-close-run-requires c κs =
-    let l : Loop = search in
-    let s : Begin = search in
-    let next : suc (l .loop .r) + 1 ≤ s .args .frames = omega arith in
-    let rows = mul-le-mul-right (suc (s .args .n)) next in
-    (omega arith, omega arith, omega arith, omega (arith, rows, l .loop .inv .1 .same))
+close-exact-requires : tie.Need-close-exact-requires
+close-exact-requires c κs =
+    let l : tie.After-smaller = search in
+    let s : tie.Start = search in
+    (omega arith, omega arith, omega (arith, ends s, mul-le-mul-right (suc (s .args .n)) (l .smaller .ensures .1)))
 
-loop-again : tie.Need-loop-again Inv-loop μ-loop
-loop-again c =
-    let l : Loop = search in
-    let r : tie.After-close-run Inv-loop μ-loop = search in
-    (omega arith, closed-more (omega arith) (l .loop .inv .1) (r .close-run .ensures))
+close-wide-requires : tie.Need-close-wide-requires
+close-wide-requires c κs =
+    let e : tie.After-close-exact = search in
+    let h : tie.After-smaller2 = search in
+    let l : tie.After-smaller = search in
+    let s : tie.Start = search in
+    let n = s .args .n in
+    let high = s .args .frames - 1 - h .smaller2 .result in
+    let same = e .close-exact .ensures _ (none-closed (omega arith)) .same in
+    let up : high ≤ s .args .frames - 1 = omega arith in (
+      (omega arith, omega arith, omega arith, omega (arith, ends s, same, mul-le-mul-right (suc n) up)),
+      λ some.
+          let first = l .smaller .ensures .2 (omega arith) in
+          let last = h .smaller2 .ensures .2 (omega arith) in
+          let rest : high + l .smaller .result + 1 ≤ s .args .frames = omega (arith, first, last) in
+          (omega (arith, first), omega (arith, first, same, mul-le-mul-right (suc n) rest)),
+    )
 
-shift-down-requires : tie.Need-shift-down-requires Inv-loop μ-loop
+close-exact-requires-2 : tie.Need-close-exact-requires-2
+close-exact-requires-2 c κs =
+    let w : tie.After-close-wide = search in
+    let e : tie.After-close-exact = search in
+    (omega arith, omega arith, omega (arith, ends (search), w .close-wide .ensures _ (e .close-exact .ensures _ (none-closed (omega arith))) .same))
+
+shift-down-requires : tie.Need-shift-down-requires
 shift-down-requires c κs =
-    let l : Loop = search in
-    let s : Begin = search in
-    (omega arith, omega (arith, ends s, l .loop .inv .1 .same))
+    let x : tie.After-close-exact2 = search in
+    let w : tie.After-close-wide = search in
+    let e : tie.After-close-exact = search in
+    let s : tie.Start = search in
+    let low : s .args .k ≤ s .args .n = omega arith in
+    (omega arith, omega (arith, ends s, x .close-exact2 .ensures _ (w .close-wide .ensures _ (e .close-exact .ensures _ (none-closed low))) .same))
 
-returns : tie.Need-returns Inv-loop μ-loop
+returns : tie.Need-returns
 returns c =
-    let l : Loop = search in
-    let r : tie.After-shift-down Inv-loop μ-loop = search in
-    all-closed (omega arith) (l .loop .inv .1) (omega arith) (omega arith) (r .shift-down .ensures)
+    let r : tie.After-shift-down = search in
+    let x : tie.After-close-exact2 = search in
+    let w : tie.After-close-wide = search in
+    let e : tie.After-close-exact = search in
+    let s : tie.Start = search in
+    let low : s .args .k ≤ s .args .n = omega arith in
+    let runs = x .close-exact2 .ensures _ (w .close-wide .ensures _ (e .close-exact .ensures _ (none-closed low))) in
+    all-closed low runs (omega arith) (omega arith) (r .shift-down .ensures)
 
 pub close-spec : {M : Type 1} → statement M
 close-spec =
     tie.close
     (tie.spec
-    Inv-loop
-    μ-loop
     (search needs)
     (search needs)
-    (λ c. (omega arith, none-closed (omega arith)))
-    close-run-requires
     (search needs)
     (search needs)
-    loop-again
+    (search needs)
+    (search needs)
+    (search needs)
+    close-exact-requires
+    close-wide-requires
+    close-exact-requires-2
     (λ c. omega (arith, ends (search)))
     (λ c. omega (arith, ends (search)))
     (λ c. omega (arith, ends (search)))
