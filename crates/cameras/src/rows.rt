@@ -39,6 +39,17 @@ fn few_runs(n: usize, more: usize) -> usize
     most - n
 }
 
+// How many of the last runs that close lie too near to the buffer's end for sixteens: none, unless the column is one of the last.
+fn ending_runs(n: usize, k: usize, few: usize) -> usize
+    requires { ⌜ (k ≤ n) × (n ≤ 4096) × (few < 15) ⌝ }
+    ensures { λ r. ⌜ k + few ≤ n + r * suc n ⌝ }
+{
+    if k + few <= n {
+        return 0;
+    }
+    few
+}
+
 // The runs from low up to high close up, the first first, each by itself.
 fn close_exact(buf: &mut [u32], low: usize, high: usize, n: usize, k: usize)
     requires { ⌜ (low ≤ high) × (k ≤ n) × (high * suc n + k ≤ length (now buf)) ⌝ }
@@ -62,19 +73,27 @@ fn close_wide(buf: &mut [u32], low: usize, high: usize, n: usize, k: usize, more
     }
 }
 
+// The runs before the last row close up, the first first.
+fn close_runs(buf: &mut [u32], last: usize, n: usize, k: usize)
+    requires { ⌜ (0 < n) × (k ≤ n) × (n ≤ 4096) × (suc last * suc n ≤ length (now buf)) ⌝ }
+    ensures { λ _. ⌜ RunsClosed 0 last n k (now (buf .entry)) (now (buf .exit)) ⌝ }
+{
+    let more = more_sixteens(n);
+    let few = few_runs(n, more);
+    let low = smaller(few, last);
+    let high = last - smaller(ending_runs(n, k, few), last - low);
+    close_exact(buf, 0, low, n, k);
+    close_wide(buf, low, high, n, k, more);
+    close_exact(buf, high, last, n, k);
+}
+
 // The rows of a block of n + 1 columns close up over column k, the first run first.
 pub(crate) fn close(buf: &mut [u32], frames: usize, n: usize, k: usize)
     requires { ⌜ (0 < frames) × (0 < n) × (k ≤ n) × (n ≤ 4096) × (frames * suc n ≤ length (now buf)) ⌝ }
     ensures { λ _. ⌜ Closed frames n k (now (buf .entry)) (now (buf .exit)) ⌝ }
 {
-    let more = more_sixteens(n);
-    let few = few_runs(n, more);
     let last = frames - 1;
-    let low = smaller(few, last);
-    let high = last - smaller(few, last - low);
-    close_exact(buf, 0, low, n, k);
-    close_wide(buf, low, high, n, k, more);
-    close_exact(buf, high, last, n, k);
+    close_runs(buf, last, n, k);
     let to = last * n + k;
     words::shift_down(buf, to, to + frames, n - k);
 }
@@ -104,7 +123,7 @@ fn open_wide(
     column: &[u32],
 )
     requires { ⌜ (low ≤ high) × (k ≤ n) × (n ≤ 4096) × (16 * more < n) × (n ≤ 16 + 16 * more) × (high < length (now column)) × (high * suc n + k ≤ length (now buf)) ⌝ }
-    requires { ⌜ (low < high → 16 + 16 * more ≤ n + low) ⌝ }
+    requires { ⌜ (low < high → (16 + 16 * more ≤ n + low + 1) × (16 + 16 * more ≤ n + low + k)) ⌝ }
     ensures { λ _. ⌜ RunsOpened low high n k (now (column .entry)) (now (buf .entry)) (now (buf .exit)) ⌝ }
 {
     let wide = 16 + 16 * more;
@@ -118,6 +137,18 @@ fn open_wide(
     }
 }
 
+// The runs before the last row open, the last first: the first few need room before them too, where no column stands before the first run.
+fn open_runs(buf: &mut [u32], last: usize, n: usize, k: usize, column: &[u32])
+    requires { ⌜ (0 < n) × (k ≤ n) × (n ≤ 4096) × (last < length (now column)) × (suc last * suc n ≤ length (now buf)) ⌝ }
+    ensures { λ _. ⌜ RunsOpened 0 last n k (now (column .entry)) (now (buf .entry)) (now (buf .exit)) ⌝ }
+{
+    let more = more_sixteens(n);
+    let few = few_runs(n, more);
+    let low = smaller(few + 1 - smaller(k, 1), last);
+    open_wide(buf, low, last, n, k, more, column);
+    open_exact(buf, low, n, k, column);
+}
+
 // The rows of a block of n columns open for the words of a column at k, the last row first.
 pub(crate) fn open(buf: &mut [u32], frames: usize, n: usize, k: usize, column: &[u32])
     requires { ⌜ (0 < frames) × (0 < n) × (k ≤ n) × (n ≤ 4096) × (frames * suc n ≤ length (now buf)) × (length (now column) ≡ frames) ⌝ }
@@ -127,8 +158,5 @@ pub(crate) fn open(buf: &mut [u32], frames: usize, n: usize, k: usize, column: &
     let from = last * n + k;
     words::shift_up(buf, from + frames, from, n - k);
     buf[from + last] = column[last];
-    let more = more_sixteens(n);
-    let low = smaller(few_runs(n, more) + 1, last);
-    open_wide(buf, low, last, n, k, more, column);
-    open_exact(buf, low, n, k, column);
+    open_runs(buf, last, n, k, column);
 }

@@ -23,17 +23,17 @@ abbrev Begin : Type 0
 Begin = tie.Start Inv-loop μ-loop
 
 -- the run of a pass ends within the buffer, and what it takes along neither starts before the buffer nor reaches back to the run before
-reach : (i : tie.In-loop Inv-loop μ-loop) → let l = i .before in let a = l .before .before .before .args in let r = l .loop .r - 1 in
-    (suc r * suc (a .n) + a .k ≤ length (l .loop .buf)) × (16 + 16 * a .more ≤ a .n + r) × (16 + 16 * a .more ≤ a .n + r * a .n)
+reach : (i : tie.In-loop Inv-loop μ-loop) → let l = i .before in let a = l .before .before .before .args in let r = l .loop .r - 1 in let wide = 16 + 16 * a .more in
+    (suc r * suc (a .n) + a .k ≤ length (l .loop .buf)) × (wide ≤ a .n + r + 1) × (wide ≤ r * a .n + a .k + a .n)
 reach i =
     let l : Loop = search in
     let s : Begin = search in
     let a = s .args in
     let this : suc (l .loop .r - 1) ≤ a .high = omega arith in
-    let room : a .low < a .high → 16 + 16 * a .more ≤ a .n + a .low = search in
+    let room : a .low < a .high → (16 + 16 * a .more ≤ a .n + a .low + 1) × (16 + 16 * a .more ≤ a .n + a .low + a .k) = search in
     let wide = room (omega arith) in
     let some : 1 ≤ a .n = omega arith in
-    (omega (arith, mul-le-mul-right (suc (a .n)) this), omega (arith, wide), omega (arith, wide, mul-le-mul-left (l .loop .r - 1) some))
+    (omega (arith, mul-le-mul-right (suc (a .n)) this), omega (arith, wide .0), omega (arith, wide .1, mul-le-mul-left (l .loop .r - 1) some))
 
 loop-again : tie.Need-loop-again Inv-loop μ-loop
 loop-again c =
