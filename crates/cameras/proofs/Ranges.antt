@@ -1,12 +1,12 @@
 -- A range of runs moved in a loop, the first first to close up and the last first to open. What a pass keeps is said here for any range, so that
 -- the loops over runs that move by themselves and over those that move in sixteens share it.
-use mathlib.Core.Path.{_≡_, refl, subst, _∙_}
+use mathlib.Core.Path.{_≡_, refl, _∙_}
 use mathlib.Core.List.{List}
 use Prim.Native.Nat.{ℕ, suc, _+_, _<_, _≤_}
 use native.Mathlib.Omega.{arith}
 use lib.ListN.{length, getD}
-use Rattle.cameras.specs.Moves.{ClosedTo, OpenedFrom, RunsClosed, RunsOpened}
-use Rattle.cameras.proofs.Runs.{RunClosed, RunOpened, closed-more, opened-more}
+use Rattle.cameras.specs.Moves.{RunsClosed, RunsOpened}
+use Rattle.cameras.proofs.Runs.{RunClosed, RunOpened, closed-also, closed-more, opened-also, opened-more}
 
 -- of the runs from low up to high, those before r have closed up
 pub record Closing (low high n k r : ℕ) (xs ys : List ℕ) : Type 0 where
@@ -23,7 +23,7 @@ module _ {low high n k : ℕ} {xs : List ℕ} where
   closing-more low l c s = record { from = omega (arith, c .from); upto = omega arith; same = s .same ∙ c .same; runs = λ ws d. closed-more low (c .runs ws d) s }
 
   pub closing-all : {r : ℕ} {ys : List ℕ} → r ≡ high → Closing low high n k r xs ys → RunsClosed low high n k xs ys
-  closing-all {ys = ys} e c ws d = subst (λ (z : ℕ). ClosedTo z n k ws ys) e (c .runs ws d)
+  closing-all e c ws d = closed-also e (c .runs ws d)
 
 -- of the runs from low up to high, those from r on have opened
 pub record Opening (low high n k r : ℕ) (column xs ys : List ℕ) : Type 0 where
@@ -46,4 +46,4 @@ module _ {low high n k : ℕ} {column xs : List ℕ} where
   }
 
   pub opening-all : {r : ℕ} {ys : List ℕ} → r ≡ low → Opening low high n k r column xs ys → RunsOpened low high n k column xs ys
-  opening-all {ys = ys} e c frames ws f o = subst (λ (z : ℕ). OpenedFrom z frames n k column ws ys) e (c .runs frames ws f o)
+  opening-all e c frames ws f o = opened-also e (c .runs frames ws f o)

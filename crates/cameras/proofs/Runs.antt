@@ -98,6 +98,13 @@ last-row frames n h = ap (λ (z : ℕ). z * suc n) (last h) ∙ omega arith
     last : 0 < frames → frames ≡ suc (frames - 1)
     last h = omega arith
 
+-- the same runs by another name of the first or of the last of them
+pub closed-also : {r s n k : ℕ} {xs ys : List ℕ} → r ≡ s → ClosedTo r n k xs ys → ClosedTo s n k xs ys
+closed-also {n = n} {k} {xs} {ys} e c = subst (λ (z : ℕ). ClosedTo z n k xs ys) e c
+
+pub opened-also : {r s frames n k : ℕ} {column xs ys : List ℕ} → r ≡ s → OpenedFrom r frames n k column xs ys → OpenedFrom s frames n k column xs ys
+opened-also {frames = frames} {n} {k} {column} {xs} {ys} e o = subst (λ (z : ℕ). OpenedFrom z frames n k column xs ys) e o
+
 one-on : (r : ℕ) → suc r ≡ r + 1
 one-on r = omega arith
 
@@ -106,7 +113,7 @@ module _ {n k : ℕ} (low : k ≤ n) {xs : List ℕ} where
   none-closed = record { same = refl; closed = λ i j h b. ⊎-elim (λ (l : i < 0). absurd (omega arith)) (λ (e : (i ≡ 0) × (j < k)). at xs (rw (e .0, past-before k j (e .1)) (omega arith))) b; above = λ q h. refl }
 
   pub closed-more : {r : ℕ} {ys zs : List ℕ} → ClosedTo r n k xs ys → RunClosed n k r ys zs → ClosedTo (r + 1) n k xs zs
-  closed-more {r} {ys} {zs} c s = subst (λ (z : ℕ). ClosedTo z n k xs zs) (one-on r) record {
+  closed-more {r} {ys} {zs} c s = closed-also (one-on r) record {
     same = s .same ∙ c .same;
     closed = λ i j h b.
         ⊎-elim
@@ -121,7 +128,7 @@ module _ {n k : ℕ} (low : k ≤ n) {xs : List ℕ} where
   pub all-closed : {r last frames : ℕ} {ys zs : List ℕ} → ClosedTo r n k xs ys → r ≡ last → suc last ≡ frames
       → Stretch (last * n + k) (n - k) (λ p. getD ys (last * n + k + frames + p) 0) ys zs → Closed frames n k xs zs
   all-closed {r} {last} {frames} {ys} {zs} d end e s =
-      let c = subst (λ (z : ℕ). ClosedTo z n k xs ys) end d in
+      let c = closed-also end d in
       record {
         same = s .same ∙ c .same;
         closed = λ i j f h.
@@ -197,7 +204,7 @@ module _ {n k : ℕ} (low : k ≤ n) {xs : List ℕ} where
 
     pub opened-more : {r next : ℕ} {ys zs : List ℕ} → OpenedFrom next frames n k column xs ys → next ≡ suc r → next < frames
         → RunOpened n k r (getD column r 0) ys zs → OpenedFrom r frames n k column xs zs
-    opened-more {r} {ys = ys} o e f s = opened-run (subst (λ (z : ℕ). OpenedFrom z frames n k column xs ys) e o) (omega arith) s
+    opened-more o e f s = opened-run (opened-also e o) (omega arith) s
 
     all-opened-at : {ys : List ℕ} → OpenedFrom 0 frames n k column xs ys → Added frames n k column xs ys
     all-opened-at {ys} o = record {
@@ -217,4 +224,4 @@ module _ {n k : ℕ} (low : k ≤ n) {xs : List ℕ} where
     }
 
     pub all-opened : {r : ℕ} {ys : List ℕ} → OpenedFrom r frames n k column xs ys → r ≡ 0 → Added frames n k column xs ys
-    all-opened {ys = ys} o e = all-opened-at (subst (λ (z : ℕ). OpenedFrom z frames n k column xs ys) e o)
+    all-opened o e = all-opened-at (opened-also e o)

@@ -84,7 +84,9 @@ fn close_runs(buf: &mut [u32], last: usize, n: usize, k: usize)
     let high = last - smaller(ending_runs(n, k, few), last - low);
     close_exact(buf, 0, low, n, k);
     close_wide(buf, low, high, n, k, more);
-    close_exact(buf, high, last, n, k);
+    if high < last {
+        close_exact(buf, high, last, n, k);
+    }
 }
 
 // The rows of a block of n + 1 columns close up over column k, the first run first.

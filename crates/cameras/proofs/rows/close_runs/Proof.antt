@@ -5,6 +5,7 @@ use Prim.Native.Nat.{suc, _+_, _*_, _-_, _<_, _≤_}
 use native.Mathlib.Nat.{mul-le-mul-right}
 use native.Mathlib.Omega.{arith}
 use borrow.Author.Needs.{needs}
+use Rattle.cameras.proofs.Runs.{closed-also}
 use Rattle.cameras.proofs.rows.close_runs.Statement.{statement}
 use Rattle.cameras.proofs.rows.close_runs.Tie as tie
 
@@ -38,6 +39,12 @@ returns c =
     let e : tie.After-close-exact = search in
     λ xs none. x .close-exact2 .ensures xs (w .close-wide .ensures xs (e .close-exact .ensures xs none))
 
+returns-2 : tie.Need-returns-2
+returns-2 c =
+    let w : tie.After-close-wide = search in
+    let e : tie.After-close-exact = search in
+    λ xs none. closed-also (omega arith) (w .close-wide .ensures xs (e .close-exact .ensures xs none))
+
 pub close-runs-spec : {M : Type 1} → statement M
 close-runs-spec =
     tie.close
@@ -53,4 +60,6 @@ close-runs-spec =
     close-wide-requires
     (λ c κs. (omega arith, omega arith, omega arith))
     (search needs)
-    returns)
+    returns
+    (search needs)
+    returns-2)
