@@ -73,11 +73,14 @@ fn close_wide(buf: &mut [u32], low: usize, high: usize, n: usize, k: usize, more
     }
 }
 
-// The runs before the last row close up, the first first.
+// The runs before the last row close up, the first first. A row alone has none: asking saves it the arithmetic of the ranges.
 fn close_runs(buf: &mut [u32], last: usize, n: usize, k: usize)
     requires { ⌜ (0 < n) × (k ≤ n) × (n ≤ 4096) × (suc last * suc n ≤ length (now buf)) ⌝ }
     ensures { λ _. ⌜ RunsClosed 0 last n k (now (buf .entry)) (now (buf .exit)) ⌝ }
 {
+    if last == 0 {
+        return;
+    }
     let more = more_sixteens(n);
     let few = few_runs(n, more);
     let low = smaller(few, last);
@@ -144,6 +147,9 @@ fn open_runs(buf: &mut [u32], last: usize, n: usize, k: usize, column: &[u32])
     requires { ⌜ (0 < n) × (k ≤ n) × (n ≤ 4096) × (last < length (now column)) × (suc last * suc n ≤ length (now buf)) ⌝ }
     ensures { λ _. ⌜ RunsOpened 0 last n k (now (column .entry)) (now (buf .entry)) (now (buf .exit)) ⌝ }
 {
+    if last == 0 {
+        return;
+    }
     let more = more_sixteens(n);
     let few = few_runs(n, more);
     let low = smaller(few + 1 - smaller(k, 1), last);

@@ -32,15 +32,15 @@ close-wide-requires c κs =
           (omega (arith, first), omega (arith, mul-le-mul-right (suc n) rest)),
     )
 
-returns : tie.Need-returns
-returns c =
+returns-2 : tie.Need-returns-2
+returns-2 c =
     let x : tie.After-close-exact2 = search in
     let w : tie.After-close-wide = search in
     let e : tie.After-close-exact = search in
     λ xs none. x .close-exact2 .ensures xs (w .close-wide .ensures xs (e .close-exact .ensures xs none))
 
-returns-2 : tie.Need-returns-2
-returns-2 c =
+returns-3 : tie.Need-returns-3
+returns-3 c =
     let w : tie.After-close-wide = search in
     let e : tie.After-close-exact = search in
     λ xs none. closed-also (omega arith) (w .close-wide .ensures xs (e .close-exact .ensures xs none))
@@ -49,6 +49,7 @@ pub close-runs-spec : {M : Type 1} → statement M
 close-runs-spec =
     tie.close
     (tie.spec
+    (λ c xs none. closed-also (omega arith) none)
     (search needs)
     (search needs)
     (search needs)
@@ -60,6 +61,6 @@ close-runs-spec =
     close-wide-requires
     (λ c κs. (omega arith, omega arith, omega arith))
     (search needs)
-    returns
+    returns-2
     (search needs)
-    returns-2)
+    returns-3)

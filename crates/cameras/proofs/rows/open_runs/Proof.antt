@@ -5,6 +5,7 @@ use Prim.Native.Nat.{suc, _+_, _*_, _-_, _<_, _≤_}
 use native.Mathlib.Nat.{mul-le-mul-right}
 use native.Mathlib.Omega.{arith}
 use borrow.Author.Needs.{needs}
+use Rattle.cameras.proofs.Runs.{opened-also}
 use Rattle.cameras.proofs.rows.open_runs.Statement.{statement}
 use Rattle.cameras.proofs.rows.open_runs.Tie as tie
 
@@ -21,8 +22,8 @@ open-exact-requires c κs =
     let s : tie.Start = search in
     (omega arith, omega arith, omega (arith, mul-le-mul-right (suc (s .args .n)) (l .smaller2 .ensures .1)))
 
-returns : tie.Need-returns
-returns c =
+returns-2 : tie.Need-returns-2
+returns-2 c =
     let e : tie.After-open-exact = search in
     let w : tie.After-open-wide = search in
     let l : tie.After-smaller2 = search in
@@ -32,6 +33,7 @@ pub open-runs-spec : {M : Type 1} → statement M
 open-runs-spec =
     tie.close
     (tie.spec
+    (λ c frames xs _ o. opened-also (omega arith) o)
     (search needs)
     (search needs)
     (search needs)
@@ -41,4 +43,4 @@ open-runs-spec =
     open-wide-requires
     open-exact-requires
     (search needs)
-    returns)
+    returns-2)
