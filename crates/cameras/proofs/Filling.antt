@@ -9,6 +9,7 @@ use lib.ListN.{length, getD, set, length-set}
 use lib.Seq.{getD-set-same, getD-set-other}
 use Rattle.lists.proofs.Decide.{eq-or-ne, lt-or-ge}
 use Rattle.cameras.specs.Moves.{Stretch}
+use Rattle.cameras.proofs.Runs.{at}
 
 -- the places from lo up to hi are filled
 pub record Filled (to lo hi : ℕ) (value : ℕ → ℕ) (xs ys : List ℕ) : Type 0 where
@@ -100,19 +101,10 @@ module _ {to from a b count : ℕ} {xs ys zs : List ℕ} (all : a + b ≡ count)
   pub moved-down : to ≤ from → Stretch to a (λ p. getD xs (from + p) 0) xs ys → Stretch (to + a) b (λ p. getD ys (from + a + p) 0) ys zs
       → Stretch to count (λ p. getD xs (from + p) 0) xs zs
   moved-down down s t =
-      all-filled (stretch-up (filled s) t (λ p h. s .above (from + a + p) (omega arith) ∙ word p) (omega arith) all) refl refl
-    where
-      word : (p : ℕ) → getD xs (from + a + p) 0 ≡ getD xs (from + (a + p)) 0
-      word p = ap (λ (k : ℕ). getD xs k 0) (omega arith)
+      all-filled (stretch-up (filled s) t (λ p h. s .above (from + a + p) (omega arith) ∙ at xs (omega arith)) (omega arith) all) refl refl
 
   pub moved-up : from ≤ to → Stretch (to + a) b (λ p. getD xs (from + a + p) 0) xs ys → Stretch to a (λ p. getD ys (from + p) 0) ys zs
       → Stretch to count (λ p. getD xs (from + p) 0) xs zs
   moved-up up s t =
-      let rest = stretch-up (nothing-filled a) s (λ p h. word p) (omega arith) all in
-      all-filled (stretch-down {lo = 0} {count = a} rest (simp unary-clauses t) (λ p h. s .below (from + p) (omega arith) ∙ first p) (omega arith) (omega arith)) refl refl
-    where
-      word : (p : ℕ) → getD xs (from + a + p) 0 ≡ getD xs (from + (a + p)) 0
-      word p = ap (λ (k : ℕ). getD xs k 0) (omega arith)
-
-      first : (p : ℕ) → getD xs (from + p) 0 ≡ getD xs (from + (0 + p)) 0
-      first p = ap (λ (k : ℕ). getD xs k 0) (omega arith)
+      let rest = stretch-up (nothing-filled a) s (λ p h. at xs {q = from + (a + p)} (omega arith)) (omega arith) all in
+      all-filled (stretch-down {lo = 0} {count = a} rest (simp unary-clauses t) (λ p h. s .below (from + p) (omega arith) ∙ at xs (omega arith)) (omega arith) (omega arith)) refl refl

@@ -20,7 +20,12 @@ module _ {low high n k : ℕ} {xs : List ℕ} where
   closing l = record { from = omega arith; upto = l; same = refl; runs = λ _ c. c }
 
   pub closing-more : {r : ℕ} {ys zs : List ℕ} → k ≤ n → r < high → Closing low high n k r xs ys → RunClosed n k r ys zs → Closing low high n k (r + 1) xs zs
-  closing-more low l c s = record { from = omega (arith, c .from); upto = omega arith; same = s .same ∙ c .same; runs = λ ws d. closed-more low (c .runs ws d) s }
+  closing-more inside l c s = record {
+    from = omega (arith, c .from);
+    upto = omega arith;
+    same = s .same ∙ c .same;
+    runs = λ ws d. closed-more inside (c .runs ws d) s;
+  }
 
   pub closing-all : {r : ℕ} {ys : List ℕ} → r ≡ high → Closing low high n k r xs ys → RunsClosed low high n k xs ys
   closing-all e c ws d = closed-also e (c .runs ws d)
@@ -38,11 +43,11 @@ module _ {low high n k : ℕ} {column xs : List ℕ} where
 
   pub opening-more : {r next : ℕ} {ys zs : List ℕ} → k ≤ n → low ≤ r → next ≡ suc r → Opening low high n k next column xs ys
       → RunOpened n k r (getD column r 0) ys zs → Opening low high n k r column xs zs
-  opening-more few l e c s = record {
+  opening-more inside l e c s = record {
     from = l;
     upto = omega (arith, c .upto);
     same = s .same ∙ c .same;
-    runs = λ frames ws f o. opened-more few (c .runs frames ws f o) e (omega (arith, c .upto)) s;
+    runs = λ frames ws f o. opened-more inside (c .runs frames ws f o) e (omega (arith, c .upto)) s;
   }
 
   pub opening-all : {r : ℕ} {ys : List ℕ} → r ≡ low → Opening low high n k r column xs ys → RunsOpened low high n k column xs ys

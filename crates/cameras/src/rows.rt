@@ -1,7 +1,7 @@
 // Rows of a block closed up over a column, or opened for one, a run at a time: run r is the n words from behind column k of row r up to column
 // k of the next row, in a block of n + 1 columns. Most runs move in sixteens, which take words past the run along: those are overwritten
-// later, and none of those that they overwrite is still to be read. The first few runs move too near for that, and the last few that close
-// lie too near to the buffer's end: those move by themselves. Each kind has a loop of its own, so that no run is asked which it is.
+// later, and none of those that they overwrite is still to be read. The first few runs move too short a way for that, and the last few that close
+// may lie too near to the buffer's end: those move by themselves. Each kind has a loop of its own, so that no run is asked which it is.
 use crate::words;
 ghost use mathlib.Core.Path.{_≡_};
 ghost use Prim.Native.Nat.{suc, _+_, _*_, _<_, _≤_};
@@ -27,7 +27,7 @@ fn more_sixteens(n: usize) -> usize
     (n - 1) / 16
 }
 
-// How many of the first runs move too near for sixteens: from the next on, those reach no further than the run and the words that it moves over.
+// How many of the first runs move too short a way for sixteens: past them, those reach no further than the run and the way that it moves.
 fn few_runs(n: usize, more: usize) -> usize
     requires { ⌜ 16 * more < n ⌝ }
     ensures { λ r. ⌜ (16 + 16 * more ≤ n + r + 1) × (r < 15) ⌝ }
@@ -73,7 +73,7 @@ fn close_wide(buf: &mut [u32], low: usize, high: usize, n: usize, k: usize, more
     }
 }
 
-// The runs before the last row close up, the first first. A row alone has none: asking saves it the arithmetic of the ranges.
+// The runs before the last row close up, the first first. A row alone has none, and asking spares it the arithmetic of the ranges.
 fn close_runs(buf: &mut [u32], last: usize, n: usize, k: usize)
     requires { ⌜ (0 < n) × (k ≤ n) × (n ≤ 4096) × (suc last * suc n ≤ length (now buf)) ⌝ }
     ensures { λ _. ⌜ RunsClosed 0 last n k (now (buf .entry)) (now (buf .exit)) ⌝ }
@@ -142,7 +142,7 @@ fn open_wide(
     }
 }
 
-// The runs before the last row open, the last first: the first few need room before them too, where no column stands before the first run.
+// The runs before the last row open, the last first. Where k is 0, one run more moves by itself, since a word too few stands before it.
 fn open_runs(buf: &mut [u32], last: usize, n: usize, k: usize, column: &[u32])
     requires { ⌜ (0 < n) × (k ≤ n) × (n ≤ 4096) × (last < length (now column)) × (suc last * suc n ≤ length (now buf)) ⌝ }
     ensures { λ _. ⌜ RunsOpened 0 last n k (now (column .entry)) (now (buf .entry)) (now (buf .exit)) ⌝ }

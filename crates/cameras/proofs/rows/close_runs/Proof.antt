@@ -1,7 +1,6 @@
 -- `close_runs` meets its contract: the runs close up, range after range. Those between the first few and the last few have room for sixteens: they
 -- move far enough, and the rows past them reach as far as what is read.
-use mathlib.Core.Path.{_≡_}
-use Prim.Native.Nat.{suc, _+_, _*_, _-_, _<_, _≤_}
+use Prim.Native.Nat.{suc, _+_, _-_, _≤_}
 use native.Mathlib.Nat.{mul-le-mul-right}
 use native.Mathlib.Omega.{arith}
 use borrow.Author.Needs.{needs}

@@ -1,5 +1,4 @@
 -- `close_wide` meets its contract. The loop keeps that the runs passed have closed up; what each takes along lies before the next.
-use mathlib.Core.Path.{_≡_}
 use Prim.Native.Nat.{suc, _+_, _*_, _-_, _<_, _≤_}
 use native.Mathlib.Nat.{mul-le-mul-right}
 use native.Mathlib.Omega.{arith}

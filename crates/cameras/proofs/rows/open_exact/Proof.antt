@@ -1,9 +1,8 @@
 -- `open_exact` meets its contract. The loop keeps that the runs passed have opened; each is moved by itself, then the word of its row is stored.
-use mathlib.Core.Path.{_≡_}
-use Prim.Native.Nat.{suc, _+_, _*_, _-_, _<_, _≤_}
+use Prim.Native.Nat.{suc, _+_, _*_, _-_, _≤_}
 use native.Mathlib.Nat.{mul-le-mul-right}
 use native.Mathlib.Omega.{arith}
-use lib.ListN.{length, length-set}
+use lib.ListN.{length}
 use borrow.Author.Needs.{needs}
 use Rattle.cameras.proofs.OneRun.{run-opened}
 use Rattle.cameras.proofs.Ranges.{Opening, opening, opening-more, opening-all}

@@ -1,7 +1,6 @@
 -- `open_runs` meets its contract: the runs open, range after range. Those past the first few have room for sixteens: they move far enough, and
 -- enough words stand before them.
-use mathlib.Core.Path.{_≡_}
-use Prim.Native.Nat.{suc, _+_, _*_, _-_, _<_, _≤_}
+use Prim.Native.Nat.{suc}
 use native.Mathlib.Nat.{mul-le-mul-right}
 use native.Mathlib.Omega.{arith}
 use borrow.Author.Needs.{needs}

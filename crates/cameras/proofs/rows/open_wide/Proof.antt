@@ -1,9 +1,8 @@
 -- `open_wide` meets its contract. The loop keeps that the runs passed have opened; what each takes along lies where no word is still to be read.
-use mathlib.Core.Path.{_≡_}
 use Prim.Native.Nat.{suc, _+_, _*_, _-_, _<_, _≤_}
 use native.Mathlib.Nat.{mul-le-mul-left, mul-le-mul-right}
 use native.Mathlib.Omega.{arith}
-use lib.ListN.{length, length-set}
+use lib.ListN.{length}
 use borrow.Author.Needs.{needs}
 use Rattle.cameras.proofs.OneRun.{run-opened}
 use Rattle.cameras.proofs.Ranges.{Opening, opening, opening-more, opening-all}
