@@ -23,6 +23,7 @@ refusing h r = Refusing.more h r
 pub record Removes (frames cameras n k : ℕ) (buffer : List ℕ) : Type 0 where
   pub left : cameras ≡ suc n
   pub some : 0 < frames
+  pub any : 0 < n
   pub thin : n ≤ 4096
   pub low : k ≤ n
   pub few : frames * suc n ≤ 1048576
@@ -32,8 +33,8 @@ pub removes : (frames cameras k : ℕ) (buffer : List ℕ) → firstOf (removeCh
 removes f c k buffer e =
     go (zero-silent (refusing (lit< tt) (refusing (lit< tt) (refusing (lit< tt) (refusing (lit< tt) Refusing.none)))) e)
   where
-    sized : InRange (f ∷ c ∷ (c - 1) ∷ []) → (c ≡ suc (c - 1)) × (0 < f) × (c - 1 ≤ 4096)
-    sized (InRange.more pf ff (InRange.more pc fc r)) = (omega arith, omega arith, omega arith)
+    sized : InRange (f ∷ c ∷ (c - 1) ∷ []) → (c ≡ suc (c - 1)) × (0 < f) × (0 < c - 1) × (c - 1 ≤ 4096)
+    sized (InRange.more pf ff (InRange.more pc fc (InRange.more pd fd r))) = (omega arith, omega arith, omega arith, omega arith)
 
     go : Silent (removeChecks f c k buffer) → Removes f c (c - 1) k buffer
     go (more one (more two (more three (more sixteen none)))) =
@@ -43,7 +44,8 @@ removes f c k buffer e =
         record {
           left = left;
           some = ranged .1;
-          thin = ranged .2;
+          any = ranged .2;
+          thin = ranged .3;
           low = ltb-false (c - 1) k sixteen;
           few = rw words (ltb-false 1048576 (volume (sides f c)) two);
           fits = rw words (ltb-false (length buffer) (volume (sides f c)) three);
@@ -65,6 +67,7 @@ lengths-left f c k buffer e = go (in-range (f ∷ c ∷ (c - 1) ∷ []) (passed 
 -- adding
 pub record Adds (frames n k : ℕ) (column buffer : List ℕ) : Type 0 where
   pub some : 0 < frames
+  pub any : 0 < n
   pub thin : n ≤ 4096
   pub low : k ≤ n
   pub fits : frames * suc n ≤ length buffer
@@ -80,13 +83,14 @@ adds f n k column buffer e =
     (refusing (lit< tt) (refusing (lit< tt) (refusing (lit< tt) (refusing (lit< tt) Refusing.none)))))))
     e)
   where
-    sized : InRange (f ∷ n ∷ (n + 1) ∷ []) → (0 < f) × (n ≤ 4096)
-    sized (InRange.more pf ff (InRange.more pn fn r)) = (omega arith, omega arith)
+    sized : InRange (f ∷ n ∷ (n + 1) ∷ []) → (0 < f) × (0 < n) × (n ≤ 4096)
+    sized (InRange.more pf ff (InRange.more pn fn r)) = (omega arith, omega arith, omega arith)
 
     go : Silent (addChecks f n k column buffer) → Adds f n k column buffer
     go (more one (more two (more two′ (more three (more sixteen (more seventeen (more twentyfive none))))))) = record {
       some = sized (in-range (f ∷ n ∷ (n + 1) ∷ []) one) .0;
-      thin = sized (in-range (f ∷ n ∷ (n + 1) ∷ []) one) .1;
+      any = sized (in-range (f ∷ n ∷ (n + 1) ∷ []) one) .1;
+      thin = sized (in-range (f ∷ n ∷ (n + 1) ∷ []) one) .2;
       low = ltb-false n k sixteen;
       fits = omega (arith, volume-two f (n + 1), ltb-false (length buffer) (volume (sides f (n + 1))) seventeen);
       long = eqb-true (length column) f (not-false (eqb (length column) f) twentyfive);

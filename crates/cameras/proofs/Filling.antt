@@ -3,11 +3,13 @@ use mathlib.Core.Path.{_≡_, refl, sym, ap, _∙_}
 use mathlib.Core.List.{List}
 use mathlib.Core.Logic.{⊎-elim}
 use Prim.Native.Nat.{ℕ, _+_, _-_, _<_, _≤_}
+use native.Mathlib.Numerals.{unary-clauses}
 use native.Mathlib.Omega.{arith}
 use lib.ListN.{length, getD, set, length-set}
 use lib.Seq.{getD-set-same, getD-set-other}
 use Rattle.lists.proofs.Decide.{eq-or-ne, lt-or-ge}
 use Rattle.cameras.specs.Moves.{Stretch}
+use Rattle.cameras.proofs.Runs.{at}
 
 -- the places from lo up to hi are filled
 pub record Filled (to lo hi : ℕ) (value : ℕ → ℕ) (xs ys : List ℕ) : Type 0 where
@@ -27,6 +29,9 @@ module _ {to : ℕ} {value : ℕ → ℕ} {xs : List ℕ} where
     below = λ q h. f .below q (omega arith);
     above = λ q h. f .above q (omega arith);
   }
+
+  filled : {count : ℕ} {ys : List ℕ} → Stretch to count value xs ys → Filled to 0 count value xs ys
+  filled s = record { same = s .same; holds = λ p l h. s .holds p h; below = λ q h. s .below q (omega arith); above = s .above }
 
   module _ {lo hi : ℕ} {ys : List ℕ} where
     -- one place more at the back
@@ -90,3 +95,16 @@ module _ {to : ℕ} {value : ℕ → ℕ} {xs : List ℕ} where
     where
       place : (p : ℕ) → lo ≤ p → to + p ≡ to + lo + (p - lo)
       place p g = omega arith
+
+-- two moves of words that follow each other are one move: to a place before them, the first move first, and to a place after them, the last first
+module _ {to from a b count : ℕ} {xs ys zs : List ℕ} (all : a + b ≡ count) where
+  pub moved-down : to ≤ from → Stretch to a (λ p. getD xs (from + p) 0) xs ys → Stretch (to + a) b (λ p. getD ys (from + a + p) 0) ys zs
+      → Stretch to count (λ p. getD xs (from + p) 0) xs zs
+  moved-down down s t =
+      all-filled (stretch-up (filled s) t (λ p h. s .above (from + a + p) (omega arith) ∙ at xs (omega arith)) (omega arith) all) refl refl
+
+  pub moved-up : from ≤ to → Stretch (to + a) b (λ p. getD xs (from + a + p) 0) xs ys → Stretch to a (λ p. getD ys (from + p) 0) ys zs
+      → Stretch to count (λ p. getD xs (from + p) 0) xs zs
+  moved-up up s t =
+      let rest = stretch-up (nothing-filled a) s (λ p h. at xs {q = from + (a + p)} (omega arith)) (omega arith) all in
+      all-filled (stretch-down {lo = 0} {count = a} rest (simp unary-clauses t) (λ p h. s .below (from + p) (omega arith) ∙ at xs (omega arith)) (omega arith) (omega arith)) refl refl

@@ -4,6 +4,8 @@ pub mod Filling
 pub mod OneRun
 -- the runs one after the other
 pub mod Runs
+-- a range of runs in one loop
+pub mod Ranges
 -- what the checks tell where none holds
 pub mod Accepted
 -- rows closed up and words zeroed are the block without the column

@@ -6,8 +6,8 @@ use Prim.Native.Nat.{ℕ, suc, _+_, _*_, _-_, _<_, _≤_}
 use native.Mathlib.Omega.{arith}
 use lib.ListN.{length, getD, set, length-set}
 use lib.Seq.{getD-set-same, getD-set-other}
-use Rattle.cameras.specs.Moves.{Stretch, RunClosed, RunOpened}
-use Rattle.cameras.proofs.Runs.{at}
+use Rattle.cameras.specs.Moves.{Stretch}
+use Rattle.cameras.proofs.Runs.{RunClosed, RunOpened, at}
 
 module _ {n k r wide : ℕ} (all : n ≤ wide) (few : wide ≤ n + r + 1) where
   -- on the way down, words past the run go along up to the next run
@@ -21,9 +21,9 @@ module _ {n k r wide : ℕ} (all : n ≤ wide) (few : wide ≤ n + r + 1) where
 
   -- on the way up, words before the run go along, and one of them is where the new word is then stored
   pub run-opened : {to : ℕ} (from : ℕ) {xs ys : List ℕ} (word : ℕ) → to + wide ≡ r * suc n + k + 1 + n → from + wide ≡ r * n + k + n → suc r * suc n + k ≤ length xs
-      → Stretch to wide (λ p. getD xs (from + p) 0) xs ys → RunOpened n k r word xs (set ys (r * n + k + r + 1 - 1) word)
+      → Stretch to wide (λ p. getD xs (from + p) 0) xs ys → RunOpened n k r word xs (set ys (r * n + k + r) word)
   run-opened {to} from {xs} {ys} word up down fits s =
-      let gap = r * n + k + r + 1 - 1 in
+      let gap = r * n + k + r in
       let other : (q : ℕ) → (q ≡ gap → ⊥) → getD (set ys gap word) q 0 ≡ getD ys q 0 = λ q e. getD-set-other ys gap q word 0 e in
       record {
         same = length-set ys gap word ∙ s .same;

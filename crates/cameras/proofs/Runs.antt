@@ -12,7 +12,7 @@ use lib.Seq.{getD-set-same, getD-set-other}
 use borrow.Author.Tests.{lt-ltb, le-ltb}
 use Rattle.lists.proofs.Decide.{lt-or-ge, eq-or-ne}
 use Rattle.cameras.specs.Columns.{past, Added}
-use Rattle.cameras.specs.Moves.{Stretch, From, RunClosed, RunOpened, OpenedFrom, Closed}
+use Rattle.cameras.specs.Moves.{Stretch, Before, From, ClosedTo, OpenedFrom, Closed}
 
 -- columns before k stand, columns from k on are one further
 pub past-before : (k j : ℕ) → j < k → past k j ≡ j
@@ -25,9 +25,21 @@ past-after k j h = rw (le-ltb j k h)
 pub at : (l : List ℕ) {p q : ℕ} → p ≡ q → getD l p 0 ≡ getD l q 0
 at l e = ap (λ (z : ℕ). getD l z 0) e
 
--- place (i, j) lies before column k of row r
-abbrev pub Before : ℕ → ℕ → ℕ → ℕ → Type 0
-Before k r i j = (i < r) ⊎ ((i ≡ r) × (j < k))
+-- run r has closed up: its n words, which stood from behind column k of row r of n + 1 columns on, stand from column k of row r of n columns on;
+-- words before those stand, and words from column k of the next row on
+pub record RunClosed (n k r : ℕ) (xs ys : List ℕ) : Type 0 where
+  pub same : length ys ≡ length xs
+  pub closed : (p : ℕ) → p < n → getD ys (r * n + k + p) 0 ≡ getD xs (r * suc n + k + 1 + p) 0
+  pub below : (q : ℕ) → q < r * n + k → getD ys q 0 ≡ getD xs q 0
+  pub above : (q : ℕ) → suc r * suc n + k ≤ q → getD ys q 0 ≡ getD xs q 0
+
+-- run r has opened, and the word stands before it at column k of row r; words before those that were read stand, and words past the run
+pub record RunOpened (n k r word : ℕ) (xs ys : List ℕ) : Type 0 where
+  pub same : length ys ≡ length xs
+  pub opened : (p : ℕ) → p < n → getD ys (r * suc n + k + 1 + p) 0 ≡ getD xs (r * n + k + p) 0
+  pub new : getD ys (r * suc n + k) 0 ≡ word
+  pub below : (q : ℕ) → q < r * n + k → getD ys q 0 ≡ getD xs q 0
+  pub above : (q : ℕ) → suc r * suc n + k ≤ q → getD ys q 0 ≡ getD xs q 0
 
 -- place (i, j) is place p of run r, in the block without the column and in the block with it
 pub record InRun (n k r i j : ℕ) : Type 0 where
@@ -79,18 +91,19 @@ module _ {n k : ℕ} (low : k ≤ n) where
   from-offset r i j (inl l) = omega (arith, mul-le-mul-right (suc n) l)
   from-offset r i j (inr (e, b)) = rw (e, past-after k j b) (omega arith)
 
--- the runs before r have closed up; what stood from column k of row r on stands
-pub record ClosedTo (r n k : ℕ) (xs ys : List ℕ) : Type 0 where
-  pub same : length ys ≡ length xs
-  pub closed : (i j : ℕ) → j < n → Before k r i j → getD ys (i * n + j) 0 ≡ getD xs (i * suc n + past k j) 0
-  pub above : (q : ℕ) → r * suc n + k ≤ q → getD ys q 0 ≡ getD xs q 0
-
 -- the last row and those before it
 pub last-row : (frames n : ℕ) → 0 < frames → frames * suc n ≡ (frames - 1) * suc n + suc n
 last-row frames n h = ap (λ (z : ℕ). z * suc n) (last h) ∙ omega arith
   where
     last : 0 < frames → frames ≡ suc (frames - 1)
     last h = omega arith
+
+-- the same runs by another name of the first or of the last of them
+pub closed-also : {r s n k : ℕ} {xs ys : List ℕ} → r ≡ s → ClosedTo r n k xs ys → ClosedTo s n k xs ys
+closed-also {n = n} {k} {xs} {ys} e c = subst (λ (z : ℕ). ClosedTo z n k xs ys) e c
+
+pub opened-also : {r s frames n k : ℕ} {column xs ys : List ℕ} → r ≡ s → OpenedFrom r frames n k column xs ys → OpenedFrom s frames n k column xs ys
+opened-also {frames = frames} {n} {k} {column} {xs} {ys} e o = subst (λ (z : ℕ). OpenedFrom z frames n k column xs ys) e o
 
 one-on : (r : ℕ) → suc r ≡ r + 1
 one-on r = omega arith
@@ -100,7 +113,7 @@ module _ {n k : ℕ} (low : k ≤ n) {xs : List ℕ} where
   none-closed = record { same = refl; closed = λ i j h b. ⊎-elim (λ (l : i < 0). absurd (omega arith)) (λ (e : (i ≡ 0) × (j < k)). at xs (rw (e .0, past-before k j (e .1)) (omega arith))) b; above = λ q h. refl }
 
   pub closed-more : {r : ℕ} {ys zs : List ℕ} → ClosedTo r n k xs ys → RunClosed n k r ys zs → ClosedTo (r + 1) n k xs zs
-  closed-more {r} {ys} {zs} c s = subst (λ (z : ℕ). ClosedTo z n k xs zs) (one-on r) record {
+  closed-more {r} {ys} {zs} c s = closed-also (one-on r) record {
     same = s .same ∙ c .same;
     closed = λ i j h b.
         ⊎-elim
@@ -115,7 +128,7 @@ module _ {n k : ℕ} (low : k ≤ n) {xs : List ℕ} where
   pub all-closed : {r last frames : ℕ} {ys zs : List ℕ} → ClosedTo r n k xs ys → r ≡ last → suc last ≡ frames
       → Stretch (last * n + k) (n - k) (λ p. getD ys (last * n + k + frames + p) 0) ys zs → Closed frames n k xs zs
   all-closed {r} {last} {frames} {ys} {zs} d end e s =
-      let c = subst (λ (z : ℕ). ClosedTo z n k xs ys) end d in
+      let c = closed-also end d in
       record {
         same = s .same ∙ c .same;
         closed = λ i j f h.
@@ -191,7 +204,7 @@ module _ {n k : ℕ} (low : k ≤ n) {xs : List ℕ} where
 
     pub opened-more : {r next : ℕ} {ys zs : List ℕ} → OpenedFrom next frames n k column xs ys → next ≡ suc r → next < frames
         → RunOpened n k r (getD column r 0) ys zs → OpenedFrom r frames n k column xs zs
-    opened-more {r} {ys = ys} o e f s = opened-run (subst (λ (z : ℕ). OpenedFrom z frames n k column xs ys) e o) (omega arith) s
+    opened-more o e f s = opened-run (opened-also e o) (omega arith) s
 
     all-opened-at : {ys : List ℕ} → OpenedFrom 0 frames n k column xs ys → Added frames n k column xs ys
     all-opened-at {ys} o = record {
@@ -211,4 +224,4 @@ module _ {n k : ℕ} (low : k ≤ n) {xs : List ℕ} where
     }
 
     pub all-opened : {r : ℕ} {ys : List ℕ} → OpenedFrom r frames n k column xs ys → r ≡ 0 → Added frames n k column xs ys
-    all-opened {ys = ys} o e = all-opened-at (subst (λ (z : ℕ). OpenedFrom z frames n k column xs ys) e o)
+    all-opened o e = all-opened-at (opened-also e o)

@@ -13,21 +13,9 @@ pub record Stretch (to count : ℕ) (value : ℕ → ℕ) (xs ys : List ℕ) : T
   pub below : (q : ℕ) → q < to → getD ys q 0 ≡ getD xs q 0
   pub above : (q : ℕ) → to + count ≤ q → getD ys q 0 ≡ getD xs q 0
 
--- run r has closed up: its n words, which stood from behind column k of row r of n + 1 columns on, stand from column k of row r of n columns on;
--- words before those stand, and words from column k of the next row on
-pub record RunClosed (n k r : ℕ) (xs ys : List ℕ) : Type 0 where
-  pub same : length ys ≡ length xs
-  pub closed : (p : ℕ) → p < n → getD ys (r * n + k + p) 0 ≡ getD xs (r * suc n + k + 1 + p) 0
-  pub below : (q : ℕ) → q < r * n + k → getD ys q 0 ≡ getD xs q 0
-  pub above : (q : ℕ) → suc r * suc n + k ≤ q → getD ys q 0 ≡ getD xs q 0
-
--- run r has opened, and the word stands before it at column k of row r; words before those that were read stand, and words past the run
-pub record RunOpened (n k r word : ℕ) (xs ys : List ℕ) : Type 0 where
-  pub same : length ys ≡ length xs
-  pub opened : (p : ℕ) → p < n → getD ys (r * suc n + k + 1 + p) 0 ≡ getD xs (r * n + k + p) 0
-  pub new : getD ys (r * suc n + k) 0 ≡ word
-  pub below : (q : ℕ) → q < r * n + k → getD ys q 0 ≡ getD xs q 0
-  pub above : (q : ℕ) → suc r * suc n + k ≤ q → getD ys q 0 ≡ getD xs q 0
+-- place (i, j) lies before column k of row r
+abbrev pub Before : ℕ → ℕ → ℕ → ℕ → Type 0
+Before k r i j = (i < r) ⊎ ((i ≡ r) × (j < k))
 
 -- place (i, j) lies at column k of row r or past it
 abbrev pub From : ℕ → ℕ → ℕ → ℕ → Type 0
@@ -40,6 +28,21 @@ pub record OpenedFrom (r frames n k : ℕ) (column xs ys : List ℕ) : Type 0 wh
   pub new : (i : ℕ) → r ≤ i → i < frames → getD ys (i * suc n + k) 0 ≡ getD column i 0
   pub below : (q : ℕ) → q < r * n + k → getD ys q 0 ≡ getD xs q 0
   pub tail : (q : ℕ) → frames * suc n ≤ q → getD ys q 0 ≡ getD xs q 0
+
+-- if the runs from high on had opened, and the last row, then those from low on have
+abbrev pub RunsOpened : ℕ → ℕ → ℕ → ℕ → List ℕ → List ℕ → List ℕ → Type 0
+RunsOpened low high n k column ys zs =
+    (frames : ℕ) → (xs : List ℕ) → high < frames → OpenedFrom high frames n k column xs ys → OpenedFrom low frames n k column xs zs
+
+-- the runs before r have closed up; what stood from column k of row r on stands
+pub record ClosedTo (r n k : ℕ) (xs ys : List ℕ) : Type 0 where
+  pub same : length ys ≡ length xs
+  pub closed : (i j : ℕ) → j < n → Before k r i j → getD ys (i * n + j) 0 ≡ getD xs (i * suc n + past k j) 0
+  pub above : (q : ℕ) → r * suc n + k ≤ q → getD ys q 0 ≡ getD xs q 0
+
+-- if the runs before low had closed up, then those before high have
+abbrev pub RunsClosed : ℕ → ℕ → ℕ → ℕ → List ℕ → List ℕ → Type 0
+RunsClosed low high n k ys zs = (xs : List ℕ) → ClosedTo low n k xs ys → ClosedTo high n k xs zs
 
 -- the rows have closed up; words past the block stand
 pub record Closed (frames n k : ℕ) (xs ys : List ℕ) : Type 0 where

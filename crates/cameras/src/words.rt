@@ -79,6 +79,47 @@ pub(crate) fn shift_up(buf: &mut [u32], to: usize, from: usize, count: usize)
     }
 }
 
+// Moves sixteen words, and so many sixteens more, to a place before them. The first stands outside the loop, since most runs have no other.
+pub(crate) fn wide_down(buf: &mut [u32], to: usize, from: usize, more: usize)
+    requires { ⌜ (to ≤ from) × (from + (16 + 16 * more) ≤ length (now buf)) ⌝ }
+    ensures { λ _. ⌜ Stretch to (16 + 16 * more) (λ p. getD (now (buf .entry)) (from + p) 0) (now (buf .entry)) (now (buf .exit)) ⌝ }
+{
+    sixteen(buf, to, from);
+    sixteens_down(buf, to + 16, from + 16, more);
+}
+
+// Moves sixteen words, and so many sixteens more before them, to a place after them.
+pub(crate) fn wide_up(buf: &mut [u32], to: usize, from: usize, more: usize)
+    requires { ⌜ (from ≤ to) × (to + (16 + 16 * more) ≤ length (now buf)) ⌝ }
+    ensures { λ _. ⌜ Stretch to (16 + 16 * more) (λ p. getD (now (buf .entry)) (from + p) 0) (now (buf .entry)) (now (buf .exit)) ⌝ }
+{
+    let others = 16 * more;
+    sixteen(buf, to + others, from + others);
+    sixteens_up(buf, to, from, more);
+}
+
+// Moves count words to a place before them: whole sixteens, then those left word by word.
+pub(crate) fn exact_down(buf: &mut [u32], to: usize, from: usize, count: usize)
+    requires { ⌜ (to ≤ from) × (from + count ≤ length (now buf)) ⌝ }
+    ensures { λ _. ⌜ Stretch to count (λ p. getD (now (buf .entry)) (from + p) 0) (now (buf .entry)) (now (buf .exit)) ⌝ }
+{
+    let whole = count / 16;
+    let moved = 16 * whole;
+    sixteens_down(buf, to, from, whole);
+    shift_down(buf, to + moved, from + moved, count - moved);
+}
+
+// Moves count words to a place after them: those past whole sixteens word by word, then the sixteens.
+pub(crate) fn exact_up(buf: &mut [u32], to: usize, from: usize, count: usize)
+    requires { ⌜ (from ≤ to) × (to + count ≤ length (now buf)) ⌝ }
+    ensures { λ _. ⌜ Stretch to count (λ p. getD (now (buf .entry)) (from + p) 0) (now (buf .entry)) (now (buf .exit)) ⌝ }
+{
+    let whole = count / 16;
+    let before = 16 * whole;
+    shift_up(buf, to + before, from + before, count - before);
+    sixteens_up(buf, to, from, whole);
+}
+
 // Zeroes count words.
 pub(crate) fn zero(buf: &mut [u32], from: usize, count: usize)
     requires { ⌜ from + count ≤ length (now buf) ⌝ }

@@ -23,6 +23,6 @@ add-spec =
     (search needs)
     (search needs)
     (λ c. search refused)
-    (λ c κs. let h = checked (search) (search via) in (h .some, h .low, h .thin, h .fits, h .long))
+    (λ c κs. let h = checked (search) (search via) in (h .some, h .any, h .low, h .thin, h .fits, h .long))
     (search needs)
     returns-2)

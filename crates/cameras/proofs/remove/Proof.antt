@@ -41,7 +41,7 @@ remove-spec =
     (search needs)
     (λ c. search refused)
     (λ c. omega (arith, checked (search) (search via)))
-    (λ c κs. let h = checked (search) (search via) in (h .some, h .low, h .thin, h .fits))
+    (λ c κs. let h = checked (search) (search via) in (h .some, h .any, h .low, h .thin, h .fits))
     (λ c. omega (arith, checked (search) (search via)))
     mul-zero
     zero-requires

@@ -4,7 +4,7 @@ use Prim.Native.Nat.{suc, _+_, _*_, _-_}
 use native.Mathlib.Omega.{arith}
 use lib.ListN.{length-set}
 use borrow.Author.Needs.{needs}
-use Rattle.cameras.proofs.Runs.{last-opened, last-row}
+use Rattle.cameras.proofs.Runs.{last-opened, all-opened, last-row}
 use Rattle.cameras.proofs.rows.open.Statement.{statement}
 use Rattle.cameras.proofs.rows.open.Tie as tie
 
@@ -17,19 +17,14 @@ slice-write-buf c = let u : tie.After-shift-up = search in omega (arith, ends (s
 open-runs-requires : tie.Need-open-runs-requires
 open-runs-requires c κs =
     let u : tie.After-shift-up = search in
-    (omega arith, omega arith, omega arith, simp length-set (omega (arith, u .shift-up .ensures .same)), omega arith)
+    (omega arith, omega arith, omega arith, omega arith, simp length-set (omega (arith, ends (search), u .shift-up .ensures .same)))
 
 returns : tie.Need-returns
 returns c =
-    let u : tie.After-shift-up = search in
     let r : tie.After-open-runs = search in
-    r .open-runs .ensures _ (last-opened (omega arith) (omega arith) (omega arith) (u .shift-up .ensures))
-
-same-length : tie.Need-same-length
-same-length c =
     let u : tie.After-shift-up = search in
-    let r : tie.After-open-runs = search in
-    r .open-runs .ensures _ (last-opened (omega arith) (omega arith) (omega arith) (u .shift-up .ensures)) .same
+    let last = last-opened (omega arith) (omega arith) (omega arith) (u .shift-up .ensures) in
+    all-opened (omega arith) (r .open-runs .ensures _ _ (omega arith) last) (omega arith)
 
 pub open-spec : {M : Type 1} → statement M
 open-spec =
@@ -47,5 +42,5 @@ open-spec =
     (λ c. omega (arith, ends (search)))
     slice-write-buf
     open-runs-requires
-    same-length
+    (λ c. returns c .same)
     returns)
