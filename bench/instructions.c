@@ -10,19 +10,24 @@
 
 static uint32_t block[1 << 20], scratch[4096], column[4096];
 
+static uint32_t turn(size_t m, size_t n) { return zib_turn(block, m * n, scratch, m > n ? m : n, m, n); }
+static uint32_t back(size_t m, size_t n) { return zib_turn_back(block, m * n, scratch, m > n ? m : n, m, n); }
+static uint32_t halves(size_t m, size_t n) { return zib_turn_halves(block, m * n, m, n); }
+static uint32_t remove_camera(size_t m, size_t n) { return zib_remove_camera(block, m * n, m, n, n / 2); }
+static uint32_t add_camera(size_t m, size_t n) { return zib_add_camera(block, m * n, m, n - 1, n / 2, column, m); }
+
+static const struct {
+    const char *name;
+    uint32_t (*make)(size_t m, size_t n);
+} calls[] = {{"turn", turn}, {"back", back}, {"halves", halves}, {"remove", remove_camera}, {"add", add_camera}};
+
 int main(int count, char **words) {
     if (count != 5) return 2;
-    const char *call = words[1];
+    size_t k = 0;
+    while (k < sizeof calls / sizeof *calls && strcmp(calls[k].name, words[1]) != 0) k++;
+    if (k == sizeof calls / sizeof *calls) return 2;
     size_t m = strtoul(words[2], NULL, 10), n = strtoul(words[3], NULL, 10);
-    size_t longest = m > n ? m : n;
     uint32_t number = 0;
-    for (long times = strtol(words[4], NULL, 10); times > 0; times--) {
-        if (!strcmp(call, "turn")) number = zib_turn(block, m * n, scratch, longest, m, n);
-        else if (!strcmp(call, "back")) number = zib_turn_back(block, m * n, scratch, longest, m, n);
-        else if (!strcmp(call, "halves")) number = zib_turn_halves(block, m * n, m, n);
-        else if (!strcmp(call, "remove")) number = zib_remove_camera(block, m * n, m, n, n / 2);
-        else if (!strcmp(call, "add")) number = zib_add_camera(block, m * n, m, n - 1, n / 2, column, m);
-        else return 2;
-    }
+    for (long times = strtol(words[4], NULL, 10); times > 0; times--) number |= calls[k].make(m, n);
     return number != 0;
 }
