@@ -41,17 +41,17 @@ static uint32_t by_budget(struct file f, size_t m, size_t n, size_t stages, size
     return number;
 }
 
-/* The words of a stage, then the disk; the same words again and the progress word, then the disk. */
-static uint32_t by_stage(struct file f, size_t m, size_t n, size_t lines) {
-    uint32_t number = 0;
-    while (number == 0 && *f.progress < 2 * lines + 1) {
+/* The words of a stage, then the disk; the same words again and the progress word, then the disk. Answers whether the disk took them all. */
+static int by_stage(struct file f, size_t m, size_t n, size_t lines, uint32_t *number) {
+    *number = 0;
+    while (*number == 0 && *f.progress < 2 * lines + 1) {
         size_t words = stage_words(m, n, lines, *f.progress);
-        number = zib_resume(f.block, f.words, f.scratch, f.longest, f.progress, m, n, words);
-        if (msync(f.progress, f.bytes, MS_SYNC) != 0) return 1;
-        if (number == 0) number = zib_resume(f.block, f.words, f.scratch, f.longest, f.progress, m, n, words + 1);
-        if (msync(f.progress, f.bytes, MS_SYNC) != 0) return 1;
+        *number = zib_resume(f.block, f.words, f.scratch, f.longest, f.progress, m, n, words);
+        if (msync(f.progress, f.bytes, MS_SYNC) != 0) return 0;
+        if (*number == 0) *number = zib_resume(f.block, f.words, f.scratch, f.longest, f.progress, m, n, words + 1);
+        if (msync(f.progress, f.bytes, MS_SYNC) != 0) return 0;
     }
-    return number;
+    return 1;
 }
 
 int main(int count, char **args) {
@@ -72,7 +72,7 @@ int main(int count, char **args) {
     f.block = f.scratch + f.longest;
     uint32_t number;
     if (strcmp(args[4], "--sync") == 0) {
-        number = by_stage(f, m, n, lines.count);
+        if (!by_stage(f, m, n, lines.count, &number)) return failed("the file cannot be written to the disk");
     } else {
         size_t budget = strtoul(args[4], NULL, 10);
         if (budget <= f.longest) return failed("the budget must be above the longer side, so that every stage is finished some time");

@@ -21,7 +21,7 @@
  * together, 0.4 to 4 where single words move.
  *
  * Sides and lengths are 1 to 4,096; a block has at most 1,048,576 words, from the first word of the buffer on.
- * A buffer may not be longer than the block: turns, chains, requests and tiles take one of exactly the block's size. Where a call says
+ * A buffer may not be longer than the block: turns, chains, requests, tiles and running cycles take one of exactly the block's size. Where a call says
  * otherwise (cameras, sheets), the words past the block stay unchanged, and so does scratch past what is needed.
  */
 #ifndef ZIBSNARDA_H
@@ -106,8 +106,9 @@ struct zib_line_record {
 
 /*
  * One line of zib_turn: the line that the record names moves, and the record counts it. From a record at 0, with the same m and n and
- * nobody else writing to buffer or record, the buffer holds the turn when the record reaches the count of zib_lines; until then it
- * holds neither. A call after that changes nothing and answers 0. Scratch is as for zib_turn, and may be another one at each call.
+ * nobody else writing to buffer or record, the buffer holds the turn when the record reaches the count of zib_lines; on the way it
+ * may hold neither the block nor the turn. A call after that changes neither buffer nor record and answers 0. Scratch is as for zib_turn, zeroed
+ * by every accepted call, and may be another one at each call.
  * A refusal leaves the record too. Answers 0, or the first of 1, 2, 3, 13, 4, 12 that holds.
  */
 uint32_t zib_tick(uint32_t *buffer, size_t buffer_words, uint32_t *scratch, size_t scratch_words, struct zib_line_record *lines,

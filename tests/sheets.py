@@ -14,7 +14,6 @@ import itertools
 import os
 import platform
 import re
-import shutil
 import subprocess
 import sys
 import termios
@@ -333,10 +332,6 @@ def command(program):
     """How PROGRAM, which is for x86-64, is run on this machine."""
     if platform.machine() in ("x86_64", "AMD64"):
         return [program]
-    needed = {"qemu-user": shutil.which("qemu-x86_64"), "libc6-amd64-cross": os.path.isdir("/usr/x86_64-linux-gnu")}
-    missing = [package for package, there in needed.items() if not there]
-    if missing:
-        subprocess.run(["apt-get", "install", "-y", "-q"] + missing, check=True, stdout=subprocess.DEVNULL)
     return ["qemu-x86_64", "-L", "/usr/x86_64-linux-gnu", program]
 
 

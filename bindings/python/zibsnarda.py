@@ -1,8 +1,8 @@
 """Blocks of 32-bit words rearranged within their buffer: the proved calls, over ctypes and the standard library alone.
 
 A buffer is anything that lends its memory, writable and in one piece: array.array("I"), a numpy array of uint32, a memoryview of either;
-readings are 64-bit and signed ("q", int64), text is bytes or a bytearray. Nothing is copied. Shapes, chains and texts that are only read
-may be any sequence of numbers, or bytes.
+readings are 64-bit and signed ("q", int64), text is bytes or a bytearray. Nothing that is written to is copied. Shapes, chains and texts that are only
+read may be any sequence of numbers, or bytes.
 
 A refused call raises Refused, with the number, the place, the name in C and a sentence, and has changed nothing. What the proof assumes and
 Python does not guarantee is tested before each call: items of the right size, memory in one piece and aligned, and buffers apart from one
@@ -100,7 +100,10 @@ def _lent(items, kind, fixed=None):
     try:
         view = memoryview(items)
     except TypeError:
-        return (kind * max(len(items), 1))(*items), len(items)
+        lent = (kind * max(len(items), 1))(*items)
+        if any(kept != item for kept, item in zip(lent, items)):
+            raise ValueError(f"a number does not fit into {size} bytes")
+        return lent, len(items)
     if view.itemsize != size or not view.c_contiguous:
         raise TypeError(f"the buffer must hold items of {size} bytes in one piece")
     if fixed is not None and view.nbytes != fixed * size:
@@ -352,6 +355,8 @@ def to_frames(offset, ticks_per_frame):
     >>> to_frames(-3, 2)
     -1
     """
+    if not -(2**63) <= offset < 2**63:
+        raise ValueError("the offset does not fit into 64 bits")
     answer = _call("to_frames", _Frames, c_int64(offset), *_sizes(ticks_per_frame))
     _accepted(answer.number)
     return answer.frames

@@ -285,7 +285,7 @@ pub fn lines(m: usize, n: usize) -> Answered<usize> {
     answered(l.number, 0, l.count)
 }
 
-/// One line of [`turn`]: the line that the record names moves, and the record counts it; a call after the last changes nothing. Scratch is as
+/// One line of [`turn`]: the line that the record names moves, and the record counts it; a call after the last changes neither block nor record. Scratch is as
 /// for a turn. 1, 2, 3, 13, 4, 12.
 ///
 /// ```

@@ -70,6 +70,22 @@ pub fn all(t: &mut Bench, seed: u64) {
     }
     t.group(&format!("columns removed and added, blocks up to {} by {}", side, side));
 
+    // widths around one and two sixteens, with no word and one behind the block
+    for frames in if t.short { 13..=18 } else { 1..=40 } {
+        for cameras in (14..=18).chain(30..=34) {
+            for &k in &[0, 1, cameras - 1, cameras] {
+                for tail in 0..2 {
+                    let buffer = r.words((frames * cameras) as usize + tail);
+                    try_remove(t, frames, cameras, k, &buffer);
+                    let buffer = r.words((frames * (cameras + 1)) as usize + tail);
+                    let column = r.words(frames as usize);
+                    try_add(t, frames, cameras, k, &column, &buffer);
+                }
+            }
+        }
+    }
+    t.group("columns removed and added, widths around one and two sixteens");
+
     for _ in 0..if t.short { 8 } else { 80 } {
         let frames = 1 + r.below(900);
         let cameras = 2 + r.below((1_048_576 / frames).min(4095) - 1).min(300);

@@ -27,7 +27,7 @@ fn main() {
     if short {
         command.remove(0);
     }
-    println!("seeds {} to {}{}", SEED, SEED + 10, if short { ", short form" } else { "" });
+    println!("seeds {} to {}{}", SEED, SEED + 11, if short { ", short form" } else { "" });
     let mut t = bench::Bench::new(driver::Driver::new(&command), short);
     guards::all(&mut t);
     flat::all(&mut t, SEED);
