@@ -2,11 +2,10 @@
 -- 25 only: freed room is always enough.
 use mathlib.Core.Path.{_≡_, refl, sym, ap, _∙_}
 use mathlib.Core.Bool.{Bool, true, false, cond}
-use mathlib.Core.List.{List, [], _∷_}
+use mathlib.Core.List.{List}
 use mathlib.Core.Logic.{_⊎_, inl, inr, ⊎-elim}
 use Prim.Native.Nat.{ℕ, suc, _+_, _*_, _-_, _<_, _≤_}
 use native.Mathlib.Omega.{arith}
-use lib.Dec.{ltb, eqb}
 use lib.ListN.{length, getD}
 use lib.Seq.{ext-getD}
 use borrow.Author.Tests.{le-ltb}
@@ -15,11 +14,11 @@ use Rattle.layout.specs.Layout.{volume}
 use Rattle.refusals.specs.FirstOf.{Check, firstOf}
 use Rattle.flat.specs.Turn.{sides}
 use Rattle.flat.proofs.Turn.{volume-two}
-use Rattle.cameras.specs.Columns.{past, Removed, Added}
-use Rattle.cameras.specs.Promises.{removeChecks, addChecks, noColumn, otherLength, badCameras, Changed, RemovePromise, AddPromise}
+use Rattle.cameras.specs.Columns.{Removed, Added}
+use Rattle.cameras.specs.Promises.{removeChecks, addChecks, noColumn, otherLength, Changed, RemovePromise, AddPromise}
 use Rattle.cameras.proofs.Runs.{at}
 use Rattle.cameras.proofs.Back.{by-cells, column-is, Other}
-use Rattle.cameras.proofs.Accepted.{Removes, removes, lengths-left, adds}
+use Rattle.cameras.proofs.Accepted.{removes, lengths-left, adds}
 
 one-removed : {frames n k : ℕ} {xs ys zs : List ℕ} → Removed frames n k xs ys → Removed frames n k xs zs → ys ≡ zs
 one-removed {frames} {n} {k} {xs} {ys} {zs} r s =

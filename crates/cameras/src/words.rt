@@ -35,8 +35,8 @@ fn sixteen(buf: &mut [u32], to: usize, from: usize)
     store(buf, to, words);
 }
 
-// Moves sixteen words, and sixteen more, to a place before them, the first first.
-pub(crate) fn sixteens_down(buf: &mut [u32], to: usize, from: usize, sixteens: usize)
+// Moves so many sixteens of words to a place before them, the first first.
+fn sixteens_down(buf: &mut [u32], to: usize, from: usize, sixteens: usize)
     requires { ⌜ (to ≤ from) × (from + 16 * sixteens ≤ length (now buf)) ⌝ }
     ensures { λ _. ⌜ Stretch to (16 * sixteens) (λ p. getD (now (buf .entry)) (from + p) 0) (now (buf .entry)) (now (buf .exit)) ⌝ }
 {
@@ -45,8 +45,8 @@ pub(crate) fn sixteens_down(buf: &mut [u32], to: usize, from: usize, sixteens: u
     }
 }
 
-// Moves sixteen words, and sixteen more, to a place after them, the last first.
-pub(crate) fn sixteens_up(buf: &mut [u32], to: usize, from: usize, sixteens: usize)
+// Moves so many sixteens of words to a place after them, the last first.
+fn sixteens_up(buf: &mut [u32], to: usize, from: usize, sixteens: usize)
     requires { ⌜ (from ≤ to) × (to + 16 * sixteens ≤ length (now buf)) ⌝ }
     ensures { λ _. ⌜ Stretch to (16 * sixteens) (λ p. getD (now (buf .entry)) (from + p) 0) (now (buf .entry)) (now (buf .exit)) ⌝ }
 {

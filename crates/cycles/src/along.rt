@@ -27,7 +27,7 @@ pub(crate) fn all(list: &[u32], buf: &mut [u32], m: usize, n: usize)
     requires { ⌜ Small m n × (now list ≡ cycles m n) × (length (now buf) ≡ m * n) ⌝ }
     ensures { λ _. ⌜ now (buf .exit) ≡ alongCycles (takes m n) (cycles m n) (now (buf .entry)) ⌝ }
 {
-    let inverse = 1099511627776 / n + 1;
+    let inverse = steps::inverse_of(n);
     let pairs = list.len() / 2;
     for k in 0..pairs {
         let start = steps::wide(list[2 * k]);

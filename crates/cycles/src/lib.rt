@@ -53,7 +53,7 @@ fn compare(list: &[u32], m: usize, n: usize) -> Judged
     requires { ⌜ Small m n ⌝ }
     ensures { λ r. ⌜ Compared m n (now (list .entry)) r ⌝ }
 {
-    let inverse = 1099511627776 / n + 1;
+    let inverse = steps::inverse_of(n);
     let mut place = 0;
     for x in 0..m * n {
         let length = length_of(m, n, inverse, x);

@@ -4,6 +4,14 @@ ghost use Prim.Native.Nat.{_*_, _<_};
 ghost use Rattle.orbits.specs.Cycles.{takes};
 ghost use Rattle.cycles.specs.Private.{Small, Inverse};
 
+// The inverse of n that a step multiplies by: 2 to the 40th by n, rounded down, and one more.
+pub(crate) fn inverse_of(n: usize) -> usize
+    requires { ⌜ 0 < n ⌝ }
+    ensures { λ r. ⌜ Inverse n r ⌝ }
+{
+    1099511627776 / n + 1
+}
+
 // Where the turn takes offset x: its row and its column exchanged. The row is found by multiplication, so that no step divides.
 pub(crate) fn step(m: usize, n: usize, inverse: usize, x: usize) -> usize
     requires { ⌜ Small m n × Inverse n inverse × (x < m * n) ⌝ }

@@ -30,9 +30,11 @@ pub record Row : Type 0 where
   pub asked : Ask
   pub says : List ℕ
 
+-- a row by its two parts
 abbrev pub row : Ask → List ℕ → Row
 row a l = record { asked = a; says = l }
 
+-- the words of the blocks of 2 by 2, 2 by 3 and 2 by 4, each word its own place
 abbrev two-two : List ℕ
 two-two = 0 ∷ 1 ∷ 2 ∷ 3 ∷ []
 

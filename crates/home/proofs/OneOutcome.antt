@@ -1,10 +1,9 @@
 -- What the count means: the fewest repeats, at least one, that bring every block of that shape back, and the same for n by m as for m by n.
 -- Any two outcomes that the promise allows coincide, because a least power is one.
-use mathlib.Core.Path.{_≡_, refl, sym, ap₂, _∙_, subst}
+use mathlib.Core.Path.{_≡_, sym, ap₂, _∙_, subst}
 use mathlib.Core.Logic.{⊎-elim}
 use Prim.Native.Nat.{ℕ, _*_, _<_, _≤_}
 use native.Mathlib.Nat.{mul-comm}
-use native.Mathlib.Omega.{arith}
 use Rattle.lists.proofs.Decide.{lt-or-ge, eq-or-ne}
 use Rattle.orbits.specs.Turns.{Fewest}
 use Rattle.orbits.proofs.Powers.{one-order}

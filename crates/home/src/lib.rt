@@ -1,5 +1,4 @@
 // How often a flat turn with the same sides is repeated until every block of that shape is home.
-ghost use mathlib.Core.Path.{_≡_};
 ghost use Prim.Native.Nat.{_*_, _<_, _≤_};
 ghost use Rattle.home.specs.Promise.{Counts, RepeatsPromise};
 

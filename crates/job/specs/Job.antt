@@ -28,11 +28,12 @@ jobText (Outcome.refused number place) words = refusalText number place
 jobText (Outcome.accepted ds chain ws) words =
     resultText (pick (named 4 chain) ds) (numberOf 4 (named 4 chain)) (jobWords (Outcome.accepted ds chain ws) words)
 
--- the number and the place that the job answers: 0 and 0 of a right sheet, else those of the refusal
+-- the number that the job answers: 0 of a right sheet, else that of the refusal
 abbrev pub jobNumber : Outcome → ℕ
 jobNumber (Outcome.refused number place) = number
 jobNumber (Outcome.accepted ds chain ws) = 0
 
+-- the place that it answers: 0 of a right sheet, else that of the refusal
 abbrev pub jobPlace : Outcome → ℕ
 jobPlace (Outcome.refused number place) = place
 jobPlace (Outcome.accepted ds chain ws) = 0

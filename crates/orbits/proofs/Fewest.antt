@@ -2,7 +2,7 @@
 -- or two it is one; and n by m takes as many as m by n, because m·n leaves 1.
 use mathlib.Core.Path.{_≡_, sym, ap, _∙_}
 use mathlib.Core.Logic.{_↔_}
-use Prim.Native.Nat.{ℕ, zero, suc, _+_, _*_, _-_, _%_, _^_, _<_, _≤_}
+use Prim.Native.Nat.{ℕ, zero, suc, _*_, _-_, _%_, _^_, _<_, _≤_}
 use native.Mathlib.Nat.{mul-comm, one-mul, pow-zero, pow-suc, add-mod-right}
 use native.Mathlib.Omega.{arith}
 use Rattle.orbits.specs.Turns.{LeavesOne, Order, Fewest}

@@ -13,12 +13,12 @@ use Rattle.flat.specs.Turn.{turned}
 use Rattle.flat.proofs.Turn.{turned-is}
 use Rattle.orbits.specs.Orbit.{iter}
 use Rattle.orbits.specs.Sent.{Carried, goes}
-use Rattle.orbits.specs.Turns.{Turns, BringBack, LeavesOne, Order}
+use Rattle.orbits.specs.Turns.{Turns, BringBack, LeavesOne}
 use Rattle.orbits.specs.Turns.Turns.{none, more}
-use Rattle.orbits.proofs.Orbit.{iter-within, home-iff}
+use Rattle.orbits.proofs.Orbit.{iter-within}
 use Rattle.orbits.proofs.Goes.{goes-permutes}
 use Rattle.orbits.proofs.Sent.{turn-iff, carried-home}
-use Rattle.orbits.proofs.Powers.{all-home, leaves-one, order-iff}
+use Rattle.orbits.proofs.Powers.{all-home, leaves-one}
 
 -- h turns take each word where the map, applied h times, takes its offset
 pub turns-carry : {h m n : ℕ} {xs ys : List ℕ} → Turns h m n xs ys → Carried (m * n - 1) (iter (goes m n) h) xs ys
@@ -75,9 +75,3 @@ back-iff h m n p = (there, λ e xs ys fits ts. carried-home (turns-carry ts) (al
     there : BringBack h m n → LeavesOne h m n
     there back =
         ⊎-elim (λ b. leaves-one h m n b (offset-home h m n b back)) (λ b. small-leaves h m n p b) (lt-or-ge 2 (m * n))
-
--- that is, at the multiples of the order of m
-pub back-multiples : (h m n p : ℕ) → 3 ≤ m * n → Order m n p → BringBack h m n ↔ (p ∣ h)
-back-multiples h m n p b o =
-    let q = home-iff (order-iff m n b p .0 o) h in
-    (λ back. q .0 (offset-home h m n b back), λ d. back-iff h m n (omega arith) .1 (leaves-one h m n b (q .1 d)))

@@ -1,6 +1,6 @@
 -- Wrong outcomes of a chain of swaps: each breaks the promise. The case is 1 by 1 by 2 by 3 holding 0 to 5, four words of scratch of
 -- which three are needed, and the chain 2; the right outcome is 0 3 1 4 2 5, scratch 0 0 0 9, lengths 1 1 3 2, order 1 and one swap.
-use mathlib.Core.Path.{_≡_, refl, sym, ap, _∙_}
+use mathlib.Core.Path.{_≡_, sym, ap, _∙_}
 use mathlib.Core.List.{List, [], _∷_}
 use Prim.Native.Nat.{ℕ}
 use native.Mathlib.Omega.{arith}

@@ -1,7 +1,7 @@
 -- Wrong outcomes of the calls on five axes, and of those on four that are given five lengths: each breaks the promise. The case on four axes is 1 by 1 by 2 by 3, and 7 for
 -- the fifth length, holding 0 to 5, four words of scratch and the chain 2; the right outcome has the lengths 1 1 3 2 0. That on five is 1 by 1 by 1 by 2 by 3 and
 -- the chain 3.
-use mathlib.Core.Path.{_≡_, refl, sym, ap, _∙_}
+use mathlib.Core.Path.{_≡_, sym, ap, _∙_}
 use mathlib.Core.List.{List, [], _∷_}
 use Prim.Native.Nat.{ℕ, _<_, _≤_}
 use native.Mathlib.Omega.{arith}

@@ -11,7 +11,7 @@ use Rattle.refusals.specs.Conditions.{firstPlace}
 use Rattle.text.specs.Print.{digits, decimal, field, fields, line}
 use Rattle.text.specs.Read.{readMore, readNumber, readField, readFields, closed, readLine, tabs}
 use Rattle.text.specs.Sheet.{rowCount, rowWidth, rowsText, sheetText, resultText, resultBy, refusalText}
-use Rattle.text.specs.Meaning.{shapeLine, chainLine, rowLines, ended, meaning, meaningBy}
+use Rattle.text.specs.Meaning.{shapeLine, chainLine, rowLines, ended, meaningBy}
 use Rattle.job.specs.Job.{Done}
 use Rattle.outcomes.proofs.Wrong.{other-number, other-list}
 

@@ -1,7 +1,7 @@
 -- Wrong outcomes of the plan for an order: each breaks the promise. The plan of order 16 (2301) is 1, 0, 2, 1, that of order 9 (1230) is
 -- 0, 1, 2, that of order 0 is empty.
-use mathlib.Core.Path.{_≡_, refl, sym, ap, _∙_}
-use mathlib.Core.List.{List, [], _∷_}
+use mathlib.Core.Path.{_≡_, sym, ap, _∙_}
+use mathlib.Core.List.{[], _∷_}
 use Prim.Native.Nat.{ℕ, _<_, _≤_}
 use native.Mathlib.Omega.{arith}
 use lib.ListN.{length}

@@ -1,7 +1,7 @@
 -- Wrong outcomes of a direct request in release 1: each breaks the promise. The case is order 9 (1230) of 2 by 3 by 1 by 1 holding 0 to 5 and
 -- four words of scratch of which three are needed; the right outcome is 0 3 1 4 2 5, scratch 0 0 0 9, lengths 3 1 1 2, order 9 and three
 -- swaps.
-use mathlib.Core.Path.{_≡_, refl, sym, ap, _∙_}
+use mathlib.Core.Path.{_≡_, sym, ap, _∙_}
 use mathlib.Core.List.{List, [], _∷_}
 use Prim.Native.Nat.{ℕ}
 use native.Mathlib.Omega.{arith}

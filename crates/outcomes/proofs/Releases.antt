@@ -1,7 +1,7 @@
 -- Both releases about the contracts of the direct requests on four and on five axes as the checker reads them from the source: a call that names an order by a number
 -- and its release, and a call by that order's number in release 1, leave the same; only the number in the answer is the one that each was given. From the theorem
 -- of crate axes, once over the number of axes.
-use mathlib.Core.Path.{_≡_, refl}
+use mathlib.Core.Path.{_≡_}
 use mathlib.Core.Bool.{false}
 use mathlib.Core.List.{List}
 use Prim.Native.Nat.{ℕ, _<_}

@@ -1,13 +1,12 @@
 -- The count of repeats: any two outcomes that its contract allows coincide. And wrong outcomes, each of which breaks the promise: 2 by 2 is
 -- home after two turns, because 2 to the 2 leaves 1 modulo 3.
-use mathlib.Core.Path.{_≡_, refl, sym, _∙_}
+use mathlib.Core.Path.{_≡_, refl, _∙_}
 use Prim.Native.Nat.{ℕ, _*_, _<_, _≤_}
 use native.Mathlib.Omega.{arith}
 use lib.Dec.{lit<}
 use contract.Lifetimes.{Lfts}
 use denote.Triple.Clauses.{AtExit}
 use borrow.Fn.Kinds.{endedOf, Dens}
-use Rattle.layout.specs.Layout.{volume}
 use Rattle.refusals.specs.FirstOf.{firstOf}
 use Rattle.refusals.specs.Calls.{sizeChecks}
 use Rattle.flat.specs.Turn.{sides}

@@ -1,6 +1,6 @@
 -- Sides that come of a side by doubling it: no smaller than it, and every one but the side itself comes of its double. So the test of a swap, which
 -- doubles the shorter side until it is no shorter than the longer one, finds whether the longer one is among them.
-use mathlib.Core.Path.{_≡_, refl, sym, ap, subst}
+use mathlib.Core.Path.{_≡_, refl, sym, subst}
 use mathlib.Core.Logic.{_⊎_, inl, inr, ⊎-elim}
 use Prim.Native.Nat.{ℕ, _+_, _<_, _≤_}
 use native.Mathlib.Nat.{le-refl}

@@ -1,19 +1,19 @@
 -- A line that scratch holds and that goes back to the buffer has moved, forwards or home; and which of the ways into scratch a pass wants.
 use mathlib.Core.Path.{_≡_, refl, sym, ap, _∙_, subst}
-use mathlib.Core.Bool.{Bool, true, false, cond, _&&_, true≢false}
+use mathlib.Core.Bool.{Bool, true, false, cond}
 use mathlib.Core.List.{List}
 use mathlib.Core.Logic.{⊎-elim}
 use Prim.Native.Nat.{ℕ, _<_}
 use native.Mathlib.Omega.{arith}
 use lib.Dec.{eqb}
 use lib.ListN.{getD}
-use borrow.Author.Tests.{eq-eqb, ne-eqb, eqb-true, eqb-false}
+use borrow.Author.Tests.{eq-eqb, ne-eqb}
 use Rattle.lists.proofs.Decide.{eq-or-ne}
 use Rattle.flat.specs.Passes.{row1, column2, source2, row3}
 use Rattle.flat.proofs.Sides.{Sides}
 use Rattle.flat.proofs.Passes.{source-is}
 use Rattle.passes.specs.Lines.{Moved, LineMoved, posOn, paired, received, toPlace, fromPlace}
-use Rattle.passes.specs.ThroughScratch.{OfPass, taken, Filled, Lifted, Fits, Past}
+use Rattle.passes.specs.ThroughScratch.{OfPass, Filled, Lifted, Fits, Past}
 use Rattle.passes.specs.declared.line.Line.{Line}
 use Rattle.passes.proofs.Filled.{all-lifted}
 
@@ -30,24 +30,15 @@ not-two m n l F e same =
     subst (λ (t : Bool). F (λ k. cond (eqb (l .pass) 1) (row1 m n k i) (cond t (column2 m n i k) (row3 m n k i))) (λ k. cond (eqb (l .pass) 1) (row1 m n k i) (cond t (source2 m n i k) (row3 m n k i))))
     (sym (ne-eqb _ _ e)) (same _)
 
--- a line that is gathered from its sources is one of pass 2
-pub in-pass-2 : (forwards : Bool) {pass : ℕ} → (forwards && eqb pass 2) ≡ true → pass ≡ 2
-in-pass-2 true e = eqb-true _ _ e
-in-pass-2 false e = absurd (true≢false (sym e))
-
--- the words that scratch takes: forwards in pass 2 from the line's sources, else from the places that its own are paired with
+-- the words that scratch takes: in pass 2 from the line's sources, else from the places that its own are paired with
 module _ (m n : ℕ) (l : Line) (xs : List ℕ) {until : ℕ} {scratch held : List ℕ} where
-  pub from-sources : (forwards : Bool) → (forwards && eqb (l .pass) 2) ≡ true →
-      Filled (λ k. k) (λ k. getD xs (posOn l (source2 m n (l .index) k)) 0) until scratch held
-      → Filled (λ k. k) (λ k. getD xs (posOn l (taken m n l forwards k)) 0) until scratch held
-  from-sources true e h = let two : l .pass ≡ 2 = in-pass-2 true e in rw two h
-  from-sources false e h = absurd (true≢false (sym e))
+  pub from-sources : l .pass ≡ 2 → Filled (λ k. k) (λ k. getD xs (posOn l (source2 m n (l .index) k)) 0) until scratch held
+      → Filled (λ k. k) (λ k. getD xs (posOn l (received m n (l .pass) (l .index) k)) 0) until scratch held
+  from-sources two h = rw two h
 
-  pub from-paired : (forwards : Bool) → (forwards && eqb (l .pass) 2) ≡ false →
-      Filled (λ k. k) (λ k. getD xs (posOn l (paired m n (l .pass) (l .index) k)) 0) until scratch held
-      → Filled (λ k. k) (λ k. getD xs (posOn l (taken m n l forwards k)) 0) until scratch held
-  from-paired true e h = not-two m n l (λ (f g : ℕ → ℕ). Filled (λ k. k) (λ k. getD xs (posOn l (f k)) 0) until scratch held → Filled (λ k. k) (λ k. getD xs (posOn l (g k)) 0) until scratch held) (eqb-false _ _ e) (λ f d. d) h
-  from-paired false e h = h
+  pub from-paired : (l .pass ≡ 2 → ⊥) → Filled (λ k. k) (λ k. getD xs (posOn l (paired m n (l .pass) (l .index) k)) 0) until scratch held
+      → Filled (λ k. k) (λ k. getD xs (posOn l (received m n (l .pass) (l .index) k)) 0) until scratch held
+  from-paired e h = not-two m n l (λ (f g : ℕ → ℕ). Filled (λ k. k) (λ k. getD xs (posOn l (f k)) 0) until scratch held → Filled (λ k. k) (λ k. getD xs (posOn l (g k)) 0) until scratch held) e (λ f d. d) h
 
 -- pass 2 gathers a line that fits home, passes 1 and 3 scatter it
 module _ {m n : ℕ} {l : Line} {xs scratch : List ℕ} (f : Fits m n l xs scratch) {held : List ℕ} where

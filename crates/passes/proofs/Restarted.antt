@@ -2,28 +2,28 @@
 -- Every call of the run is accepted, so it leaves what `run` of crate stages leaves; its stages can be begun again; and uncut they
 -- move the lines of the turn one after the other. A budget of 10,000,000 is enough from every stage on.
 use mathlib.Core.Path.{_≡_, refl, sym, ap, _∙_, subst}
-use mathlib.Core.List.{List, [], _∷_}
+use mathlib.Core.List.{List}
 use Prim.Native.Nat.{ℕ, suc, _+_, _*_, _<_, _≤_}
 use native.Mathlib.Omega.{arith}
 use native.Mathlib.Nat.{eq-of-mul-eq-mul-left}
 use lib.ListN.{length, take}
 use Rattle.refusals.specs.FirstOf.{firstOf}
 use Rattle.refusals.specs.Calls.{blockChecks, passesChecks}
-use Rattle.refusals.specs.Scratch.{need, cleared}
+use Rattle.refusals.specs.Scratch.{cleared}
 use Rattle.refusals.proofs.Calls.{block-good, room-passed}
-use Rattle.flat.specs.Turn.{sides, Turn}
+use Rattle.flat.specs.Turn.{sides}
 use Rattle.flat.proofs.Turn.{one-turn}
 use Rattle.flat.proofs.Sides.{Sides, sides-are}
-use Rattle.stages.specs.Stages.{Memory, after, remaining, call, finish, run}
+use Rattle.stages.specs.Stages.{Memory, remaining, call, finish, run}
 use Rattle.stages.specs.Lines.{stagesOf}
 use Rattle.stages.specs.Stops.{Stops}
 use Rattle.stages.proofs.Stores.{after-long}
 use Rattle.stages.proofs.Calls.{call-done, call-enough, finish-counts}
 use Rattle.stages.proofs.Lines.{steady}
-use Rattle.stages.proofs.Restart.{call-within, still-enough, restart}
+use Rattle.stages.proofs.Restart.{call-within, restart}
 use Rattle.stages.proofs.Stops.{loose, stops-resumed, stops-within, stops-long}
 use Rattle.stages.proofs.Moves as moves
-use Rattle.passes.specs.Lines.{Moved, lineCount, lineOf, lineAt, skipped, posOn, received, LineMoved}
+use Rattle.passes.specs.Lines.{Moved, lineCount, lineOf, skipped, posOn, received, LineMoved}
 use Rattle.passes.specs.ThroughScratch.{Fits}
 use Rattle.passes.specs.Promises.{TurnPromise}
 use Rattle.passes.specs.Restart.{memory, turnLines, turnStages, resumeChecks, ResumePromise, Finished, Restarts}

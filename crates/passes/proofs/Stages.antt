@@ -2,22 +2,19 @@
 -- A line that fits has its places apart, so the loops' outcome is the list stored into one word after the other.
 use mathlib.Core.Path.{_≡_, refl, sym, ap, _∙_}
 use mathlib.Core.List.{List, _++_}
-use mathlib.Core.Bool.{cond}
 use Prim.Native.Nat.{ℕ, _+_, _*_, _/_, _%_, _<_, _≤_}
 use native.Mathlib.Omega.{arith}
 use native.Mathlib.Nat.{eq-of-mul-eq-mul-left, div-lt-iff-lt-mul, le-trans}
-use lib.Dec.{ltb}
 use lib.ListN.{length, getD, take, drop}
 use borrow.Author.Tests.{lt-ltb, le-ltb}
 use Rattle.refusals.specs.Scratch.{need, cleared}
 use Rattle.flat.specs.Turn.{sides}
 use Rattle.stages.specs.Stages.{Memory, after}
-use Rattle.stages.specs.Lines.{stagesOf}
-use Rattle.stages.proofs.Filled.{filled, filled-front}
+use Rattle.stages.proofs.Filled.{filled-front}
 use Rattle.stages.proofs.Lines.{length-words, part-lift, part-return, part-clear}
 use Rattle.stages.proofs.Moves.{tab-zero}
 use Rattle.passes.specs.Lines.{lineCount, lineOf, posOn, received}
-use Rattle.passes.specs.ThroughScratch.{Grouped, Fits, Filled, Inside, Mapped, stageWords}
+use Rattle.passes.specs.ThroughScratch.{Fits, Filled, Mapped, stageWords}
 use Rattle.passes.specs.Restart.{memory, turnLines, turnStages}
 use Rattle.passes.specs.declared.line.GroupedSides.{GroupedSides}
 use Rattle.passes.specs.declared.line.Line.{Line}

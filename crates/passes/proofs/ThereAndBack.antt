@@ -1,10 +1,9 @@
 -- A turn and its reverse, either one first, restore every word. Each call has its own scratch, any that is enough.
-use mathlib.Core.Path.{_≡_, refl, sym, ap, _∙_}
+use mathlib.Core.Path.{_≡_, refl, sym, _∙_}
 use mathlib.Core.List.{List}
 use Prim.Native.Nat.{ℕ, _≤_}
-use native.Mathlib.Omega.{arith}
-use lib.ListN.{length, drop, replicate, length-append, length-replicate}
-use Rattle.refusals.specs.FirstOf.{Check, firstOf}
+use lib.ListN.{length}
+use Rattle.refusals.specs.FirstOf.{firstOf}
 use Rattle.refusals.specs.Calls.{blockChecks, passesChecks}
 use Rattle.refusals.specs.Scratch.{need}
 use Rattle.refusals.specs.Promise.{Rearranged}
@@ -32,9 +31,3 @@ there-and-back {m} {n} room p q = restored m n m n room p q
 pub back-and-there : {m n r : ℕ} {b₀ s₀ b₁ s₁ t₁ b₂ t₂ : List ℕ} → need (sides m n) ≤ length t₁
     → TurnBackPromise m n b₀ s₀ 0 b₁ s₁ → TurnPromise m n b₁ t₁ r b₂ t₂ → (r ≡ 0) × (b₂ ≡ b₀)
 back-and-there {m} {n} room p q = restored m n n m room p q
-
--- the scratch that an accepted call leaves is enough for the next
-pub enough-left : {checks : List Check} {needed : ℕ} {Right : List ℕ → Type 0} {b₀ s₀ b s : List ℕ}
-    → Rearranged checks needed Right b₀ s₀ 0 b s → needed ≤ length s
-enough-left {needed = needed} {s₀ = s₀} p =
-    omega (arith, ap length (p .zeroed refl), length-append (replicate needed 0) (drop needed s₀), length-replicate {A = ℕ} needed 0)

@@ -5,7 +5,6 @@ use mathlib.Core.Bool.{cond}
 use mathlib.Core.List.{List, [], _∷_}
 use Prim.Native.Nat.{ℕ, _+_, _<_, _≤_}
 use native.Mathlib.Omega.{arith}
-use lib.Dec.{ltb}
 use borrow.Author.Tests.{lt-ltb, le-ltb}
 use Rattle.refusals.specs.FirstOf.{check, firstOf}
 use Rattle.refusals.specs.Calls.{sizeChecks, passesChecks}
@@ -17,8 +16,7 @@ use Rattle.refusals.proofs.Promise as promise
 use Rattle.flat.specs.Turn.{sides}
 use Rattle.passes.specs.Lines.{skipped, lineCount, lineOf, LineMoved}
 use Rattle.passes.specs.ThroughScratch.{Grouped, Lies, Past, Fits}
-use Rattle.passes.specs.Ticks.{pastCount, tickChecks, LineTicked, TickPromise}
-use Rattle.passes.specs.declared.Ticked.{Ticked}
+use Rattle.passes.specs.Ticks.{pastCount, tickChecks, TickPromise}
 use Rattle.passes.specs.declared.line.GroupedSides.{GroupedSides}
 use Rattle.passes.proofs.Accepted.{flat-accepted, flat-lies, flat-asked, past-cleared}
 use Rattle.passes.proofs.Fits.{line-fits, past-none, past-more}

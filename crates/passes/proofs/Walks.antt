@@ -8,7 +8,7 @@ use native.Mathlib.Nat.{mod-lt, mod-eq-of-lt, add-mod-right, mul-one, mul-comm, 
 use lib.Dec.{eqb}
 use lib.ListN.{length, getD}
 use borrow.Author.Tests.{eqb-true, ne-eqb}
-use Rattle.flat.specs.Passes.{rowGroup, columnGroup, row1, column2, row3}
+use Rattle.flat.specs.Passes.{row1, column2, row3}
 use Rattle.flat.proofs.Sides.{Sides, sides-are}
 use Rattle.walks.specs.Walk.{walk, starts}
 use Rattle.walks.proofs.Steps.{starts-next, starts-lt}

@@ -1,6 +1,6 @@
 -- These definitions serve only the contracts of private functions: a reader of the promises can pass over them.
 -- What the functions that move lines and blocks through scratch ask and leave. Assumes nothing: these are definitions.
-use mathlib.Core.Bool.{Bool, cond}
+use mathlib.Core.Bool.{cond}
 use mathlib.Core.Path.{_≡_}
 use mathlib.Core.List.{List}
 use Prim.Native.Nat.{ℕ, _+_, _*_, _/_, _%_, _<_, _≤_}
@@ -12,7 +12,7 @@ use Rattle.flat.specs.Turn.{sides}
 use Rattle.flat.specs.Passes.{rowGroup, columnGroup}
 use Rattle.walks.specs.Walk.{walk, starts}
 use Rattle.walks.specs.Source.{Inverse, At}
-use Rattle.passes.specs.Lines.{Moved, paired, received, posOn, skipped, lineCount, lineOf}
+use Rattle.passes.specs.Lines.{Moved, paired, posOn, skipped, lineCount, lineOf}
 use Rattle.passes.specs.declared.line.GroupedSides.{GroupedSides}
 use Rattle.passes.specs.declared.line.Line.{Line}
 use Rattle.passes.specs.declared.source.Source.{Source}
@@ -61,10 +61,6 @@ stands w place t = walk place (w .step) (w .modulus) t
 -- a walk in one group, over as many places as its modulus
 abbrev pub alone : ℕ → ℕ → ℕ → Walk
 alone first step modulus = record { first = first; step = step; modulus = modulus; size = modulus; groups = 1; shift = 0; restart = 0 }
-
--- the place of the line whose word place k of scratch takes: forwards the one that it receives from, home the one that it is paired with
-abbrev pub taken : ℕ → ℕ → Line → Bool → ℕ → ℕ
-taken m n l forwards k = cond forwards (received m n (l .pass) (l .index) k) (paired m n (l .pass) (l .index) k)
 
 -- a walk goes over `count` places and pairs each, place t of group g, as f does
 pub record Follows (w : Walk) (count : ℕ) (f : ℕ → ℕ) : Type 0 where

@@ -6,7 +6,7 @@ use crate::line::Line;
 use crate::walk;
 use crate::walk::Walk;
 ghost use mathlib.Core.Path.{_≡_};
-ghost use Prim.Native.Nat.{ℕ, _+_, _<_, _≤_};
+ghost use Prim.Native.Nat.{_+_, _<_, _≤_};
 ghost use lib.ListN.{length, getD};
 ghost use Rattle.passes.specs.Lines.{paired, posOn, LineMoved};
 ghost use Rattle.passes.specs.ThroughScratch.{Grouped, Inside, GroupFits, stands, Fits, Filled, Past};

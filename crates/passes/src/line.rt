@@ -9,8 +9,8 @@ ghost use Prim.Native.Nat.{ℕ, _+_, _*_, _<_, _≤_};
 ghost use lib.Dec.{eqb};
 ghost use lib.ListN.{length, getD};
 ghost use Rattle.flat.specs.Passes.{source2};
-ghost use Rattle.passes.specs.Lines.{paired, posOn, toPlace, fromPlace, LineMoved};
-ghost use Rattle.passes.specs.ThroughScratch.{Grouped, Follows, Inside, Apart, GroupFits, stands, taken, Fits, Filled, Lifted, Past};
+ghost use Rattle.passes.specs.Lines.{paired, received, posOn, toPlace, fromPlace, LineMoved};
+ghost use Rattle.passes.specs.ThroughScratch.{Grouped, Follows, Inside, Apart, GroupFits, stands, Fits, Filled, Lifted, Past};
 
 // The sides m and n, their greatest common divisor c and their quotients a and b by it, what each side leaves modulo the other, the
 // inverse of a modulo b, and the columns of pass 1 that are left out.
@@ -213,29 +213,12 @@ pub(crate) fn put_back(buf: &mut [u32], scratch: &[u32], l: Line, until: usize)
     put_words(buf, scratch, l.start, l.stride, until);
 }
 
-// Whether a line is gathered from its sources: forwards in pass 2.
-fn by_sources(pass: usize, forwards: bool) -> bool
-    ensures { λ r. ⌜ r ≡ (forwards && eqb pass 2) ⌝ }
-{
-    if forwards {
-        return pass == 2;
-    }
-    false
-}
-
-// Scratch receives, in rising place, the first `until` words of the line: forwards as its pass leaves it, else those that its places are paired with.
-pub(crate) fn lift(
-    buf: &[u32],
-    scratch: &mut [u32],
-    s: GroupedSides,
-    l: Line,
-    until: usize,
-    forwards: bool,
-)
+// Scratch receives, in rising place, the first `until` words of the line as its pass leaves it.
+pub(crate) fn lift(buf: &[u32], scratch: &mut [u32], s: GroupedSides, l: Line, until: usize)
     requires { ⌜ Grouped s × Fits (s .m) (s .n) l (now buf) (now scratch) × (until ≤ l .count) ⌝ }
-    ensures { λ _. ⌜ Filled (λ k. k) (λ k. getD (now (buf .entry)) (posOn l (taken (s .m) (s .n) l forwards k)) 0) until (now (scratch .entry)) (now (scratch .exit)) ⌝ }
+    ensures { λ _. ⌜ Filled (λ k. k) (λ k. getD (now (buf .entry)) (posOn l (received (s .m) (s .n) (l .pass) (l .index) k)) 0) until (now (scratch .entry)) (now (scratch .exit)) ⌝ }
 {
-    if by_sources(l.pass, forwards) {
+    if l.pass == 2 {
         gather_row(buf, scratch, s, l, until);
         return;
     }
@@ -277,7 +260,7 @@ pub(crate) fn forth(buf: &mut [u32], scratch: &mut [u32], s: GroupedSides, l: Li
     requires { ⌜ Grouped s × Fits (s .m) (s .n) l (now buf) (now scratch) ⌝ }
     ensures { λ _. ⌜ LineMoved (s .m) (s .n) l (now (buf .entry)) (now (buf .exit)) × Past (l .count) (now (scratch .entry)) (now (scratch .exit)) ⌝ }
 {
-    lift(buf, scratch, s, l, l.count, true);
+    lift(buf, scratch, s, l, l.count);
     put_back(buf, scratch, l, l.count);
 }
 

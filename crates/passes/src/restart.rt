@@ -7,7 +7,6 @@ ghost use mathlib.Core.Path.{_≡_};
 ghost use Prim.Native.Nat.{_+_, _*_, _≤_};
 ghost use lib.ListN.{take};
 ghost use Rattle.stages.specs.Stages.{after, call};
-ghost use Rattle.stages.specs.Lines.{stagesOf};
 ghost use Rattle.passes.specs.Lines.{lineCount};
 ghost use Rattle.passes.specs.ThroughScratch.{Grouped, Mapped, stageWords};
 ghost use Rattle.passes.specs.Restart.{memory, turnStages};
@@ -44,7 +43,7 @@ fn store(buf: &mut [u32], scratch: &mut [u32], s: GroupedSides, p: usize, until:
     }
     let line = turning::line_of(s, 0, 1, p / 2);
     if p % 2 == 0 {
-        line::lift(buf, scratch, s, line, until, true);
+        line::lift(buf, scratch, s, line, until);
         return;
     }
     line::put_back(buf, scratch, line, until);

@@ -3,9 +3,9 @@ use crate::line::GroupedSides;
 use crate::line::Line;
 ghost use mathlib.Core.Bool.{cond, _&&_};
 ghost use mathlib.Core.Path.{_≡_};
-ghost use Prim.Native.Nat.{ℕ, _+_, _/_, _%_, _<_, _≤_};
+ghost use Prim.Native.Nat.{_+_, _/_, _%_, _<_, _≤_};
 ghost use lib.Dec.{eqb};
-ghost use Rattle.flat.specs.Passes.{row1, column2, row3};
+ghost use Rattle.flat.specs.Passes.{column2, row3};
 ghost use Rattle.passes.specs.Lines.{paired};
 ghost use Rattle.passes.specs.ThroughScratch.{Grouped, OfPass, Follows, alone};
 

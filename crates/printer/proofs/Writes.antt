@@ -1,6 +1,6 @@
 -- The writers of result sheets: what they promise on each way out. Both check the block, then the numbers of their second line, then the room for the
 -- text: the laws are over the checks of those numbers. From the definitions.
-use mathlib.Core.Path.{_≡_, refl, sym, ap, _∙_}
+use mathlib.Core.Path.{_≡_, sym, _∙_}
 use mathlib.Core.Bool.{false}
 use mathlib.Core.List.{List, [], _∷_, _++_}
 use Prim.Native.Nat.{ℕ, _<_, _≤_}

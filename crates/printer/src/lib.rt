@@ -1,3 +1,4 @@
+// The writers of result sheets and of the refusal line.
 mod page;
 mod put;
 mod writer;

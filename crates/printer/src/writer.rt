@@ -8,6 +8,7 @@ ghost use Rattle.text.specs.Sheet.{rowsText};
 ghost use Rattle.printer.specs.Put.{Room, Put};
 ghost use Rattle.printer.specs.Thin.{lineOf, stored, pageOf, Ready};
 
+// The lent bytes, and the place of the next one.
 pub(crate) struct Writer<'a> {
     out: &'a mut [u8],
     at: usize,

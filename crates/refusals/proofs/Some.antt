@@ -3,15 +3,11 @@
 use mathlib.Core.Path.{_≡_, refl}
 use mathlib.Core.Bool.{Bool, true, false, cond, _||_}
 use mathlib.Core.List.{List, [], _∷_}
-use mathlib.Core.Logic.{⊎-elim}
 use Prim.Native.Nat.{ℕ, zero, suc, _+_, _<_, _≤_}
 use native.Mathlib.Nat.{not-suc-le-zero, le-of-suc-le-suc}
 use native.Mathlib.Omega.{arith}
-use lib.Dec.{ltb}
 use lib.ListN.{length, drop, getD}
-use borrow.Author.Tests.{lt-ltb, le-ltb}
 use Rattle.lists.proofs.Front.{drop-next, drop-end}
-use Rattle.lists.proofs.Decide.{lt-or-ge}
 use Rattle.refusals.specs.Conditions.{some, firstPlace}
 
 pub either-false : (a b : Bool) → (a || b) ≡ false → (a ≡ false) × (b ≡ false)
@@ -71,10 +67,3 @@ no-place f (x ∷ l) h = go (f x) h (no-place f l)
     go : (t : Bool) → suc (length l) ≤ cond t 0 (suc (firstPlace f l)) → (length l ≤ firstPlace f l → some f l ≡ false) → (t || some f l) ≡ false
     go true h ih = absurd (not-suc-le-zero h)
     go false h ih = ih (le-of-suc-le-suc h)
-
-pub some-place : (f : ℕ → Bool) (l : List ℕ) → some f l ≡ ltb (firstPlace f l) (length l)
-some-place f l =
-    ⊎-elim
-    (λ (h : firstPlace f l < length l). rw (found-place f l h, lt-ltb (firstPlace f l) (length l) h))
-    (λ (h : length l ≤ firstPlace f l). rw (no-place f l h, le-ltb (firstPlace f l) (length l) h))
-    (lt-or-ge (firstPlace f l) (length l))

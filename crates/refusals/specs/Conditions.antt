@@ -49,7 +49,7 @@ longChain chain = ltb 32 (length chain)
 abbrev pub noSwap : ℕ → ℕ → Bool
 noSwap r k = ltb (r - 2) k
 
--- 6: a swap number is above 2
+-- 6: a swap number is above the last, for four axes above 2
 abbrev pub badSwap : ℕ → List ℕ → Bool
 badSwap r chain = some (noSwap r) chain
 

@@ -8,6 +8,7 @@ pub record Check : Type 0 where
   pub holds : Bool
   pub number : ℕ
 
+-- a check by its number and its condition
 abbrev pub check : ℕ → Bool → Check
 check k t = record { holds = t; number = k }
 

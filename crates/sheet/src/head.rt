@@ -24,6 +24,7 @@ pub struct Second {
     pub next: usize,
 }
 
+// The record of a refused first line.
 fn no_shape(number: u32, place: usize) -> Shape
     ensures { λ r. ⌜ RefusedWith number place (r .number) (r .place) (r .next) ⌝ }
 {
@@ -35,6 +36,7 @@ fn no_shape(number: u32, place: usize) -> Shape
     }
 }
 
+// The record of a refused second line.
 fn no_second(number: u32, place: usize) -> Second
     ensures { λ r. ⌜ RefusedWith number place (r .number) (r .place) (r .next) ⌝ }
 {

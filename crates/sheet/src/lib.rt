@@ -1,3 +1,4 @@
+// The readers of sheets and of result sheets: one walk over the lines, and the two calls.
 mod field;
 mod head;
 mod line;

@@ -13,6 +13,7 @@ pub struct Page {
     pub count: usize,
 }
 
+// The record of a refused sheet.
 fn no_page(number: u32, place: usize) -> Page
     ensures { λ r. ⌜ r ≡ noPage number place ⌝ }
 {

@@ -16,8 +16,8 @@ use Rattle.stages.specs.Stops.{Some, Stop, Stops}
 use Rattle.stages.specs.Stops.Some.{none, more}
 use Rattle.stages.specs.Stops.Stop.{still, within, whole}
 use Rattle.stages.specs.Stops.Stops.{never, again}
-use Rattle.stages.specs.Lines.{each, Lines, lifting, returning, clearing, stagesOf}
-use Rattle.stages.proofs.Stores.{after-append, beforehand, after-long}
+use Rattle.stages.specs.Lines.{each, Lines, stagesOf}
+use Rattle.stages.proofs.Stores.{beforehand, after-long}
 use Rattle.stages.proofs.Calls.{counted, remaining-more, finish-stage}
 use Rattle.stages.proofs.Filled.{length-each}
 use Rattle.stages.proofs.Lines.{picked}

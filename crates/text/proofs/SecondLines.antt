@@ -14,7 +14,7 @@ use Rattle.refusals.specs.Conditions.{longChain, noSwap, badSwap, noOrder, noRe
 use Rattle.text.specs.Print.{limit, line}
 use Rattle.text.specs.Read.{readLine, tabs}
 use Rattle.text.specs.Sheet.{chainWord, orderWord, orderNumbers}
-use Rattle.text.specs.Meaning.{Verdict, Outcome, refuseIf, onLine, onward, chainLine, lineRelease, lineOrder, wrongRelease, orderFields, orderLine, meaning, resultMeaning}
+use Rattle.text.specs.Meaning.{Verdict, Outcome, refuseIf, onLine, chainLine, lineRelease, lineOrder, wrongRelease, orderFields, orderLine, meaning, resultMeaning}
 use Rattle.text.proofs.Lines.{Small, Stands, line-then, line-text, text-line, tabs-fields}
 use Rattle.text.proofs.Steps.{refuse-go, on-line-go, onward-go}
 use Rattle.text.proofs.Accepted.{none-small, Second, RightBy, accepted-exactly-by}

@@ -1,28 +1,25 @@
 -- Any run of calls from a record at 0, by one induction over the calls: the lines named so far have moved, one after the other, so that after k
 -- accepted calls the record is the smaller of k and the line count, and at the line count the buffer holds the flat turn; a call after
 -- that changes neither. A player may stop and go on whenever it likes.
-use mathlib.Core.Path.{_≡_, refl, sym, ap, _∙_, subst}
+use mathlib.Core.Path.{_≡_, refl, sym, _∙_, subst}
 use mathlib.Core.List.{List}
 use mathlib.Core.Logic.{_↔_, ⊎-elim}
 use Prim.Native.Nat.{ℕ, suc, _+_, _-_, _<_, _≤_, min}
 use native.Mathlib.Nat.{not-suc-le-zero}
 use native.Mathlib.Omega.{arith}
-use lib.ListN.{length}
 use borrow.Author.Tests.{lt-ltb, le-ltb}
 use Rattle.lists.proofs.Decide.{lt-or-ge, eq-or-ne}
 use Rattle.refusals.specs.FirstOf.{firstOf}
 use Rattle.refusals.specs.Calls.{passesChecks}
 use Rattle.flat.specs.Turn.{sides, Turn}
-use Rattle.flat.specs.Passes.{columnGroup}
 use Rattle.passes.specs.Lines.{skipped, lineCount}
-use Rattle.passes.specs.Ticks.{tickChecks, doneAfter}
 use Rattle.passes.proofs.Ran.{Ran, ran-more}
 use Rattle.passes.proofs.Ran.Ran.{done}
 use Rattle.passes.proofs.Strided.{LineStep, skipped-le, skipped-few, lines-turn}
 use Rattle.passes.proofs.Accepted.{Accepted, flat-accepted, flat-turned}
 use Rattle.passes.proofs.Ticks.{flat-passed, in-time}
 use Rattle.ticks.specs.Steps.{StepPromise}
-use Rattle.ticks.specs.Runs.{Run, fresh}
+use Rattle.ticks.specs.Runs.{Run}
 use Rattle.ticks.specs.Runs.Run.{begun, accepted, refused}
 use Rattle.ticks.specs.declared.LineRecord.{LineRecord}
 

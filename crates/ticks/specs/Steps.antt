@@ -1,4 +1,4 @@
--- A step with the lines done in a record, and runs of steps. Assumes nothing: these are definitions.
+-- A step with the lines done in a record. Assumes nothing: these are definitions.
 use mathlib.Core.List.{List}
 use Prim.Native.Nat.{ℕ}
 use Rattle.passes.specs.Ticks.{TickPromise}

@@ -10,7 +10,7 @@ use lib.ListN.{length}
 use borrow.Author.Tests.{ltb-false, eqb-false, lt-ltb, le-ltb}
 use Rattle.layout.specs.Layout.{volume}
 use Rattle.refusals.specs.FirstOf.{Check, check, firstOf}
-use Rattle.refusals.specs.Conditions.{shortBuffer, longBuffer, shortScratch}
+use Rattle.refusals.specs.Conditions.{shortScratch}
 use Rattle.refusals.specs.Calls.{sizeChecks, exactChecks}
 use Rattle.refusals.proofs.FirstOf.{refused-by, passed-first, through}
 use Rattle.refusals.proofs.Calls.{size-refusing}

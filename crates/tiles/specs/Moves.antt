@@ -82,10 +82,11 @@ pub record BandMoved (b : Band) (xs ys scratch held : List ℕ) : Type 0 where
   pub moved : Filled (bandTo b) (λ k. getD xs (b .first + bandFrom b k) 0) (b .rows * b .columns) xs ys
   pub past : Past (b .rows * b .columns) scratch held
 
--- where the word of offset p of the block's tiles goes, and where it comes from
+-- where the word of offset p of the block's tiles goes
 abbrev pub blockTo : Bool → ℕ → ℕ → ℕ → ℕ → ℕ → ℕ
 blockTo into m n r s p = cond into p (tileHome m n r s p)
 
+-- where it comes from
 abbrev pub blockFrom : Bool → ℕ → ℕ → ℕ → ℕ → ℕ → ℕ
 blockFrom into m n r s p = cond into (tileHome m n r s p) p
 

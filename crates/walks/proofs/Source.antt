@@ -3,13 +3,11 @@ use mathlib.Core.Path.{_≡_, sym, ap, ap₂, _∙_, subst}
 use Prim.Native.Nat.{ℕ, zero, suc, _+_, _*_, _-_, _/_, _%_, _<_, _≤_}
 use native.Mathlib.Omega.{arith}
 use native.Mathlib.Numerals.{add-one}
-use native.Mathlib.Nat.{zero-mul, zero-add, mod-lt, mod-eq-of-lt, mod-add-mod, add-mod-mod, add-mul-mod-self-left, add-mul-mod-self-right, add-mod-right, add-mul, add-assoc, add-zero, mul-assoc, mul-comm, mul-right-comm, mul-one, one-mul, div-add-mod', div-mul-cancel, div-eq-of-lt, div-eq-of-lt-le, mod-mod-of-dvd, le-mul-of-pos-right}
+use native.Mathlib.Nat.{zero-mul, zero-add, mod-lt, mod-eq-of-lt, mod-add-mod, add-mul-mod-self-right, add-mod-right, add-mul, add-assoc, add-zero, mul-assoc, mul-comm, mul-right-comm, mul-one, one-mul, div-add-mod', div-eq-of-lt, div-eq-of-lt-le}
 use mathlib.Core.Logic.{⊎-elim}
 use lib.Arith.{digits-lt}
 use Rattle.lists.proofs.Decide.{lt-or-ge}
 use Rattle.numbers.specs.Gcd.{gcdOf}
-use Rattle.numbers.proofs.Gcd.{gcd-is}
-use Rattle.numbers.proofs.Apart.{differ}
 use Rattle.flat.specs.Passes.{rowGroup, columnGroup, column2, source2}
 use Rattle.flat.proofs.Sides.{Sides}
 use Rattle.flat.proofs.Passes.{source-is}

@@ -13,6 +13,7 @@ pub record Row : Type 0 where
   pub s : ℕ
   pub says : List ℕ
 
+-- a row by its parts
 abbrev pub row : ℕ → ℕ → ℕ → ℕ → List ℕ → Row
 row m n r s l = record { m = m; n = n; r = r; s = s; says = l }
 

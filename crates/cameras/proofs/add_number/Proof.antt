@@ -1,5 +1,5 @@
 -- `add_number` meets its contract: each test is that of a check, in its order; the words before and after are products.
-use mathlib.Core.Path.{_≡_, refl, sym, ap, _∙_}
+use mathlib.Core.Path.{_≡_, refl, sym, _∙_}
 use mathlib.Core.Bool.{Bool, true, false, cond, _||_}
 use mathlib.Core.List.{List, [], _∷_}
 use Prim.Native.Nat.{ℕ, _+_, _*_, _<_, _≤_}
@@ -14,7 +14,7 @@ use Rattle.layout.specs.Layout.{volume}
 use Rattle.refusals.specs.FirstOf.{Check, check, firstOf}
 use Rattle.refusals.specs.Conditions.{outOfRange, shortBuffer}
 use Rattle.refusals.proofs.Conditions.{InRange, in-range, range-above}
-use Rattle.refusals.proofs.Conditions.InRange.{none, more}
+use Rattle.refusals.proofs.Conditions.InRange.{more}
 use Rattle.flat.specs.Turn.{sides}
 use Rattle.flat.proofs.Turn.{volume-two}
 use Rattle.cameras.specs.Promises.{badCameras, noColumn, otherLength, addChecks}

@@ -1,7 +1,5 @@
 -- `compare` meets its contract. The loop's invariant: the pairs so far agree, and what follows them decides; the measure is the offsets left.
-use mathlib.Core.Path.{refl}
 use Prim.Native.Nat.{_-_}
-use native.Mathlib.Nat.{div-le-self}
 use native.Mathlib.Omega.{arith}
 use borrow.Author.Needs.{needs}
 use borrow.Author.Tests.{not-true, not-false}
@@ -23,17 +21,11 @@ Loop = tie.At-loop Inv-loop μ-loop
 abbrev Begin : Type 0
 Begin = tie.Start Inv-loop μ-loop
 
-div-inverse : tie.Need-div-inverse Inv-loop μ-loop
-div-inverse c = let s : Begin = search in columns (s .pre)
-
-add-inverse : tie.Need-add-inverse Inv-loop μ-loop
-add-inverse c = let s : Begin = search in omega (arith, div-le-self 1099511627776 (s .args .n))
-
 loop-holds : tie.Need-loop-holds Inv-loop μ-loop
 loop-holds c = starts _ _ _
 
 length-of-requires : tie.Need-length-of-requires Inv-loop μ-loop
-length-of-requires c κs = let s : Begin = search in (s .pre, refl, search)
+length-of-requires c κs = let i : tie.After-inverse-of Inv-loop μ-loop = search in let s : Begin = search in (s .pre, i .inverse-of .ensures, search)
 
 loop-again : tie.Need-loop-again Inv-loop μ-loop
 loop-again c =
@@ -84,8 +76,7 @@ compare-spec =
     (tie.spec
     Inv-loop
     μ-loop
-    div-inverse
-    add-inverse
+    (λ c κs. let s : Begin = search in columns (s .pre))
     (search needs)
     loop-holds
     length-of-requires

@@ -1,7 +1,7 @@
 -- `count_of` meets its contract. The loop's invariant: it holds the power of its count and has not passed the first that leaves 1; the
 -- measure is what is left up to that one.
 use mathlib.Core.Path.{_≡_}
-use Prim.Native.Nat.{_*_, _-_, _≤_}
+use Prim.Native.Nat.{_-_, _≤_}
 use native.Mathlib.Nat.{mul-le-mul}
 use native.Mathlib.Omega.{arith}
 use borrow.Author.Needs.{needs}

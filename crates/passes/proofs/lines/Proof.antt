@@ -1,7 +1,5 @@
 -- `lines` meets its contract: refused by the checks of a block's size, or the sides are grouped and their lines counted.
-use mathlib.Core.Path.{_≡_, refl, sym}
-use mathlib.Core.List.{[]}
-use native.Mathlib.Omega.{arith}
+use mathlib.Core.Path.{refl, sym}
 use borrow.Author.Needs.{needs}
 use Rattle.lists.proofs.Via.{via}
 use Rattle.passes.proofs.Ticks.{sized-sides, counted}

@@ -1,12 +1,8 @@
 -- `resume` meets its contract: refused by the checks of the flat turn or by 23; else the stages have gone on.
-use mathlib.Core.Path.{_≡_, ap}
 use native.Mathlib.Omega.{arith}
 use borrow.Author.Needs.{needs}
 use Rattle.lists.proofs.Via.{via}
-use Rattle.refusals.specs.FirstOf.{firstOf}
-use Rattle.refusals.specs.Calls.{passesChecks}
-use Rattle.flat.specs.Turn.{sides}
-use Rattle.passes.proofs.Accepted.{Accepted, flat-accepted}
+use Rattle.passes.proofs.Accepted.{flat-accepted}
 use Rattle.stages.specs.Stages.{Memory}
 use Rattle.passes.specs.Restart.{memory}
 use Rattle.passes.proofs.Resumed.{resume-refused, by-flat, past-end, stages-of, mapped, resumed}

@@ -1,5 +1,5 @@
 -- `axes::chains::swap_at` meets its contract: the axes before place k, the two axes and the axes after are a block for the adjacent swap.
-use mathlib.Core.Path.{_≡_, refl, sym, ap, _∙_}
+use mathlib.Core.Path.{refl, sym, ap, _∙_}
 use mathlib.Core.List.{List}
 use Prim.Native.Nat.{ℕ, _+_, _-_}
 use native.Mathlib.Omega.{arith}

@@ -1,8 +1,6 @@
 -- `axes::sizes::last_order` meets its contract: four axes have 24 orders, five 120.
 use mathlib.Core.Path.{_≡_}
-use Prim.Native.Nat.{ℕ}
 use native.Mathlib.Omega.{arith}
-use borrow.Author.Needs.{needs}
 use Rattle.axes.proofs.sizes.last_order.Statement.{statement}
 use Rattle.axes.proofs.sizes.last_order.Tie as tie
 

@@ -1,6 +1,5 @@
 -- `axes::sizes::next_order` meets its contract: each size has its own table.
 use mathlib.Core.Path.{_≡_}
-use Prim.Native.Nat.{ℕ}
 use native.Mathlib.Omega.{arith}
 use borrow.Author.Needs.{needs}
 use Rattle.axes.proofs.sizes.next_order.Statement.{statement}

@@ -1,6 +1,5 @@
 -- `axes::sizes::number_by` meets its contract: each size has its own table.
 use mathlib.Core.Path.{_≡_}
-use Prim.Native.Nat.{ℕ}
 use native.Mathlib.Omega.{arith}
 use borrow.Author.Needs.{needs}
 use Rattle.axes.proofs.sizes.number_by.Statement.{statement}

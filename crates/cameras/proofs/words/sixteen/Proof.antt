@@ -1,6 +1,5 @@
 -- `sixteen` meets its contract: what is stored is what was read.
 use mathlib.Core.Path.{_∙_}
-use native.Mathlib.Omega.{arith}
 use borrow.Author.Needs.{needs}
 use Rattle.cameras.proofs.words.sixteen.Statement.{statement}
 use Rattle.cameras.proofs.words.sixteen.Tie as tie

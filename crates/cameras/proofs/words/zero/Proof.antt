@@ -1,6 +1,6 @@
 -- `zero` meets its contract: the stretch is filled from the front.
-use mathlib.Core.Path.{_≡_, refl}
-use Prim.Native.Nat.{_+_, _-_, _≤_}
+use mathlib.Core.Path.{refl}
+use Prim.Native.Nat.{_-_, _≤_}
 use native.Mathlib.Omega.{arith}
 use borrow.Author.Needs.{needs}
 use Rattle.cameras.proofs.Filling.{Filled, nothing-filled, all-filled, filled-up}

@@ -1,8 +1,7 @@
 -- `along::all` meets its contract. The loop's invariant: what is left of the list leaves what the whole list leaves; the measure is how many
 -- pairs are left.
-use mathlib.Core.Path.{refl, sym, _∙_}
+use mathlib.Core.Path.{sym, _∙_}
 use Prim.Native.Nat.{_-_}
-use native.Mathlib.Nat.{div-le-self}
 use native.Mathlib.Omega.{arith}
 use borrow.Author.Needs.{needs}
 use Rattle.cycles.proofs.Stepping.{columns}
@@ -22,12 +21,6 @@ Loop = tie.At-loop Inv-loop μ-loop
 abbrev Begin : Type 0
 Begin = tie.Start Inv-loop μ-loop
 
-div-inverse : tie.Need-div-inverse Inv-loop μ-loop
-div-inverse c = let s : Begin = search in columns (s .pre .0)
-
-add-inverse : tie.Need-add-inverse Inv-loop μ-loop
-add-inverse c = let s : Begin = search in omega (arith, div-le-self 1099511627776 (s .args .n))
-
 loop-holds : tie.Need-loop-holds Inv-loop μ-loop
 loop-holds c = let s : Begin = search in runs-none (s .args .m) (s .args .n) (s .args .list .now) (s .pre .1) (s .args .buf .now) (s .pre .2)
 
@@ -35,9 +28,10 @@ one-requires : tie.Need-one-requires Inv-loop μ-loop
 one-requires c κs =
     let a : tie.After-wide Inv-loop μ-loop = search in
     let l : Loop = search in
+    let i : tie.After-inverse-of Inv-loop μ-loop = search in
     let s : Begin = search in
     let low = start-low (s .args .m) (s .args .n) (s .args .list .now) (s .pre .1) (s .args .buf .now) (l .loop .k) (omega arith) in
-    (s .pre .0, refl, omega (arith, a .wide .ensures, low), l .loop .inv .long)
+    (s .pre .0, i .inverse-of .ensures, omega (arith, a .wide .ensures, low), l .loop .inv .long)
 
 loop-again : tie.Need-loop-again Inv-loop μ-loop
 loop-again c =
@@ -66,8 +60,7 @@ all-spec =
     (tie.spec
     Inv-loop
     μ-loop
-    div-inverse
-    add-inverse
+    (λ c κs. let s : Begin = search in columns (s .pre .0))
     loop-holds
     (search needs)
     (search needs)

@@ -5,7 +5,7 @@ use native.Mathlib.Omega.{arith}
 use native.Mathlib.Nat.{add-mul, one-mul, zero-mul, zero-add}
 use borrow.Author.Needs.{needs}
 use lib.ListN.{length, getD}
-use Rattle.passes.specs.Lines.{posOn, paired}
+use Rattle.passes.specs.Lines.{posOn}
 use Rattle.passes.specs.ThroughScratch.{Follows, GroupFits, Filled, startOf, stands}
 use Rattle.walks.specs.Walk.{starts}
 use Rattle.passes.proofs.Filled.{filled-none, filled-on, filled-two, line-apart}

@@ -1,6 +1,6 @@
 -- `inverse` meets its contract: v times a leaves y modulo b and u times a leaves x, and at the end y is the greatest common divisor, 1.
 use mathlib.Core.Path.{_≡_, sym, ap, _∙_}
-use Prim.Native.Nat.{ℕ, _+_, _*_, _-_, _/_, _%_, _<_, _≤_}
+use Prim.Native.Nat.{ℕ, _*_, _-_, _/_, _%_, _<_, _≤_}
 use native.Mathlib.Omega.{arith}
 use native.Mathlib.Nat.{mod-lt, mod-self, mod-eq-of-lt, zero-mul, zero-mod, one-mul, div-le-self, mul-le-mul}
 use borrow.Author.Needs.{needs}

@@ -1,6 +1,6 @@
 -- `copy_runs` meets its contract: the second run begins where the first is done.
 use mathlib.Core.Path.{_∙_}
-use Prim.Native.Nat.{_+_, _-_}
+use Prim.Native.Nat.{_-_}
 use native.Mathlib.Omega.{arith}
 use borrow.Author.Needs.{needs}
 use Rattle.passes.proofs.Filled.{two-runs}

@@ -1,13 +1,13 @@
 -- `gather` meets its contract: after g groups of the walk the first g · size words are in scratch, or the first `until` if those are fewer.
-use mathlib.Core.Path.{_≡_, refl, sym, ap, _∙_, subst}
+use mathlib.Core.Path.{_≡_, refl, sym, ap, _∙_}
 use mathlib.Core.Logic.{⊎-elim}
 use Prim.Native.Nat.{ℕ, _+_, _*_, _-_, _<_, _≤_}
 use native.Mathlib.Omega.{arith}
 use native.Mathlib.Nat.{add-mul, one-mul, zero-mul}
 use borrow.Author.Needs.{needs}
-use lib.ListN.{length, getD}
+use lib.ListN.{getD}
 use Rattle.lists.proofs.Decide.{lt-or-ge}
-use Rattle.passes.specs.Lines.{posOn, paired}
+use Rattle.passes.specs.Lines.{posOn}
 use Rattle.passes.specs.ThroughScratch.{Follows, GroupFits, Filled, startOf, stands}
 use Rattle.walks.specs.Walk.{starts}
 use Rattle.passes.proofs.Filled.{filled-none, filled-on}

@@ -1,11 +1,11 @@
 -- `scatter` meets its contract: after g groups of the walk the first g · size words are where it went, no two of them at one place.
 use mathlib.Core.Path.{_≡_, refl, sym, ap, _∙_}
-use Prim.Native.Nat.{ℕ, _+_, _*_, _-_, _<_, _≤_}
+use Prim.Native.Nat.{ℕ, _+_, _*_, _-_, _≤_}
 use native.Mathlib.Omega.{arith}
 use native.Mathlib.Nat.{add-mul, one-mul, zero-mul}
 use borrow.Author.Needs.{needs}
-use lib.ListN.{length, getD}
-use Rattle.passes.specs.Lines.{posOn, paired}
+use lib.ListN.{getD}
+use Rattle.passes.specs.Lines.{posOn}
 use Rattle.passes.specs.ThroughScratch.{Follows, Apart, GroupFits, Filled, startOf, stands}
 use Rattle.walks.specs.Walk.{starts}
 use Rattle.passes.proofs.Filled.{filled-none, filled-on, all-lifted}

@@ -1,7 +1,6 @@
 -- `scatter_runs` meets its contract: the first run ends at the walk's modulus, the second begins at place 0.
 use mathlib.Core.Path.{_∙_}
 use native.Mathlib.Omega.{arith}
-use borrow.Author.Needs.{needs}
 use Rattle.passes.proofs.Walks.{straight-scattered}
 use Rattle.passes.proofs.line.scatter_runs.Statement.{statement}
 use Rattle.passes.proofs.line.scatter_runs.Tie as tie

@@ -2,7 +2,7 @@
 use mathlib.Core.Path.{_∙_}
 use native.Mathlib.Omega.{arith}
 use borrow.Author.Needs.{needs}
-use Rattle.passes.proofs.Stages.{stage-line, line-words, clear-words}
+use Rattle.passes.proofs.Stages.{line-words, clear-words}
 use Rattle.passes.proofs.restart.stage_words.Statement.{statement}
 use Rattle.passes.proofs.restart.stage_words.Tie as tie
 

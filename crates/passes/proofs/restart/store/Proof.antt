@@ -1,9 +1,8 @@
 -- `store` meets its contract: each kind of stage fills one list, up to any word.
-use mathlib.Core.Path.{_∙_}
 use native.Mathlib.Omega.{arith}
 use native.Mathlib.Nat.{le-trans}
 use borrow.Author.Needs.{needs}
-use Rattle.passes.proofs.Stages.{stage-line, clear-words, stage-fits, stage-few, stored-lift, stored-back, stored-clear}
+use Rattle.passes.proofs.Stages.{clear-words, stage-fits, stage-few, stored-lift, stored-back, stored-clear}
 use Rattle.passes.proofs.restart.store.Statement.{statement}
 use Rattle.passes.proofs.restart.store.Tie as tie
 

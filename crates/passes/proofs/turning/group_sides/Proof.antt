@@ -1,6 +1,6 @@
 -- `group_sides` meets its contract: the quotients by the greatest common divisor, and whether pass 1 is left out.
 use mathlib.Core.Bool.{cond}
-use mathlib.Core.Path.{_≡_, refl, ap, _∙_}
+use mathlib.Core.Path.{refl, ap, _∙_}
 use Prim.Native.Nat.{ℕ, _/_, _<_}
 use native.Mathlib.Omega.{arith}
 use borrow.Author.Needs.{needs}

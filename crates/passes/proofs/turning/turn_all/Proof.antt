@@ -1,7 +1,7 @@
 -- `turn_all` meets its contract: after t blocks those before t are turned, the others stand; all of them are the swap.
 -- The block's place goes with t: one word on, past the last word one block on.
 use mathlib.Core.Path.{_≡_, sym, ap, _∙_}
-use Prim.Native.Nat.{ℕ, _+_, _*_, _-_, _/_, _%_, _<_, _≤_}
+use Prim.Native.Nat.{ℕ, _+_, _*_, _-_, _/_, _%_, _≤_}
 use native.Mathlib.Nat.{mul-le-mul, le-refl, add-mul, one-mul, zero-mul, zero-div, zero-mod}
 use native.Mathlib.Omega.{arith}
 use borrow.Author.Needs.{needs}

@@ -1,5 +1,5 @@
 -- `plans::steps::falling_pairs` meets its contract. The loop's invariant: the pairs that begin at a place passed are counted, those of the rest are not.
-use mathlib.Core.Path.{_≡_, refl}
+use mathlib.Core.Path.{refl}
 use Prim.Native.Nat.{_-_}
 use native.Mathlib.Nat.{mul-le-mul-right}
 use native.Mathlib.Omega.{arith}

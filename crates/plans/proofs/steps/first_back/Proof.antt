@@ -1,5 +1,4 @@
 -- `plans::steps::first_back` meets its contract. The loop's invariant: no axis passed has its follower before it.
-use mathlib.Core.Path.{_≡_}
 use Prim.Native.Nat.{_-_}
 use native.Mathlib.Omega.{arith}
 use lib.ListN.{length}

@@ -1,5 +1,5 @@
 -- `plans::steps::place_of` meets its contract. The loop's invariant: the axis stands at no place passed.
-use mathlib.Core.Path.{_≡_, refl}
+use mathlib.Core.Path.{refl}
 use Prim.Native.Nat.{_-_}
 use native.Mathlib.Omega.{arith}
 use lib.ListN.{length}

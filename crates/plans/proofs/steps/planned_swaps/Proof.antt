@@ -1,6 +1,6 @@
 -- `plans::steps::planned_swaps` meets its contract. The loop's invariant: the first i swaps of the plan stand in the array, and the plan
 -- of the order as it is then labelled is the rest of them.
-use mathlib.Core.Path.{_≡_, refl}
+use mathlib.Core.Path.{refl}
 use Prim.Native.Nat.{_-_}
 use native.Mathlib.Omega.{arith}
 use lib.ListN.{length}

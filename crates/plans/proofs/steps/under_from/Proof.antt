@@ -1,5 +1,5 @@
 -- `plans::steps::under_from` meets its contract. The loop's invariant: the count so far and the count of the rest give the count.
-use mathlib.Core.Path.{_≡_, refl}
+use mathlib.Core.Path.{refl}
 use mathlib.Core.Logic.{⊎-elim}
 use Prim.Native.Nat.{_-_}
 use native.Mathlib.Omega.{arith}

@@ -1,6 +1,4 @@
 -- `order_line` meets its contract: its test is that of the definition, and both numbers fit 32 bits.
-use mathlib.Core.Path.{refl}
-use native.Mathlib.Omega.{arith}
 use borrow.Author.Needs.{needs}
 use borrow.Author.Tests.{ne-eqb}
 use Rattle.printer.proofs.page.order_line.Statement.{statement}

@@ -1,6 +1,4 @@
 -- `order_number` meets its contract: its test is that of the definition.
-use mathlib.Core.Path.{_≡_}
-use native.Mathlib.Omega.{arith}
 use borrow.Author.Needs.{needs}
 use borrow.Author.Tests.{lt-ltb, le-ltb}
 use Rattle.sheet.proofs.head.order_number.Statement.{statement}
