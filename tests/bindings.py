@@ -105,34 +105,41 @@ def sheets():
     expect(out[: done.bytes] == b"refused\t10\t4\n", "its text")
 
 
-def memory():
-    block = words(6)
-    for buffer, scratch in ((block, block), (block, memoryview(block)[2:5])):
-        try:
-            zibsnarda.turn(buffer, scratch, 2, 3)
-        except ValueError:
-            expect(True, "")
-        else:
-            expect(False, "buffers that overlap are taken")
+def raises(kind, call, label):
     try:
-        zibsnarda.turn(memoryview(bytearray(29))[1:25].cast("I"), array("I", [0] * 3), 2, 3)
-    except ValueError:
+        call()
+    except kind:
         expect(True, "")
     else:
-        expect(False, "a buffer that is not aligned is taken")
+        expect(False, label)
+
+
+def memory():
+    block, scratch = words(6), array("I", [0] * 3)
+    for lent in (block, memoryview(block)[2:5]):
+        raises(ValueError, lambda: zibsnarda.turn(block, lent, 2, 3), "buffers that overlap are taken")
+    apart = memoryview(bytearray(29))[1:25].cast("I")
+    raises(ValueError, lambda: zibsnarda.turn(apart, scratch, 2, 3), "a buffer that is not aligned is taken")
     for buffer in (array("H", [0] * 6), bytes(24), memoryview(words(12))[::2]):
-        try:
-            zibsnarda.turn(buffer, array("I", [0] * 3), 2, 3)
-        except TypeError:
-            expect(True, "")
-        else:
-            expect(False, f"{buffer} is taken")
+        raises(TypeError, lambda: zibsnarda.turn(buffer, scratch, 2, 3), f"{buffer} is taken")
+
+
+# A number that C would cut down to its width never reaches the call.
+def numbers():
+    block, scratch = words(6), array("I", [0] * 3)
+    for swap in (1 << 64, -1):
+        raises(ValueError, lambda: zibsnarda.chain(block, scratch, [1, 1, 2, 3], [swap]), f"a swap {swap} is taken")
+    raises(ValueError, lambda: zibsnarda.turn(block, scratch, 2 + (1 << 64), 3), "a side past 64 bits is taken")
+    for offset in (1 << 63, 1 << 64, -(1 << 63) - 1):
+        raises(ValueError, lambda: zibsnarda.to_frames(offset, 1), f"an offset {offset} is taken")
+    raises(ValueError, lambda: zibsnarda.join([1 << 64], 1), "a shift past 64 bits is taken")
+    raises(ValueError, lambda: zibsnarda.judge_cycles([1 << 32, 1], 2, 3), "a word past 32 bits is taken")
 
 
 random.seed(1)
 failed, tried = doctest.testmod(zibsnarda)
 expect(failed == 0 and tried > 0, "an example in the documentation")
 held += tried - 1
-for group in (flat_turns, orders, five_axes, stopped_turns, sheets, memory):
+for group in (flat_turns, orders, five_axes, stopped_turns, sheets, memory, numbers):
     group()
 print(held)

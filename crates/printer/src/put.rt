@@ -19,7 +19,7 @@ pub(crate) fn digits_of(v: u32) -> usize
 }
 
 // The number v in decimal, its last digit first.
-pub(crate) fn put_number(out: &mut [u8], at: usize, v: u32) -> usize
+fn put_number(out: &mut [u8], at: usize, v: u32) -> usize
     requires { ⌜ Room (now out) at (decimal v) ⌝ }
     ensures { λ r. ⌜ Put (now (out .entry)) at (decimal v) r (now (out .exit)) ⌝ }
 {
@@ -35,7 +35,7 @@ pub(crate) fn put_number(out: &mut [u8], at: usize, v: u32) -> usize
 }
 
 // A field: a tab and the number v.
-pub(crate) fn put_field(out: &mut [u8], at: usize, v: u32) -> usize
+fn put_field(out: &mut [u8], at: usize, v: u32) -> usize
     requires { ⌜ Room (now out) at (field v) ⌝ }
     ensures { λ r. ⌜ Put (now (out .entry)) at (field v) r (now (out .exit)) ⌝ }
 {

@@ -15,7 +15,7 @@ pub(crate) struct Writer<'a> {
 }
 
 // The lent bytes go into the writer, and the place is the start.
-pub(crate) fn new<'a>(out: &'a mut [u8]) -> Writer<'a>
+fn new<'a>(out: &'a mut [u8]) -> Writer<'a>
     ensures { λ r. ⌜ (r .out ≡ out .entry) × (r .at ≡ 0) ⌝ }
 {
     Writer { out: out, at: 0 }

@@ -13,7 +13,7 @@ pub struct Number {
 }
 
 // The number whose digits so far say `start` goes on at `at`.
-pub(crate) fn more_at(bytes: &[u8], at: usize, start: usize) -> Number
+fn more_at(bytes: &[u8], at: usize, start: usize) -> Number
     requires { ⌜ (at ≤ length (now bytes)) × (start ≤ limit) ⌝ }
     ensures { λ r. ⌜ At (now (bytes .entry)) (readMore start (drop at (now (bytes .entry)))) (r .ok) (r .value) (r .next) ⌝ }
 {
@@ -54,7 +54,7 @@ pub(crate) fn more_at(bytes: &[u8], at: usize, start: usize) -> Number
 }
 
 // A number at `at`.
-pub(crate) fn number_at(bytes: &[u8], at: usize) -> Number
+fn number_at(bytes: &[u8], at: usize) -> Number
     ensures { λ r. ⌜ At (now (bytes .entry)) (readNumber (drop at (now (bytes .entry)))) (r .ok) (r .value) (r .next) ⌝ }
 {
     if bytes.len() <= at {

@@ -75,7 +75,7 @@ pub(crate) fn shape_at(bytes: &[u8], words: &[u32]) -> Shape
 }
 
 // Line 2 of a sheet, at `at`: a chain.
-pub(crate) fn chain_at(bytes: &[u8], at: usize) -> Second
+fn chain_at(bytes: &[u8], at: usize) -> Second
     requires { ⌜ at ≤ length (now bytes) ⌝ }
     ensures { λ r. ⌜ SecondAt (now (bytes .entry)) (chainLine (drop at (now (bytes .entry)))) (r .number) (r .place) (r .numbers) (r .count) (r .next) ⌝ }
 {
@@ -124,7 +124,7 @@ fn order_number(numbers: [usize; 32], count: usize) -> u32
 }
 
 // Line 2 of a result sheet, at `at`: a release, where one is named, and an order number.
-pub(crate) fn order_at(bytes: &[u8], at: usize) -> Second
+fn order_at(bytes: &[u8], at: usize) -> Second
     requires { ⌜ at ≤ length (now bytes) ⌝ }
     ensures { λ r. ⌜ SecondAt (now (bytes .entry)) (orderLine (drop at (now (bytes .entry)))) (r .number) (r .place) (r .numbers) (r .count) (r .next) ⌝ }
 {

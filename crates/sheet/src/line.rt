@@ -21,7 +21,7 @@ fn byte_at(bytes: &[u8], p: usize) -> u8
 }
 
 // Whether `word` stands at `at`.
-pub(crate) fn word_at(bytes: &[u8], at: usize, word: &[u8]) -> bool
+fn word_at(bytes: &[u8], at: usize, word: &[u8]) -> bool
     requires { ⌜ at ≤ length (now bytes) ⌝ }
     ensures { λ r. ⌜ r ≡ same (take (length (now (word .entry))) (drop at (now (bytes .entry)))) (now (word .entry)) ⌝ }
 {
@@ -37,7 +37,7 @@ pub(crate) fn word_at(bytes: &[u8], at: usize, word: &[u8]) -> bool
 }
 
 // n fields from `at` on.
-pub(crate) fn fields_at(bytes: &[u8], at: usize, n: usize) -> End
+fn fields_at(bytes: &[u8], at: usize, n: usize) -> End
     requires { ⌜ at ≤ length (now bytes) ⌝ }
     ensures { λ r. ⌜ At (now (bytes .entry)) (readFields n (drop at (now (bytes .entry)))) (r .ok) (numbersOf (readFields n (drop at (now (bytes .entry))))) (r .next) ⌝ }
 {

@@ -11,7 +11,7 @@ ghost use Rattle.blocks.specs.OnSheet.{OnSheet};
 ghost use Rattle.sheet.specs.Place.{RowsAt, RowsThere, RowsTaken, wordsOf};
 
 // So many rows of n words from `at` on, and nothing after them: 0, or the number of the line that is wrong.
-pub(crate) fn rows_at(bytes: &[u8], at: usize, count: usize, n: usize) -> usize
+fn rows_at(bytes: &[u8], at: usize, count: usize, n: usize) -> usize
     requires { ⌜ (at ≤ length (now bytes)) × (count ≤ 1024) ⌝ }
     ensures { λ r. ⌜ RowsAt (rowLines 3 count n (drop at (now (bytes .entry)))) r ⌝ }
 {
@@ -30,7 +30,7 @@ pub(crate) fn rows_at(bytes: &[u8], at: usize, count: usize, n: usize) -> usize
 }
 
 // The words of rows that were judged right, stored from the start of words.
-pub(crate) fn store_rows(bytes: &[u8], at: usize, count: usize, n: usize, words: &mut [u32])
+fn store_rows(bytes: &[u8], at: usize, count: usize, n: usize, words: &mut [u32])
     requires { ⌜ (at ≤ length (now bytes)) × (count * n ≤ length (now words)) × RowsThere (rowLines 3 count n (drop at (now bytes))) ⌝ }
     ensures { λ _. ⌜ now (words .exit) ≡ sets (now (words .entry)) 0 (wordsOf (rowLines 3 count n (drop at (now (bytes .entry))))) ⌝ }
 {
