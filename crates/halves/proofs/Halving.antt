@@ -1,6 +1,6 @@
 -- One level of merge and of split: what the stretch, the two halves and the whole are at each step, and that the whole is
 -- merged, or split, once both halves are. The slice is read as four parts, the runs of p words and of q words, halved.
-use mathlib.Core.Path.{_≡_, sym, ap, _∙_, subst}
+use mathlib.Core.Path.{_≡_, refl, sym, ap, _∙_, subst}
 use mathlib.Core.List.{List, _++_, append-assoc}
 use Prim.Native.Nat.{ℕ, _+_, _-_, _*_, _/_, _≤_, _<_}
 use native.Mathlib.Omega.{arith}
@@ -11,7 +11,7 @@ use Rattle.halves.specs.LentSlices.{rotated, Runs}
 use Rattle.halves.specs.Merge.{Merged}
 use Rattle.halves.proofs.Parts.{whole, second, second-length, joined}
 use Rattle.halves.proofs.Four.{Four, four, middle-turned, Halved, halved}
-use Rattle.halves.proofs.Merges.{merged-halves}
+use Rattle.halves.proofs.Merges.{merged-halves, merged-one}
 
 -- a slice of runs, lent as its two halves one after the other
 module _ {n p q : ℕ} {xs : List ℕ} (runs : Runs n p q xs) where
@@ -78,18 +78,26 @@ module _ {n p q : ℕ} {xs r : List ℕ} (runs : Runs n p q xs)
   high-lent : drop (n / 2 * (p + q)) next ≡ parts .b ++ parts .d
   high-lent = ap (drop (n / 2 * (p + q))) next-is ∙ drop-at (parts .a ++ parts .c) (parts .b ++ parts .d) (n / 2 * (p + q)) low-long
 
+  -- both halves merged are the whole merged
+  merged-both : {ys zs : List ℕ} → Merged (n / 2) p q (parts .a ++ parts .c) ys → Merged (n - n / 2) p q (parts .b ++ parts .d) zs → Merged n p q xs (ys ++ zs)
+  merged-both {ys} {zs} low high =
+      let all : n / 2 + (n - n / 2) ≡ n = omega arith in
+      let m = merged-halves (n / 2) (n - n / 2) p q (parts .a) (parts .b) (parts .c) (parts .d) ys zs (parts .la) (parts .lb) (parts .lc) (parts .ld) low high in
+      subst (λ (k : ℕ). Merged k p q xs (ys ++ zs)) all (subst (λ (l : List ℕ). Merged (n / 2 + (n - n / 2)) p q l (ys ++ zs)) (sym (parts .whole)) m)
+
   pub merged-whole : {ys zs : List ℕ} → Merged (n / 2) p q (take (n / 2 * (p + q)) next) ys
       → Merged (n - n / 2) p q (midOf (n / 2 * (p + q)) (length (ys ++ drop (n / 2 * (p + q)) next) - n / 2 * (p + q)) (ys ++ drop (n / 2 * (p + q)) next)) zs
       → Merged n p q xs (putMid (n / 2 * (p + q)) (length (ys ++ drop (n / 2 * (p + q)) next) - n / 2 * (p + q)) (ys ++ drop (n / 2 * (p + q)) next) zs)
   merged-whole {ys} {zs} low high =
       let within = cut-within next-runs in
-      let all : n / 2 + (n - n / 2) ≡ n = omega arith in
-      let low′ : Merged (n / 2) p q (parts .a ++ parts .c) ys = subst (λ (l : List ℕ). Merged (n / 2) p q l ys) low-lent low in
-      let high′ : Merged (n - n / 2) p q (parts .b ++ parts .d) zs
-      = subst (λ (l : List ℕ). Merged (n - n / 2) p q l zs) (second (n / 2 * (p + q)) next ys within (low .same) ∙ high-lent) high in
-      let m = merged-halves (n / 2) (n - n / 2) p q (parts .a) (parts .b) (parts .c) (parts .d) ys zs (parts .la) (parts .lb) (parts .lc) (parts .ld) low′ high′ in
       rw (joined (n / 2 * (p + q)) next ys within (low .same) zs)
-      (subst (λ (k : ℕ). Merged k p q xs (ys ++ zs)) all (subst (λ (l : List ℕ). Merged (n / 2 + (n - n / 2)) p q l (ys ++ zs)) (sym (parts .whole)) m))
+      (merged-both
+      (subst (λ (l : List ℕ). Merged (n / 2) p q l ys) low-lent low)
+      (subst (λ (l : List ℕ). Merged (n - n / 2) p q l zs) (second (n / 2 * (p + q)) next ys within (low .same) ∙ high-lent) high))
+
+  -- of two runs each, the halves are merged as they stand
+  pub merged-two : n ≡ 2 → Merged n p q xs next
+  merged-two e = rw next-is (merged-both (merged-one (n / 2) p q (parts .a ++ parts .c) (omega arith)) (merged-one (n - n / 2) p q (parts .b ++ parts .d) (omega arith)))
 
 -- split: the halves come back split as ys and zs, then the stretch is rotated
 module _ {n p q : ℕ} {xs ys zs : List ℕ} (runs : Runs n p q xs) (low : Merged (n / 2) p q ys (take (n / 2 * (p + q)) xs))
@@ -145,3 +153,29 @@ module _ {n p q : ℕ} {xs ys zs : List ℕ} (runs : Runs n p q xs) (low : Merge
       rw (middle-turned pieces (n * p + n / 2 * q - n / 2 * p) (omega (arith, cuts runs)) r turned)
       (subst (λ (k : ℕ). Merged k p q (pieces .a ++ (pieces .c ++ (pieces .b ++ pieces .d))) xs) all
       (subst (λ (l : List ℕ). Merged (n / 2 + (n - n / 2)) p q (pieces .a ++ (pieces .c ++ (pieces .b ++ pieces .d))) l) (take-append-drop (n / 2 * (p + q)) xs) m))
+
+-- of two runs each, the halves are split as they stand
+module _ {n p q : ℕ} {xs : List ℕ} (runs : Runs n p q xs) (e : n ≡ 2) where
+  abbrev front : List ℕ
+  front = take (n / 2 * (p + q)) xs
+
+  abbrev rest : List ℕ
+  rest = drop (n / 2 * (p + q)) xs
+
+  low-stands : Merged (n / 2) p q front front
+  low-stands = merged-one (n / 2) p q front (omega arith)
+
+  high-stands : Merged (n - n / 2) p q rest (midOf (n / 2 * (p + q)) (length (front ++ rest) - n / 2 * (p + q)) (front ++ rest))
+  high-stands =
+      subst (λ (l : List ℕ). Merged (n - n / 2) p q rest l) (sym (second (n / 2 * (p + q)) xs front (cut-within runs) refl))
+      (merged-one (n - n / 2) p q rest (omega arith))
+
+  both-stand : both runs low-stands high-stands ≡ xs
+  both-stand = both-is runs low-stands high-stands ∙ take-append-drop (n / 2 * (p + q)) xs
+
+  pub split-two : {r : List ℕ} → r ≡ rotated (n / 2 * q) (midOf (n / 2 * p) (n * p + n / 2 * q - n / 2 * p) xs)
+      → Merged n p q (putMid (n / 2 * p) (n * p + n / 2 * q - n / 2 * p) xs r) xs
+  split-two {r} turned =
+      subst (λ (l : List ℕ). Merged n p q (putMid (n / 2 * p) (n * p + n / 2 * q - n / 2 * p) l r) xs) both-stand
+      (split-whole runs low-stands high-stands
+      (subst (λ (l : List ℕ). r ≡ rotated (n / 2 * q) (midOf (n / 2 * p) (n * p + n / 2 * q - n / 2 * p) l)) (sym both-stand) turned))

@@ -3,7 +3,8 @@ use crate::rotation::rotate;
 ghost use Rattle.halves.specs.Merge.{Merged};
 ghost use Rattle.halves.specs.LentSlices.{Runs};
 
-// Merges n runs of p words and the n runs of q words that follow them: p, q, p, q and so on.
+// Merges n runs of p words and the n runs of q words that follow them: p, q, p, q and so on. The halves of two runs are one run each, which is
+// already merged: to ask here costs less than to call.
 pub(crate) fn merge(s: &mut [u32], n: usize, p: usize, q: usize)
     requires { ⌜ Runs n p q (now s) ⌝ }
     ensures { λ _. ⌜ Merged n p q (now (s .entry)) (now (s .exit)) ⌝ }
@@ -17,6 +18,9 @@ pub(crate) fn merge(s: &mut [u32], n: usize, p: usize, q: usize)
     let from = h * p;
     let to = n * p + h * q;
     rotate(&mut s[from..to], g * p);
+    if n == 2 {
+        return;
+    }
     merge(&mut s[..cut], h, p, q);
     merge(&mut s[cut..], g, p, q);
 }
@@ -32,9 +36,13 @@ pub(crate) fn split(s: &mut [u32], n: usize, p: usize, q: usize)
     let h = n / 2;
     let g = n - h;
     let cut = h * (p + q);
-    split(&mut s[..cut], h, p, q);
-    split(&mut s[cut..], g, p, q);
     let from = h * p;
     let to = n * p + h * q;
+    if n == 2 {
+        rotate(&mut s[from..to], h * q);
+        return;
+    }
+    split(&mut s[..cut], h, p, q);
+    split(&mut s[cut..], g, p, q);
     rotate(&mut s[from..to], h * q);
 }

@@ -5,7 +5,7 @@ use native.Mathlib.Omega.{arith}
 use borrow.Author.Needs.{needs}
 use Rattle.halves.proofs.Four.{Halved, halved}
 use Rattle.halves.proofs.Merges.{merged-one}
-use Rattle.halves.proofs.Halving.{stretch-long, next-runs, cut-within, low-runs, cut-after, high-runs, merged-whole}
+use Rattle.halves.proofs.Halving.{stretch-long, next-runs, cut-within, low-runs, cut-after, high-runs, merged-two, merged-whole}
 use borrow.Fn.Kinds.{In, Out}
 use borrow.Fn.PlainCycle.{Measures, is, falls, and}
 use Rattle.halves.proofs.runs.merge.Reads as merge
@@ -75,8 +75,20 @@ module _ (t : ℕ) where
       let x : At merge-lts.Start t = search in
       (omega arith, high-runs (next-runs (x .pre .1) (r .rotate .ensures)) (low .merge .last .0) (low .merge .kept .0) (omega arith))
 
+  same-length : At merge-lts.Need-same-length t
+  same-length c =
+      let r : At merge-lts.After-rotate t = search in
+      let x : At merge-lts.Start t = search in
+      merged-two (x .pre .1) (r .rotate .ensures) (omega arith) .same
+
   returns-2 : At merge-lts.Need-returns-2 t
   returns-2 c =
+      let r : At merge-lts.After-rotate t = search in
+      let x : At merge-lts.Start t = search in
+      merged-two (x .pre .1) (r .rotate .ensures) (omega arith)
+
+  returns-3 : At merge-lts.Need-returns-3 t
+  returns-3 c =
       let high : At merge-lts.After-merge2 t = search in
       let low : At merge-lts.After-merge t = search in
       let r : At merge-lts.After-rotate t = search in
@@ -101,6 +113,8 @@ pub +merge-spec : {M : Type 1} → statement M
     (λ c. omega (arith, cuts t (search)))
     (λ c. omega (arith, cuts t (search)))
     (rotate-requires t)
+    (same-length t)
+    (returns-2 t)
     (low-within t)
     (low-long t)
     (low-requires t)
@@ -110,4 +124,4 @@ pub +merge-spec : {M : Type 1} → statement M
     (search needs)
     (high-requires t)
     (search needs)
-    (returns-2 t)
+    (returns-3 t)

@@ -5,7 +5,7 @@ use native.Mathlib.Omega.{arith}
 use borrow.Author.Needs.{needs}
 use Rattle.halves.proofs.Four.{Halved, halved}
 use Rattle.halves.proofs.Merges.{merged-one}
-use Rattle.halves.proofs.Halving.{stretch-long, cut-within, low-runs, cut-after, high-runs, both-runs, split-whole}
+use Rattle.halves.proofs.Halving.{stretch-long, cut-within, low-runs, cut-after, high-runs, both-runs, split-whole, split-two}
 use borrow.Fn.Kinds.{In, Out}
 use borrow.Fn.PlainCycle.{Measures, is, falls, and}
 use Rattle.halves.proofs.runs.split.Reads as split
@@ -26,7 +26,7 @@ split-below t = and 1 split-kinds.ps (falls 1 split-kinds.ps _<_ μ-split t) spl
 
 -- what the callees of split ask and what they promise
 abbrev split-calls : ℕ → split-lts.Claims
-split-calls t = (split-below t, split.Post, rotate-reads.Asked, rotate-reads.Learnt)
+split-calls t = (rotate-reads.Asked, rotate-reads.Learnt, split-below t, split.Post)
 
 -- a place of split, or a need, at a call of measure t
 abbrev At : (split-lts.Claims → In 1 split-kinds.ps → Out 1 split-kinds.ps split-kinds.r → Type 0) → ℕ → Type 0
@@ -61,27 +61,43 @@ module _ (t : ℕ) where
       let x : At split-lts.Start t = search in
       (omega arith, high-runs (x .pre .1) (low .split .last .0) (low .split .kept .0) (omega arith))
 
-  stretch-within : At split-lts.Need-part-rotate-end t
+  -- of two runs each the stretch is rotated at once
+  rotate-requires : At split-lts.Need-rotate-requires t
+  rotate-requires c κs = let x : At split-lts.Start t = search in omega (arith, cuts x, stretch-long (x .pre .1))
+
+  same-length : At split-lts.Need-same-length t
+  same-length c =
+      let r : At split-lts.After-rotate t = search in
+      let x : At split-lts.Start t = search in
+      sym (split-two (x .pre .1) (omega arith) (r .rotate .ensures) .same)
+
+  returns-2 : At split-lts.Need-returns-2 t
+  returns-2 c =
+      let r : At split-lts.After-rotate t = search in
+      let x : At split-lts.Start t = search in
+      split-two (x .pre .1) (omega arith) (r .rotate .ensures)
+
+  stretch-within : At split-lts.Need-part-rotate-end-2 t
   stretch-within c =
       let high : At split-lts.After-split2 t = search in
       let low : At split-lts.After-split t = search in
       let x : At split-lts.Start t = search in
       omega (arith, cuts x, both-runs (x .pre .1) (low .split .ensures) (high .split2 .ensures) .fill)
 
-  rotate-requires : At split-lts.Need-rotate-requires t
-  rotate-requires c κs =
+  rotate-requires-2 : At split-lts.Need-rotate-requires-2 t
+  rotate-requires-2 c κs =
       let high : At split-lts.After-split2 t = search in
       let low : At split-lts.After-split t = search in
       let x : At split-lts.Start t = search in
       omega (arith, cuts x, stretch-long (both-runs (x .pre .1) (low .split .ensures) (high .split2 .ensures)))
 
-  returns-2 : At split-lts.Need-returns-2 t
-  returns-2 c =
-      let r : At split-lts.After-rotate t = search in
+  returns-3 : At split-lts.Need-returns-3 t
+  returns-3 c =
+      let r : At split-lts.After-rotate2 t = search in
       let high : At split-lts.After-split2 t = search in
       let low : At split-lts.After-split t = search in
       let x : At split-lts.Start t = search in
-      split-whole (x .pre .1) (low .split .ensures) (high .split2 .ensures) (r .rotate .ensures)
+      split-whole (x .pre .1) (low .split .ensures) (high .split2 .ensures) (r .rotate2 .ensures)
 
 pub +split-spec : {M : Type 1} → statement M
 +split-spec = close μ-split λ t. split-lts.spec (split-calls t)
@@ -91,6 +107,18 @@ pub +split-spec : {M : Type 1} → statement M
     (search needs)
     (λ c. omega (arith, cuts t (search)))
     (λ c. omega (arith, cuts t (search)))
+    (λ c. omega (arith, cuts t (search)))
+    (λ c. omega (arith, cuts t (search)))
+    (λ c. omega (arith, cuts t (search)))
+    (λ c. omega (arith, cuts t (search)))
+    (λ c. omega (arith, cuts t (search)))
+    (λ c. omega (arith, cuts t (search)))
+    (λ c. omega (arith, cuts t (search)))
+    (λ c. omega (arith, cuts t (search)))
+    (λ c. omega (arith, cuts t (search)))
+    (rotate-requires t)
+    (same-length t)
+    (returns-2 t)
     (low-within t)
     (low-long t)
     (low-requires t)
@@ -102,12 +130,8 @@ pub +split-spec : {M : Type 1} → statement M
     (λ c. omega (arith, cuts t (search)))
     (λ c. omega (arith, cuts t (search)))
     (λ c. omega (arith, cuts t (search)))
-    (λ c. omega (arith, cuts t (search)))
-    (λ c. omega (arith, cuts t (search)))
-    (λ c. omega (arith, cuts t (search)))
-    (λ c. omega (arith, cuts t (search)))
     (stretch-within t)
     (λ c. omega (arith, cuts t (search)))
-    (rotate-requires t)
+    (rotate-requires-2 t)
     (search needs)
-    (returns-2 t)
+    (returns-3 t)
