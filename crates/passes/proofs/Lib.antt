@@ -2,6 +2,8 @@
 pub mod Filled
 -- the walks of the passes, and a group of a walk
 pub mod Walks
+-- two lanes of a walk, a step apart, that go on by two steps at once
+pub mod Lanes
 -- a walk over the sources of a row, for the numbers that the functions hold
 pub mod Sources
 -- a line lifted into scratch and put back has moved, forwards or home

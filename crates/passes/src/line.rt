@@ -81,10 +81,19 @@ fn gather_group(
 {
     let start = l.start;
     let stride = l.stride;
+    let double = walk::twice(w.step, w.modulus);
     let mut p = place;
-    for t in 0..size {
+    let mut q = walk::step_on(place, w.step, w.modulus);
+    let mut t = 0;
+    while t + 1 < size {
         scratch[from + t] = buf[start + stride * p];
-        p = walk::step_on(p, w.step, w.modulus);
+        scratch[from + (t + 1)] = buf[start + stride * q];
+        p = walk::step_on(p, double, w.modulus);
+        q = walk::step_on(q, double, w.modulus);
+        t += 2;
+    }
+    if t < size {
+        scratch[from + t] = buf[start + stride * p];
     }
 }
 
@@ -160,10 +169,20 @@ fn scatter_group(buf: &[u32], scratch: &mut [u32], l: Line, w: Walk, from: usize
 {
     let start = l.start;
     let stride = l.stride;
+    let size = w.size;
+    let double = walk::twice(w.step, w.modulus);
     let mut p = place;
-    for t in 0..w.size {
+    let mut q = walk::step_on(place, w.step, w.modulus);
+    let mut t = 0;
+    while t + 1 < size {
         scratch[p] = buf[start + stride * (from + t)];
-        p = walk::step_on(p, w.step, w.modulus);
+        scratch[q] = buf[start + stride * (from + (t + 1))];
+        p = walk::step_on(p, double, w.modulus);
+        q = walk::step_on(q, double, w.modulus);
+        t += 2;
+    }
+    if t < size {
+        scratch[p] = buf[start + stride * (from + t)];
     }
 }
 

@@ -3,7 +3,7 @@ use crate::line::GroupedSides;
 use crate::line::Line;
 ghost use mathlib.Core.Bool.{cond, _&&_};
 ghost use mathlib.Core.Path.{_≡_};
-ghost use Prim.Native.Nat.{_+_, _/_, _%_, _<_, _≤_};
+ghost use Prim.Native.Nat.{ℕ, _+_, _/_, _%_, _<_, _≤_};
 ghost use lib.Dec.{eqb};
 ghost use Rattle.flat.specs.Passes.{column2, row3};
 ghost use Rattle.passes.specs.Lines.{paired};
@@ -31,6 +31,19 @@ pub(crate) fn step_on(place: usize, step: usize, modulus: usize) -> usize
         return place + step;
     }
     place - gap
+}
+
+// Two steps as one: what they bring a place on, modulo the modulus. A loop that keeps two places, a step apart, and brings both two steps on, has a store
+// to make while the other place is worked out.
+pub(crate) fn twice(step: usize, modulus: usize) -> usize
+    requires { ⌜ step ≤ modulus ⌝ }
+    ensures { λ r. ⌜ (r ≤ modulus) × ((p : ℕ) → (p + r) % modulus ≡ (p + step + step) % modulus) ⌝ }
+{
+    let gap = modulus - step;
+    if step < gap {
+        return step + step;
+    }
+    step - gap
 }
 
 // Where group g starts, of which the group before starts at `place`.

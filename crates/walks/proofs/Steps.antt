@@ -4,7 +4,7 @@ use mathlib.Core.Bool.{Bool, true, false, cond}
 use Prim.Native.Nat.{ℕ, zero, suc, _+_, _*_, _-_, _/_, _%_, _<_, _≤_}
 use native.Mathlib.Omega.{arith}
 use native.Mathlib.Numerals.{add-one}
-use native.Mathlib.Nat.{mod-lt, mod-eq-of-lt, mod-eq-sub-mod, mod-add-mod, add-mod-mod, add-mul, mul-comm, zero-mul, add-zero, one-mul, add-assoc, div-add-mod', mul-right-comm, mul-add-mod-self-right}
+use native.Mathlib.Nat.{mod-lt, mod-eq-of-lt, mod-eq-sub-mod, mod-add-mod, add-mod-mod, add-mod-right, add-mul, mul-comm, zero-mul, add-zero, one-mul, add-assoc, div-add-mod', mul-right-comm, mul-add-mod-self-right}
 use borrow.Author.Tests.{eq-eqb, ne-eqb}
 use lib.Dec.{eqb}
 use Rattle.walks.specs.Walk.{walk, starts}
@@ -18,6 +18,15 @@ past place step modulus p k h =
     let e : place + step - modulus ≡ place - (modulus - step) = omega arith in
     sym (mod-eq-sub-mod (omega arith) ∙ mod-eq-of-lt (omega arith) ∙ e)
 
+-- two steps as one, where they do not reach the modulus and where they do
+pub twice-short : (step modulus p : ℕ) → (p + (step + step)) % modulus ≡ (p + step + step) % modulus
+twice-short step modulus p = ap (λ (z : ℕ). z % modulus) (sym (add-assoc p step step))
+
+pub twice-past : (step modulus p : ℕ) → step ≤ modulus → modulus - step ≤ step → (p + (step - (modulus - step))) % modulus ≡ (p + step + step) % modulus
+twice-past step modulus p k h =
+    let e : p + (step - (modulus - step)) + modulus ≡ p + step + step = omega arith in
+    sym (add-mod-right (p + (step - (modulus - step))) modulus) ∙ ap (λ (z : ℕ). z % modulus) e
+
 module _ (start step modulus : ℕ) where
   pub walk-start : start < modulus → walk start step modulus 0 ≡ start
   unfolding walk
@@ -29,6 +38,15 @@ module _ (start step modulus : ℕ) where
   walk-more t =
       ap (λ (z : ℕ). z % modulus) (ap (λ (z : ℕ). start + z) (add-mul t 1 step ∙ ap (λ (z : ℕ). t * step + z) (one-mul step)) ∙ sym (add-assoc start (t * step) step))
       ∙ sym (mod-add-mod (start + t * step) modulus step)
+
+  -- and the one after it, by what two steps make together
+  pub walk-two : (t double : ℕ) → ((p : ℕ) → (p + double) % modulus ≡ (p + step + step) % modulus)
+      → walk start step modulus (t + 1 + 1) ≡ (walk start step modulus t + double) % modulus
+  walk-two t double h =
+      walk-more (t + 1)
+      ∙ ap (λ (z : ℕ). (z + step) % modulus) (walk-more t)
+      ∙ mod-add-mod (walk start step modulus t + step) modulus step
+      ∙ sym (h (walk start step modulus t))
 
   pub walk-lt : (t : ℕ) → 0 < modulus → walk start step modulus t < modulus
   unfolding walk

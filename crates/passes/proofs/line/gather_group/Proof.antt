@@ -1,22 +1,22 @@
--- `gather_group` meets its contract: after t places the walk stands t steps on, and t words are in scratch.
-use mathlib.Core.Path.{_≡_, sym, ap, _∙_}
+-- `gather_group` meets its contract: after t places the two lanes of the walk stand t and t + 1 steps on, and t words are in scratch.
+use mathlib.Core.Path.{_≡_, sym}
 use Prim.Native.Nat.{ℕ, _+_, _*_, _-_, _%_, _<_, _≤_}
 use native.Mathlib.Omega.{arith}
 use borrow.Author.Needs.{needs}
-use lib.ListN.{length, getD}
-use Rattle.walks.proofs.Steps.{walk-start, walk-more, walk-lt}
+use lib.ListN.{length, getD, length-set}
 use Rattle.passes.specs.Lines.{posOn}
 use Rattle.passes.specs.ThroughScratch.{Filled, stands}
-use Rattle.passes.proofs.Filled.{filled-none, filled-more}
+use Rattle.passes.proofs.Filled.{filled-none, filled-more, filled-pair}
+use Rattle.passes.proofs.Lanes.{Lanes, lanes-start, lanes-more, here-low, next-low}
 use Rattle.passes.proofs.line.gather_group.Statement.{statement}
 use Rattle.passes.proofs.line.gather_group.Tie as tie
 
 abbrev Inv-loop : tie.InvT-loop
-Inv-loop buf scratch₀ w from place size start stride p₀ t₀ scratch p t =
-    (t ≤ size) × (p ≡ stands w place t) × Filled (λ j. from + j) (λ j. getD buf (start + stride * stands w place j) 0) t scratch₀ scratch
+Inv-loop buf scratch₀ w from place size start stride double p₀ q₀ t₀ scratch p q t =
+    (t ≤ size) × Lanes w place t p q × Filled (λ j. from + j) (λ j. getD buf (start + stride * stands w place j) 0) t scratch₀ scratch
 
 abbrev μ-loop : tie.MeasureT-loop
-μ-loop buf scratch₀ w from place size start stride p₀ t₀ scratch p t = size - t
+μ-loop buf scratch₀ w from place size start stride double p₀ q₀ t₀ scratch p q t = size - t
 
 -- the places that the answers look back to
 abbrev Start : Type 0
@@ -25,28 +25,39 @@ Start = tie.Start Inv-loop μ-loop
 abbrev Loop : Type 0
 Loop = tie.At-loop Inv-loop μ-loop
 
--- the place that the walk stands at, and the word there in the buffer
-low : (l : Loop) → l .loop .p < l .before .before .before .args .w .modulus
-low l = let x : Start = search in rw (l .loop .inv .1) (walk-lt _ _ _ _ (omega (arith, x .pre .low)))
+abbrev Twice : Type 0
+Twice = tie.After-twice Inv-loop μ-loop
 
-inside : (l : Loop) → let a = l .before .before .before .args in posOn (a .l) (l .loop .p) < length (a .buf .now)
-inside l = let x : Start = search in x .pre .inside _ (low l)
+-- the words that the two lanes stand at lie in the buffer
+here-in : (x : Start) {t p q : ℕ} → Lanes (x .args .w) (x .args .place) t p q → posOn (x .args .l) p < length (x .args .buf .now)
+here-in x l = x .pre .inside _ (here-low _ _ (x .pre .low) l)
+
+next-in : (x : Start) {t p q : ℕ} → Lanes (x .args .w) (x .args .place) t p q → posOn (x .args .l) q < length (x .args .buf .now)
+next-in x l = x .pre .inside _ (next-low _ _ (x .pre .low) l)
 
 loop-holds : tie.Need-loop-holds Inv-loop μ-loop
-loop-holds c = let x : Start = search in (omega arith, sym (walk-start _ _ _ (x .pre .low)), filled-none _ _ _)
+loop-holds c = let x : Start = search in (omega arith, lanes-start _ _ (x .pre .low) (c .step-on .ensures), filled-none _ _ _)
 
 loop-again : tie.Need-loop-again Inv-loop μ-loop
 loop-again c =
     let l : Loop = search in
     let x : Start = search in
-    let w = x .args .w in (
+    let s : tie.After-step-on2 Inv-loop μ-loop = search in
+    let d : Twice = search in (
       omega arith,
-      c .step-on .ensures ∙ ap (λ (z : ℕ). (z + w .step) % w .modulus) (l .loop .inv .1) ∙ sym (walk-more _ _ _ _),
-      rw (l .loop .inv .1) (filled-more {count = x .args .size} (λ i j _ _ e. omega arith) (omega arith) (omega arith) (l .loop .inv .2)),
+      lanes-more _ _ (x .pre .low) (l .loop .inv .1) _ (d .twice .ensures .1) (s .step-on2 .ensures) (c .step-on3 .ensures),
+      rw (l .loop .inv .1 .here, l .loop .inv .1 .next) (filled-pair {count = x .args .size} (λ i j _ _ e. omega arith) (omega arith) (omega arith) (omega arith) (l .loop .inv .2)),
     )
 
 returns : tie.Need-returns Inv-loop μ-loop
 returns c =
+    let l : Loop = search in
+    let x : Start = search in
+    let e : l .loop .t + 1 ≡ x .args .size = omega arith in
+    rw (sym e, l .loop .inv .1 .here) (filled-more {count = x .args .size} (λ i j _ _ e. omega arith) (omega arith) (omega arith) (l .loop .inv .2))
+
+returns-2 : tie.Need-returns-2 Inv-loop μ-loop
+returns-2 c =
     let l : Loop = search in
     let x : Start = search in
     let e : l .loop .t ≡ x .args .size = omega arith in
@@ -58,17 +69,38 @@ gather-group-spec =
     (tie.spec
     Inv-loop
     μ-loop
+    (λ c κs. let x : Start = search in x .pre .short)
+    (λ c κs. let x : Start = search in (x .pre .low, x .pre .short))
     loop-holds
-    (λ c. omega (arith, inside (search)))
-    (λ c. omega (arith, inside (search)))
-    (λ c. omega (arith, inside (search)))
-    (λ c. inside (search))
+    (search needs)
+    (λ c. let l : Loop = search in omega (arith, here-in (search) (l .loop .inv .1)))
+    (λ c. let l : Loop = search in omega (arith, here-in (search) (l .loop .inv .1)))
+    (λ c. let l : Loop = search in omega (arith, here-in (search) (l .loop .inv .1)))
+    (λ c. let l : Loop = search in here-in (search) (l .loop .inv .1))
     (search needs)
     (search needs)
     (search needs)
-    (λ c κs. let x : Start = search in (low (search), x .pre .short))
+    (λ c. let l : Loop = search in omega (arith, next-in (search) (l .loop .inv .1)))
+    (λ c. let l : Loop = search in omega (arith, next-in (search) (l .loop .inv .1)))
+    (λ c. let l : Loop = search in omega (arith, next-in (search) (l .loop .inv .1)))
+    (λ c. let l : Loop = search in next-in (search) (l .loop .inv .1))
+    (search needs)
+    (search needs)
+    (search needs)
+    (λ c. let l : Loop = search in let x : Start = search in rw (length-set (l .loop .scratch) (x .args .from + l .loop .t)) (omega (arith, l .loop .inv .2 .same, x .pre .room, x .pre .on-line)))
+    (λ c κs. let l : Loop = search in let x : Start = search in let d : Twice = search in (here-low _ _ (x .pre .low) (l .loop .inv .1), d .twice .ensures .0))
+    (λ c κs. let l : Loop = search in let x : Start = search in let d : Twice = search in (next-low _ _ (x .pre .low) (l .loop .inv .1), d .twice .ensures .0))
     (search needs)
     (search needs)
     loop-again
+    (λ c. let l : Loop = search in omega (arith, here-in (search) (l .loop .inv .1)))
+    (λ c. let l : Loop = search in omega (arith, here-in (search) (l .loop .inv .1)))
+    (λ c. let l : Loop = search in omega (arith, here-in (search) (l .loop .inv .1)))
+    (λ c. let l : Loop = search in here-in (search) (l .loop .inv .1))
     (search needs)
-    returns)
+    (search needs)
+    (search needs)
+    (λ c. returns c .same)
+    returns
+    (λ c. returns-2 c .same)
+    returns-2)

@@ -1,22 +1,23 @@
--- `scatter_group` meets its contract: after t places the walk stands t steps on, and t words are where it went.
-use mathlib.Core.Path.{_≡_, sym, ap, _∙_}
+-- `scatter_group` meets its contract: after t places the two lanes of the walk stand t and t + 1 steps on, and t words are where it went.
+use mathlib.Core.Path.{_≡_, sym}
 use Prim.Native.Nat.{ℕ, _+_, _*_, _-_, _%_, _<_, _≤_}
 use native.Mathlib.Omega.{arith}
 use borrow.Author.Needs.{needs}
-use lib.ListN.{length, getD}
-use Rattle.walks.proofs.Steps.{walk-start, walk-more, walk-lt}
+use lib.ListN.{length, getD, length-set}
+use Rattle.walks.proofs.Steps.{walk-lt}
 use Rattle.passes.specs.Lines.{posOn}
 use Rattle.passes.specs.ThroughScratch.{Filled, stands}
-use Rattle.passes.proofs.Filled.{filled-none, filled-more}
+use Rattle.passes.proofs.Filled.{filled-none, filled-more, filled-pair}
+use Rattle.passes.proofs.Lanes.{Lanes, lanes-start, lanes-more, here-low, next-low}
 use Rattle.passes.proofs.line.scatter_group.Statement.{statement}
 use Rattle.passes.proofs.line.scatter_group.Tie as tie
 
 abbrev Inv-loop : tie.InvT-loop
-Inv-loop buf scratch₀ w from place start stride p₀ t₀ t-end scratch p t =
-    (t ≤ w .size) × (p ≡ stands w place t) × Filled (stands w place) (λ j. getD buf (start + stride * (from + j)) 0) t scratch₀ scratch
+Inv-loop buf scratch₀ w from place start stride size double p₀ q₀ t₀ scratch p q t =
+    (t ≤ w .size) × Lanes w place t p q × Filled (stands w place) (λ j. getD buf (start + stride * (from + j)) 0) t scratch₀ scratch
 
 abbrev μ-loop : tie.MeasureT-loop
-μ-loop buf scratch₀ w from place start stride p₀ t₀ t-end scratch p t = w .size - t
+μ-loop buf scratch₀ w from place start stride size double p₀ q₀ t₀ scratch p q t = w .size - t
 
 -- the places that the answers look back to
 abbrev Start : Type 0
@@ -25,28 +26,45 @@ Start = tie.Start Inv-loop μ-loop
 abbrev Loop : Type 0
 Loop = tie.At-loop Inv-loop μ-loop
 
--- the place that the walk stands at, and the word of the line that goes there
-low : (l : Loop) → l .loop .p < l .before .before .before .args .w .modulus
-low l = let x : Start = search in rw (l .loop .inv .1) (walk-lt _ _ _ _ (omega (arith, x .pre .0 .low)))
+abbrev Twice : Type 0
+Twice = tie.After-twice Inv-loop μ-loop
 
-inside : (l : tie.In-loop Inv-loop μ-loop) → let a = l .before .before .before .before .args in posOn (a .l) (a .from + l .before .loop .t) < length (a .buf .now)
-inside l = let x : Start = search in x .pre .0 .inside _ (omega arith)
+-- a word of the group lies in the buffer, and where the walk brings it, in scratch
+inside : (x : Start) (t : ℕ) → t < x .args .w .size → posOn (x .args .l) (x .args .from + t) < length (x .args .buf .now)
+inside x t h = x .pre .0 .inside _ (omega (arith, x .pre .0 .on-line))
+
+reached : (x : Start) (t : ℕ) → stands (x .args .w) (x .args .place) t < length (x .args .scratch .now)
+reached x t = omega (arith, walk-lt (x .args .place) (x .args .w .step) (x .args .w .modulus) t (omega (arith, x .pre .0 .low)), x .pre .0 .room)
+
+here-room : (x : Start) {t p q : ℕ} → Lanes (x .args .w) (x .args .place) t p q → p < length (x .args .scratch .now)
+here-room x l = omega (arith, here-low _ _ (x .pre .0 .low) l, x .pre .0 .room)
+
+next-room : (x : Start) {t p q : ℕ} → Lanes (x .args .w) (x .args .place) t p q → q < length (x .args .scratch .now)
+next-room x l = omega (arith, next-low _ _ (x .pre .0 .low) l, x .pre .0 .room)
 
 loop-holds : tie.Need-loop-holds Inv-loop μ-loop
-loop-holds c = let x : Start = search in (omega arith, sym (walk-start _ _ _ (x .pre .0 .low)), filled-none _ _ _)
+loop-holds c = let x : Start = search in (omega arith, lanes-start _ _ (x .pre .0 .low) (c .step-on .ensures), filled-none _ _ _)
 
 loop-again : tie.Need-loop-again Inv-loop μ-loop
 loop-again c =
     let l : Loop = search in
     let x : Start = search in
-    let w = x .args .w in (
+    let s : tie.After-step-on2 Inv-loop μ-loop = search in
+    let d : Twice = search in (
       omega arith,
-      c .step-on .ensures ∙ ap (λ (z : ℕ). (z + w .step) % w .modulus) (l .loop .inv .1) ∙ sym (walk-more _ _ _ _),
-      rw (l .loop .inv .1) (filled-more (x .pre .1) (omega arith) (omega (arith, walk-lt (x .args .place) (w .step) (w .modulus) (l .loop .t) (omega (arith, x .pre .0 .low)))) (l .loop .inv .2)),
+      lanes-more _ _ (x .pre .0 .low) (l .loop .inv .1) _ (d .twice .ensures .1) (s .step-on2 .ensures) (c .step-on3 .ensures),
+      rw (l .loop .inv .1 .here, l .loop .inv .1 .next) (filled-pair (x .pre .1) (omega arith) (reached x _) (reached x _) (l .loop .inv .2)),
     )
 
 returns : tie.Need-returns Inv-loop μ-loop
 returns c =
+    let l : Loop = search in
+    let x : Start = search in
+    let e : l .loop .t + 1 ≡ x .args .w .size = omega arith in
+    rw (sym e, l .loop .inv .1 .here) (filled-more (x .pre .1) (omega arith) (reached x _) (l .loop .inv .2))
+
+returns-2 : tie.Need-returns-2 Inv-loop μ-loop
+returns-2 c =
     let l : Loop = search in
     let x : Start = search in
     let e : l .loop .t ≡ x .args .w .size = omega arith in
@@ -58,17 +76,38 @@ scatter-group-spec =
     (tie.spec
     Inv-loop
     μ-loop
+    (λ c κs. let x : Start = search in x .pre .0 .short)
+    (λ c κs. let x : Start = search in (x .pre .0 .low, x .pre .0 .short))
     loop-holds
     (search needs)
-    (λ c. omega (arith, inside (search)))
-    (λ c. omega (arith, inside (search)))
-    (λ c. omega (arith, inside (search)))
-    (λ c. inside (search))
-    (λ c. omega (arith, low (search)))
-    (λ c. omega (arith, low (search)))
-    (λ c κs. let x : Start = search in (low (search), x .pre .0 .short))
+    (search needs)
+    (λ c. let l : Loop = search in omega (arith, inside (search) (l .loop .t) (omega arith)))
+    (λ c. let l : Loop = search in omega (arith, inside (search) (l .loop .t) (omega arith)))
+    (λ c. let l : Loop = search in omega (arith, inside (search) (l .loop .t) (omega arith)))
+    (λ c. let l : Loop = search in inside (search) (l .loop .t) (omega arith))
+    (λ c. let l : Loop = search in omega (arith, here-room (search) (l .loop .inv .1)))
+    (λ c. let l : Loop = search in omega (arith, here-room (search) (l .loop .inv .1), l .loop .inv .2 .same))
+    (search needs)
+    (search needs)
+    (λ c. let l : Loop = search in omega (arith, inside (search) (l .loop .t + 1) (omega arith)))
+    (λ c. let l : Loop = search in omega (arith, inside (search) (l .loop .t + 1) (omega arith)))
+    (λ c. let l : Loop = search in omega (arith, inside (search) (l .loop .t + 1) (omega arith)))
+    (λ c. let l : Loop = search in inside (search) (l .loop .t + 1) (omega arith))
+    (λ c. let l : Loop = search in omega (arith, next-room (search) (l .loop .inv .1)))
+    (λ c. let l : Loop = search in rw (length-set (l .loop .scratch) (l .loop .p)) (omega (arith, next-room (search) (l .loop .inv .1), l .loop .inv .2 .same)))
+    (λ c κs. let l : Loop = search in let x : Start = search in let d : Twice = search in (here-low _ _ (x .pre .0 .low) (l .loop .inv .1), d .twice .ensures .0))
+    (λ c κs. let l : Loop = search in let x : Start = search in let d : Twice = search in (next-low _ _ (x .pre .0 .low) (l .loop .inv .1), d .twice .ensures .0))
     (search needs)
     (search needs)
     loop-again
     (search needs)
-    returns)
+    (λ c. let l : Loop = search in omega (arith, inside (search) (l .loop .t) (omega arith)))
+    (λ c. let l : Loop = search in omega (arith, inside (search) (l .loop .t) (omega arith)))
+    (λ c. let l : Loop = search in omega (arith, inside (search) (l .loop .t) (omega arith)))
+    (λ c. let l : Loop = search in inside (search) (l .loop .t) (omega arith))
+    (λ c. let l : Loop = search in omega (arith, here-room (search) (l .loop .inv .1)))
+    (λ c. let l : Loop = search in omega (arith, here-room (search) (l .loop .inv .1), l .loop .inv .2 .same))
+    (λ c. returns c .same)
+    returns
+    (λ c. returns-2 c .same)
+    returns-2)
