@@ -5,7 +5,8 @@ archive() {
     (cd "$1" && rt staticlib exports) >"$2.log" 2>&1 && cp "$1/target/staticlib/libexports.a" "$2"
 }
 
-# native_object FOLDER OBJECT: the module of the library that lies in FOLDER, compiled for this machine by the kit's clang at the archive's level.
+# native_object FOLDER OBJECT: the module of the library that lies in FOLDER, compiled for this machine by the kit's clang at the archive's level, with
+# bench/native.ll before the calls that take or answer a struct by value.
 #
 # The module is what the kit hands to its clang on the way to the archive: the kit is shadowed by links, with a recorder in the place of its
 # clang. `rt staticlib` makes an archive for x86-64 and hands out nothing else, so there is no other way to have the module.
@@ -24,8 +25,15 @@ for word in "\$@"; do case \$word in *module.bc) cp "\$word" '$shadow/module.bc'
 exec '$kit/$tools/bin/clang' "\$@"
 RECORDER
     chmod +x "$shadow/$tools/bin/clang"
+    compile="$kit/$tools/bin/clang --target=$machine-unknown-linux-gnu -O3 -fPIC -ffunction-sections -x ir -c"
+    renamed=
+    for call in $(sed -n 's/^define.* @\(zib_[a-z0-9_]*\)(.*/\1/p' bench/native.ll); do renamed="$renamed --redefine-sym $call=module_$call"; done
+    # shellcheck disable=SC2086
     (cd "$1" && RATTLE_HOME=$shadow rt staticlib exports) >"$2.log" 2>&1 && [ -f "$shadow/module.bc" ] &&
-        "$kit/$tools/bin/clang" --target="$machine-unknown-linux-gnu" -O3 -fPIC -ffunction-sections -x ir -c "$shadow/module.bc" -o "$2" 2>>"$2.log"
+        $compile "$shadow/module.bc" -o "$shadow/module.o" 2>>"$2.log" &&
+        $compile bench/native.ll -o "$shadow/native.o" 2>>"$2.log" &&
+        objcopy $renamed "$shadow/module.o" &&
+        ld -r "$shadow/module.o" "$shadow/native.o" -o "$2"
     made=$?
     rm -rf "$shadow"
     return $made

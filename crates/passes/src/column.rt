@@ -47,11 +47,29 @@ fn give_run(buf: &mut [u32], scratch: &[u32], l: Line, from: usize, to: usize, s
     }
 }
 
-// The line's places from `from` on receive the words of scratch at a group that starts at `place`.
+// The line's places from `from` on receive the words of scratch at a group that starts at `place`, one after the other.
+fn give_singly(buf: &mut [u32], scratch: &[u32], l: Line, w: Walk, from: usize, place: usize)
+    requires { ⌜ GroupFits l w from place (w .size) (now buf) (now scratch) × (0 < l .stride) ⌝ }
+    ensures { λ _. ⌜ Filled (λ t. posOn l (from + t)) (λ t. getD (now (scratch .entry)) (stands w place t) 0) (w .size) (now (buf .entry)) (now (buf .exit)) ⌝ }
+{
+    let start = l.start;
+    let stride = l.stride;
+    let mut p = place;
+    for t in 0..w.size {
+        buf[start + stride * (from + t)] = scratch[p];
+        p = walk::step_on(p, w.step, w.modulus);
+    }
+}
+
+// The same of any group: where it has many words, two places of its walk at a time.
 fn give_group(buf: &mut [u32], scratch: &[u32], l: Line, w: Walk, from: usize, place: usize)
     requires { ⌜ GroupFits l w from place (w .size) (now buf) (now scratch) × (0 < l .stride) ⌝ }
     ensures { λ _. ⌜ Filled (λ t. posOn l (from + t)) (λ t. getD (now (scratch .entry)) (stands w place t) 0) (w .size) (now (buf .entry)) (now (buf .exit)) ⌝ }
 {
+    if w.size < 8 {
+        give_singly(buf, scratch, l, w, from, place);
+        return;
+    }
     let start = l.start;
     let stride = l.stride;
     let size = w.size;

@@ -66,7 +66,29 @@ fn copy_run(buf: &[u32], scratch: &mut [u32], l: Line, from: usize, to: usize, s
     copy_words(buf, scratch, l.start, l.stride, from, to, size);
 }
 
-// Scratch receives, from place `from` on, the first `size` words of a group that starts at `place`.
+// Scratch receives, from place `from` on, the first `size` words of a group that starts at `place`, one after the other.
+fn gather_singly(
+    buf: &[u32],
+    scratch: &mut [u32],
+    l: Line,
+    w: Walk,
+    from: usize,
+    place: usize,
+    size: usize,
+)
+    requires { ⌜ GroupFits l w from place size (now buf) (now scratch) ⌝ }
+    ensures { λ _. ⌜ Filled (λ t. from + t) (λ t. getD (now (buf .entry)) (posOn l (stands w place t)) 0) size (now (scratch .entry)) (now (scratch .exit)) ⌝ }
+{
+    let start = l.start;
+    let stride = l.stride;
+    let mut p = place;
+    for t in 0..size {
+        scratch[from + t] = buf[start + stride * p];
+        p = walk::step_on(p, w.step, w.modulus);
+    }
+}
+
+// The same of any group: where it has many words, two places of its walk at a time, since a step waits for the one before it.
 fn gather_group(
     buf: &[u32],
     scratch: &mut [u32],
@@ -79,6 +101,10 @@ fn gather_group(
     requires { ⌜ GroupFits l w from place size (now buf) (now scratch) ⌝ }
     ensures { λ _. ⌜ Filled (λ t. from + t) (λ t. getD (now (buf .entry)) (posOn l (stands w place t)) 0) size (now (scratch .entry)) (now (scratch .exit)) ⌝ }
 {
+    if size < 8 {
+        gather_singly(buf, scratch, l, w, from, place, size);
+        return;
+    }
     let start = l.start;
     let stride = l.stride;
     let double = walk::twice(w.step, w.modulus);
@@ -162,11 +188,29 @@ fn gather_row(buf: &[u32], scratch: &mut [u32], s: GroupedSides, l: Line, until:
     }
 }
 
-// The words of a group from place `from` of the line on go to where the walk that starts at `place` stands in scratch.
+// The words of a group from place `from` of the line on go to where the walk that starts at `place` stands in scratch, one after the other.
+fn scatter_singly(buf: &[u32], scratch: &mut [u32], l: Line, w: Walk, from: usize, place: usize)
+    requires { ⌜ GroupFits l w from place (w .size) (now buf) (now scratch) × Apart (stands w place) (w .size) ⌝ }
+    ensures { λ _. ⌜ Filled (stands w place) (λ t. getD (now (buf .entry)) (posOn l (from + t)) 0) (w .size) (now (scratch .entry)) (now (scratch .exit)) ⌝ }
+{
+    let start = l.start;
+    let stride = l.stride;
+    let mut p = place;
+    for t in 0..w.size {
+        scratch[p] = buf[start + stride * (from + t)];
+        p = walk::step_on(p, w.step, w.modulus);
+    }
+}
+
+// The same of any group: where it has many words, two places of its walk at a time.
 fn scatter_group(buf: &[u32], scratch: &mut [u32], l: Line, w: Walk, from: usize, place: usize)
     requires { ⌜ GroupFits l w from place (w .size) (now buf) (now scratch) × Apart (stands w place) (w .size) ⌝ }
     ensures { λ _. ⌜ Filled (stands w place) (λ t. getD (now (buf .entry)) (posOn l (from + t)) 0) (w .size) (now (scratch .entry)) (now (scratch .exit)) ⌝ }
 {
+    if w.size < 8 {
+        scatter_singly(buf, scratch, l, w, from, place);
+        return;
+    }
     let start = l.start;
     let stride = l.stride;
     let size = w.size;

@@ -33,8 +33,7 @@ pub(crate) fn step_on(place: usize, step: usize, modulus: usize) -> usize
     place - gap
 }
 
-// Two steps as one: what they bring a place on, modulo the modulus. A loop that keeps two places, a step apart, and brings both two steps on, has a store
-// to make while the other place is worked out.
+// Two steps as one: what they bring a place on, modulo the modulus.
 pub(crate) fn twice(step: usize, modulus: usize) -> usize
     requires { ⌜ step ≤ modulus ⌝ }
     ensures { λ r. ⌜ (r ≤ modulus) × ((p : ℕ) → (p + r) % modulus ≡ (p + step + step) % modulus) ⌝ }

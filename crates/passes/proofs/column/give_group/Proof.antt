@@ -1,4 +1,4 @@
--- `give_group` meets its contract: after t places the two lanes of the walk stand t and t + 1 steps on, and t words are on the line.
+-- `give_group` meets its contract: of many places, after t of them the two lanes of the walk stand t and t + 1 steps on, and t words are on the line.
 use mathlib.Core.Path.{_≡_, sym}
 use Prim.Native.Nat.{ℕ, _+_, _*_, _-_, _%_, _<_, _≤_}
 use native.Mathlib.Omega.{arith}
@@ -53,16 +53,16 @@ loop-again c =
       rw (l .loop .inv .1 .here, l .loop .inv .1 .next) (filled-pair apart (omega arith) (inside x _ (omega arith)) (inside x _ (omega arith)) (l .loop .inv .2)),
     )
 
-returns : tie.Need-returns Inv-loop μ-loop
-returns c =
+returns-2 : tie.Need-returns-2 Inv-loop μ-loop
+returns-2 c =
     let l : Loop = search in
     let x : Start = search in
     let e : l .loop .t + 1 ≡ x .args .w .size = omega arith in
     let apart = part-apart (x .args .l .start) (x .args .l .stride) (x .args .from) (x .args .w .size) (x .pre .1) in
     rw (sym e, l .loop .inv .1 .here) (filled-more apart (omega arith) (inside x _ (omega arith)) (l .loop .inv .2))
 
-returns-2 : tie.Need-returns-2 Inv-loop μ-loop
-returns-2 c =
+returns-3 : tie.Need-returns-3 Inv-loop μ-loop
+returns-3 c =
     let l : Loop = search in
     let x : Start = search in
     let e : l .loop .t ≡ x .args .w .size = omega arith in
@@ -74,6 +74,9 @@ give-group-spec =
     (tie.spec
     Inv-loop
     μ-loop
+    (λ c κs. let x : Start = search in x .pre)
+    (search needs)
+    (λ c. let s : tie.After-give-singly Inv-loop μ-loop = search in s .give-singly .ensures)
     (λ c κs. let x : Start = search in x .pre .0 .short)
     (λ c κs. let x : Start = search in (x .pre .0 .low, x .pre .0 .short))
     loop-holds
@@ -105,7 +108,7 @@ give-group-spec =
     (λ c. let l : Loop = search in omega (arith, inside (search) (l .loop .t) (omega arith)))
     (λ c. let l : Loop = search in omega (arith, inside (search) (l .loop .t) (omega arith)))
     (λ c. let l : Loop = search in omega (arith, inside (search) (l .loop .t) (omega arith), l .loop .inv .2 .same))
-    (λ c. returns c .same)
-    returns
     (λ c. returns-2 c .same)
-    returns-2)
+    returns-2
+    (λ c. returns-3 c .same)
+    returns-3)

@@ -1,4 +1,4 @@
--- `gather_group` meets its contract: after t places the two lanes of the walk stand t and t + 1 steps on, and t words are in scratch.
+-- `gather_group` meets its contract: of many places, after t of them the two lanes of the walk stand t and t + 1 steps on, and t words are in scratch.
 use mathlib.Core.Path.{_≡_, sym}
 use Prim.Native.Nat.{ℕ, _+_, _*_, _-_, _%_, _<_, _≤_}
 use native.Mathlib.Omega.{arith}
@@ -49,15 +49,15 @@ loop-again c =
       rw (l .loop .inv .1 .here, l .loop .inv .1 .next) (filled-pair {count = x .args .size} (λ i j _ _ e. omega arith) (omega arith) (omega arith) (omega arith) (l .loop .inv .2)),
     )
 
-returns : tie.Need-returns Inv-loop μ-loop
-returns c =
+returns-2 : tie.Need-returns-2 Inv-loop μ-loop
+returns-2 c =
     let l : Loop = search in
     let x : Start = search in
     let e : l .loop .t + 1 ≡ x .args .size = omega arith in
     rw (sym e, l .loop .inv .1 .here) (filled-more {count = x .args .size} (λ i j _ _ e. omega arith) (omega arith) (omega arith) (l .loop .inv .2))
 
-returns-2 : tie.Need-returns-2 Inv-loop μ-loop
-returns-2 c =
+returns-3 : tie.Need-returns-3 Inv-loop μ-loop
+returns-3 c =
     let l : Loop = search in
     let x : Start = search in
     let e : l .loop .t ≡ x .args .size = omega arith in
@@ -69,6 +69,9 @@ gather-group-spec =
     (tie.spec
     Inv-loop
     μ-loop
+    (λ c κs. let x : Start = search in x .pre)
+    (search needs)
+    (λ c. let s : tie.After-gather-singly Inv-loop μ-loop = search in s .gather-singly .ensures)
     (λ c κs. let x : Start = search in x .pre .short)
     (λ c κs. let x : Start = search in (x .pre .low, x .pre .short))
     loop-holds
@@ -100,7 +103,7 @@ gather-group-spec =
     (search needs)
     (search needs)
     (search needs)
-    (λ c. returns c .same)
-    returns
     (λ c. returns-2 c .same)
-    returns-2)
+    returns-2
+    (λ c. returns-3 c .same)
+    returns-3)

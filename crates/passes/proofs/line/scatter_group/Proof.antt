@@ -1,4 +1,4 @@
--- `scatter_group` meets its contract: after t places the two lanes of the walk stand t and t + 1 steps on, and t words are where it went.
+-- `scatter_group` meets its contract: of many places, after t of them the two lanes of the walk stand t and t + 1 steps on, and t words are where it went.
 use mathlib.Core.Path.{_≡_, sym}
 use Prim.Native.Nat.{ℕ, _+_, _*_, _-_, _%_, _<_, _≤_}
 use native.Mathlib.Omega.{arith}
@@ -56,15 +56,15 @@ loop-again c =
       rw (l .loop .inv .1 .here, l .loop .inv .1 .next) (filled-pair (x .pre .1) (omega arith) (reached x _) (reached x _) (l .loop .inv .2)),
     )
 
-returns : tie.Need-returns Inv-loop μ-loop
-returns c =
+returns-2 : tie.Need-returns-2 Inv-loop μ-loop
+returns-2 c =
     let l : Loop = search in
     let x : Start = search in
     let e : l .loop .t + 1 ≡ x .args .w .size = omega arith in
     rw (sym e, l .loop .inv .1 .here) (filled-more (x .pre .1) (omega arith) (reached x _) (l .loop .inv .2))
 
-returns-2 : tie.Need-returns-2 Inv-loop μ-loop
-returns-2 c =
+returns-3 : tie.Need-returns-3 Inv-loop μ-loop
+returns-3 c =
     let l : Loop = search in
     let x : Start = search in
     let e : l .loop .t ≡ x .args .w .size = omega arith in
@@ -76,6 +76,9 @@ scatter-group-spec =
     (tie.spec
     Inv-loop
     μ-loop
+    (λ c κs. let x : Start = search in x .pre)
+    (search needs)
+    (λ c. let s : tie.After-scatter-singly Inv-loop μ-loop = search in s .scatter-singly .ensures)
     (λ c κs. let x : Start = search in x .pre .0 .short)
     (λ c κs. let x : Start = search in (x .pre .0 .low, x .pre .0 .short))
     loop-holds
@@ -107,7 +110,7 @@ scatter-group-spec =
     (λ c. let l : Loop = search in inside (search) (l .loop .t) (omega arith))
     (λ c. let l : Loop = search in omega (arith, here-room (search) (l .loop .inv .1)))
     (λ c. let l : Loop = search in omega (arith, here-room (search) (l .loop .inv .1), l .loop .inv .2 .same))
-    (λ c. returns c .same)
-    returns
     (λ c. returns-2 c .same)
-    returns-2)
+    returns-2
+    (λ c. returns-3 c .same)
+    returns-3)

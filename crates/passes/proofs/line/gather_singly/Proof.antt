@@ -1,0 +1,74 @@
+-- `gather_singly` meets its contract: after t places the walk stands t steps on, and t words are in scratch.
+use mathlib.Core.Path.{_≡_, sym, ap, _∙_}
+use Prim.Native.Nat.{ℕ, _+_, _*_, _-_, _%_, _<_, _≤_}
+use native.Mathlib.Omega.{arith}
+use borrow.Author.Needs.{needs}
+use lib.ListN.{length, getD}
+use Rattle.walks.proofs.Steps.{walk-start, walk-more, walk-lt}
+use Rattle.passes.specs.Lines.{posOn}
+use Rattle.passes.specs.ThroughScratch.{Filled, stands}
+use Rattle.passes.proofs.Filled.{filled-none, filled-more}
+use Rattle.passes.proofs.line.gather_singly.Statement.{statement}
+use Rattle.passes.proofs.line.gather_singly.Tie as tie
+
+abbrev Inv-loop : tie.InvT-loop
+Inv-loop buf scratch₀ w from place size start stride p₀ t₀ scratch p t =
+    (t ≤ size) × (p ≡ stands w place t) × Filled (λ j. from + j) (λ j. getD buf (start + stride * stands w place j) 0) t scratch₀ scratch
+
+abbrev μ-loop : tie.MeasureT-loop
+μ-loop buf scratch₀ w from place size start stride p₀ t₀ scratch p t = size - t
+
+-- the places that the answers look back to
+abbrev Start : Type 0
+Start = tie.Start Inv-loop μ-loop
+
+abbrev Loop : Type 0
+Loop = tie.At-loop Inv-loop μ-loop
+
+-- the place that the walk stands at, and the word there in the buffer
+low : (l : Loop) → l .loop .p < l .before .before .before .args .w .modulus
+low l = let x : Start = search in rw (l .loop .inv .1) (walk-lt _ _ _ _ (omega (arith, x .pre .low)))
+
+inside : (l : Loop) → let a = l .before .before .before .args in posOn (a .l) (l .loop .p) < length (a .buf .now)
+inside l = let x : Start = search in x .pre .inside _ (low l)
+
+loop-holds : tie.Need-loop-holds Inv-loop μ-loop
+loop-holds c = let x : Start = search in (omega arith, sym (walk-start _ _ _ (x .pre .low)), filled-none _ _ _)
+
+loop-again : tie.Need-loop-again Inv-loop μ-loop
+loop-again c =
+    let l : Loop = search in
+    let x : Start = search in
+    let w = x .args .w in (
+      omega arith,
+      c .step-on .ensures ∙ ap (λ (z : ℕ). (z + w .step) % w .modulus) (l .loop .inv .1) ∙ sym (walk-more _ _ _ _),
+      rw (l .loop .inv .1) (filled-more {count = x .args .size} (λ i j _ _ e. omega arith) (omega arith) (omega arith) (l .loop .inv .2)),
+    )
+
+returns : tie.Need-returns Inv-loop μ-loop
+returns c =
+    let l : Loop = search in
+    let x : Start = search in
+    let e : l .loop .t ≡ x .args .size = omega arith in
+    rw e at (l .loop .inv .2)
+
+pub gather-singly-spec : {M : Type 1} → statement M
+gather-singly-spec =
+    tie.close
+    (tie.spec
+    Inv-loop
+    μ-loop
+    loop-holds
+    (λ c. omega (arith, inside (search)))
+    (λ c. omega (arith, inside (search)))
+    (λ c. omega (arith, inside (search)))
+    (λ c. inside (search))
+    (search needs)
+    (search needs)
+    (search needs)
+    (λ c κs. let x : Start = search in (low (search), x .pre .short))
+    (search needs)
+    (search needs)
+    loop-again
+    (search needs)
+    returns)
