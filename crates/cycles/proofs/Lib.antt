@@ -10,3 +10,5 @@ pub mod Judging
 pub mod OneOutcome
 -- the loops that move words along one cycle and along all
 pub mod Carrying
+-- marks, one bit a place
+pub mod Bits

@@ -1,9 +1,11 @@
 -- Serves only the contracts of private functions. Assumes nothing: these are definitions.
 use mathlib.Core.Path.{_≡_}
-use mathlib.Core.Bool.{cond}
+use mathlib.Core.Bool.{Bool, true, cond}
 use mathlib.Core.List.{List}
 use mathlib.Core.Logic.{_⊎_}
-use Prim.Native.Nat.{ℕ, _+_, _*_, _/_, _<_, _≤_}
+use Prim.Native.Nat.{ℕ, _+_, _*_, _-_, _/_, _%_, _^_, _<_, _≤_}
+use lib.Dec.{eqb}
+use lib.ListN.{length, getD}
 use Rattle.orbits.specs.Orbit.{period}
 use Rattle.orbits.specs.Cycles.{isLeast, cycles, FirstOther}
 use Rattle.cycles.specs.declared.Judged.{Judged}
@@ -26,3 +28,19 @@ pub record Compared (m n : ℕ) (list : List ℕ) (answered : Judged) : Type 0 w
   pub either : (answered .number ≡ 0) ⊎ (answered .number ≡ 22)
   pub right : answered .number ≡ 0 → (list ≡ cycles m n) × (answered .place ≡ 0)
   pub differs : answered .number ≡ 22 → FirstOther list (cycles m n) (answered .place)
+
+-- whether a place is marked: its bit of its word is 1
+unfoldable pub bitAt : List ℕ → ℕ → Bool
+bitAt marks place = eqb (getD marks (place / 32) 0 / 2 ^ (place % 32) % 2) 1
+
+-- a place is marked, every other is as it was
+pub record MarkedToo (place : ℕ) (before after : List ℕ) : Type 0 where
+  pub same : length after ≡ length before
+  pub here : bitAt after place ≡ true
+  pub others : (q : ℕ) → (q ≡ place → ⊥) → bitAt after q ≡ bitAt before q
+
+-- a place is marked where it lies in the window of `span` places from lo on, every other is as it was
+pub record Noted (span lo at : ℕ) (before after : List ℕ) : Type 0 where
+  pub same : length after ≡ length before
+  pub here : at - lo < span → bitAt after (at - lo) ≡ true
+  pub others : (q : ℕ) → (q ≡ at - lo → ⊥) → bitAt after q ≡ bitAt before q

@@ -1,5 +1,6 @@
 // Lists of the cycles of a flat turn, bought from elsewhere, judged: start and length of every cycle, in rising order.
 mod along;
+mod marks;
 mod steps;
 
 ghost use mathlib.Core.Path.{_≡_};
