@@ -12,3 +12,5 @@ pub mod OneOutcome
 pub mod Carrying
 -- marks, one bit a place
 pub mod Bits
+-- two stretches exchanged, a part after the other
+pub mod Exchanging

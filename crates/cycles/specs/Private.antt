@@ -44,3 +44,9 @@ pub record Noted (span lo at : ℕ) (before after : List ℕ) : Type 0 where
   pub same : length after ≡ length before
   pub here : at - lo < span → bitAt after (at - lo) ≡ true
   pub others : (q : ℕ) → (q ≡ at - lo → ⊥) → bitAt after q ≡ bitAt before q
+
+-- so many words are stored from place `to` on; every other word stands
+pub record Stored (to count : ℕ) (words before after : List ℕ) : Type 0 where
+  pub same : length after ≡ length before
+  pub here : (p : ℕ) → p < count → getD after (to + p) 0 ≡ getD words p 0
+  pub others : (i : ℕ) → ((p : ℕ) → p < count → i ≡ to + p → ⊥) → getD after i 0 ≡ getD before i 0

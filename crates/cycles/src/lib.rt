@@ -1,5 +1,6 @@
 // Lists of the cycles of a flat turn, bought from elsewhere, judged: start and length of every cycle, in rising order.
 mod along;
+mod exchange;
 mod marks;
 mod steps;
 
