@@ -2,7 +2,7 @@
 use mathlib.Core.Path.{_≡_, refl, sym, ap, ap₂, _∙_}
 use mathlib.Core.Bool.{false}
 use mathlib.Core.List.{List, [], _∷_, _++_, append-nil}
-use mathlib.Core.Logic.{⊎-elim}
+use mathlib.Core.Logic.{inl, inr, ⊎-elim}
 use Prim.Native.Nat.{ℕ, zero, suc, _+_, _*_, _-_, _/_, _%_, _^_, _<_, _≤_, max}
 use native.Mathlib.Nat.{mod-lt, div-eq-of-lt, one-mul, div-add-mod', div-lt-iff-lt-mul, zero-div}
 use native.Mathlib.Omega.{arith}
@@ -13,7 +13,7 @@ use lib.ListN.{length, getD, set, drop, replicate, length-set}
 use lib.Pow.{pow-add, pow-lt, shl-shr, shl-exact}
 use lib.Seq.{drop-length, getD-set-same, getD-set-other}
 use Rattle.lists.proofs.Decide.{eq-or-ne, lt-or-ge}
-use Rattle.cycles.specs.Private.{bitAt, MarkedToo}
+use Rattle.cycles.specs.Private.{bitAt, MarkedToo, Noted}
 
 -- zeroes stored as far as the end
 pub all-cleared : {k : ℕ} (before : List ℕ) {after : List ℕ} → k ≡ length before → after ≡ replicate k 0 ++ drop k before → after ≡ replicate (length before) 0
@@ -91,6 +91,15 @@ module _ (marks : List ℕ) (place : ℕ) (inside : place < 32 * length marks) w
         (λ (o : q / 32 ≡ at → ⊥). ap (λ (w : ℕ). eqb (w / 2 ^ (q % 32) % 2) 1) (getD-set-other marks at (q / 32) stored 0 o))
         (eq-or-ne (q / 32) at);
   }
+
+-- a place marked in the window
+pub noted : {span lo at : ℕ} {before after : List ℕ} → MarkedToo (at - lo) before after → Noted span lo at before after
+noted {lo = lo} {at} {before} m = record {
+  same = m .same;
+  here = λ _. m .here;
+  kept = λ q t. ⊎-elim (λ (e : q ≡ at - lo). rw e (m .here)) (λ (ne : q ≡ at - lo → ⊥). m .others q ne ∙ t) (eq-or-ne q (at - lo));
+  new = λ q t. ⊎-elim inl (λ (ne : q ≡ at - lo → ⊥). inr (sym (m .others q ne) ∙ t)) (eq-or-ne q (at - lo));
+}
 
 -- no place is marked where every word is zero
 pub none-marked : (n q : ℕ) → bitAt (replicate n 0) q ≡ false

@@ -14,3 +14,5 @@ pub mod Carrying
 pub mod Bits
 -- two stretches exchanged, a part after the other
 pub mod Exchanging
+-- what the marks tell of the places of a window
+pub mod Marking

@@ -3,6 +3,7 @@ mod along;
 mod exchange;
 mod marks;
 mod steps;
+mod tours;
 
 ghost use mathlib.Core.Path.{_≡_};
 ghost use mathlib.Core.List.{[], _∷_};
