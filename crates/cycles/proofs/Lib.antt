@@ -16,3 +16,5 @@ pub mod Bits
 pub mod Exchanging
 -- what the marks tell of the places of a window
 pub mod Marking
+-- the words of one cycle moved by exchanges with its least place
+pub mod Touring
