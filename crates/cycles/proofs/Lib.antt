@@ -10,3 +10,11 @@ pub mod Judging
 pub mod OneOutcome
 -- the loops that move words along one cycle and along all
 pub mod Carrying
+-- marks, one bit a place
+pub mod Bits
+-- two stretches exchanged, a part after the other
+pub mod Exchanging
+-- what the marks tell of the places of a window
+pub mod Marking
+-- the words of one cycle moved by exchanges with its least place
+pub mod Touring

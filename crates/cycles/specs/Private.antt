@@ -1,12 +1,17 @@
 -- Serves only the contracts of private functions. Assumes nothing: these are definitions.
 use mathlib.Core.Path.{_≡_}
-use mathlib.Core.Bool.{cond}
+use mathlib.Core.Bool.{Bool, true, false, cond}
 use mathlib.Core.List.{List}
 use mathlib.Core.Logic.{_⊎_}
-use Prim.Native.Nat.{ℕ, _+_, _*_, _/_, _<_, _≤_}
-use Rattle.orbits.specs.Orbit.{period}
-use Rattle.orbits.specs.Cycles.{isLeast, cycles, FirstOther}
+use Prim.Native.Nat.{ℕ, _+_, _*_, _-_, _/_, _%_, _^_, _<_, _≤_}
+use lib.Dec.{eqb}
+use lib.ListN.{length, getD}
+use Rattle.orbits.specs.Orbit.{iter, period}
+use Rattle.orbits.specs.Cycles.{takes, isLeast, cycles, FirstOther}
+use Rattle.orbits.specs.Along.{carried}
+use Rattle.halves.specs.LentSlices.{ofChunks}
 use Rattle.cycles.specs.declared.Judged.{Judged}
+use Rattle.cycles.specs.declared.tours.Grid.{Grid}
 
 -- a block of a size that is accepted
 pub record Small (m n : ℕ) : Type 0 where
@@ -26,3 +31,65 @@ pub record Compared (m n : ℕ) (list : List ℕ) (answered : Judged) : Type 0 w
   pub either : (answered .number ≡ 0) ⊎ (answered .number ≡ 22)
   pub right : answered .number ≡ 0 → (list ≡ cycles m n) × (answered .place ≡ 0)
   pub differs : answered .number ≡ 22 → FirstOther list (cycles m n) (answered .place)
+
+-- whether a place is marked: its bit of its word is 1
+unfoldable pub bitAt : List ℕ → ℕ → Bool
+bitAt marks place = eqb (getD marks (place / 32) 0 / 2 ^ (place % 32) % 2) 1
+
+-- a place is marked, every other is as it was
+pub record MarkedToo (place : ℕ) (before after : List ℕ) : Type 0 where
+  pub same : length after ≡ length before
+  pub here : bitAt after place ≡ true
+  pub others : (q : ℕ) → (q ≡ place → ⊥) → bitAt after q ≡ bitAt before q
+
+-- a place is marked where it lies in the window of `span` places from lo on, and no other is
+pub record Noted (span lo at : ℕ) (before after : List ℕ) : Type 0 where
+  pub same : length after ≡ length before
+  pub here : at - lo < span → bitAt after (at - lo) ≡ true
+  pub kept : (q : ℕ) → bitAt before q ≡ true → bitAt after q ≡ true
+  pub new : (q : ℕ) → bitAt after q ≡ true → (q ≡ at - lo) ⊎ (bitAt before q ≡ true)
+
+-- so many words are stored from place `to` on; every other word stands
+pub record Stored (to count : ℕ) (words before after : List ℕ) : Type 0 where
+  pub same : length after ≡ length before
+  pub here : (p : ℕ) → p < count → getD after (to + p) 0 ≡ getD words p 0
+  pub others : (i : ℕ) → ((p : ℕ) → p < count → i ≡ to + p → ⊥) → getD after i 0 ≡ getD before i 0
+
+-- the steps of a block's turn can be followed
+pub record Follows (g : Grid) : Type 0 where
+  pub small : Small (g .m) (g .n)
+  pub inverse : Inverse (g .n) (g .inverse)
+
+-- and its chunks fill the words
+pub record Filling (g : Grid) (xs : List ℕ) : Type 0 where
+  pub follows : Follows g
+  pub fill : length xs ≡ g .m * g .n * g .chunk
+  pub few : g .m * g .n * g .chunk ≤ 1048576
+
+-- what the marks of the window from lo on tell when place x is next: a marked place is not the least of its cycle; in the first window the
+-- cycle of a place from x on that is not marked has no place below x
+pub record Known (m n lo x : ℕ) (marks : List ℕ) : Type 0 where
+  pub sound : (q : ℕ) → bitAt marks q ≡ true → isLeast (takes m n) (m * n) (lo + q) ≡ false
+  pub complete : lo ≡ 0 → (y : ℕ) → x ≤ y → y < m * n → y < 32 * length marks → bitAt marks y ≡ false → (h : ℕ) → x ≤ iter (takes m n) h y
+
+-- place x is next in the window from lo on
+pub record Next (m n lo x : ℕ) (marks : List ℕ) : Type 0 where
+  pub low : x < m * n
+  pub from : lo ≤ x
+  pub window : x - lo < 32 * length marks
+  pub few : length marks ≤ 4096
+  pub known : Known m n lo x marks
+
+-- whether place x is the least of its cycle, and what the marks tell then
+pub record Led (m n lo x : ℕ) (before : List ℕ) (answered : Bool) (after : List ℕ) : Type 0 where
+  pub is : answered ≡ isLeast (takes m n) (m * n) x
+  pub same : length after ≡ length before
+  pub known : Known m n lo x after
+
+-- the chunks of the cycle of x are carried along it, and place x + 1 is next
+pub record Toured (m n chunk lo x : ℕ) (before marks : List ℕ) (after marked : List ℕ) : Type 0 where
+  pub same : length after ≡ length before
+  pub each : (u : ℕ) → u < chunk → ofChunks (m * n) chunk u after
+      ≡ carried (takes m n) (period (takes m n) (m * n) x) x (getD (ofChunks (m * n) chunk u before) x 0) (ofChunks (m * n) chunk u before)
+  pub same-marks : length marked ≡ length marks
+  pub known : Known m n lo (x + 1) marked

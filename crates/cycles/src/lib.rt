@@ -1,6 +1,9 @@
 // Lists of the cycles of a flat turn, bought from elsewhere, judged: start and length of every cycle, in rising order.
 mod along;
+mod exchange;
+mod marks;
 mod steps;
+mod tours;
 
 ghost use mathlib.Core.Path.{_≡_};
 ghost use mathlib.Core.List.{[], _∷_};

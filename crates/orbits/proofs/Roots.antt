@@ -23,7 +23,7 @@ pub record Root (f : ℕ → ℕ) (N y : ℕ) : Type 0 where
   pub reached : iter f h s ≡ y
 
 -- a number that is not the least of its cycle is brought to a smaller one
-smaller : (f : ℕ → ℕ) (N x : ℕ) → isLeast f N x ≡ false → (h : ℕ) × (iter f h x < x)
+pub smaller : (f : ℕ → ℕ) (N x : ℕ) → isLeast f N x ≡ false → (h : ℕ) × (iter f h x < x)
 unfolding isLeast
 smaller f N x e =
     let t : ℕ → Bool = λ k. ltb (iter f k x) x in

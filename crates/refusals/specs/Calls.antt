@@ -1,6 +1,8 @@
 -- The order of checks of each call. Assumes nothing: these are definitions.
+use mathlib.Core.Bool.{Bool, _||_}
 use mathlib.Core.List.{List, [], _∷_, _++_}
 use Prim.Native.Nat.{ℕ}
+use lib.Dec.{eqb}
 use Rattle.orders.specs.Needs.{chainNeed, planNeed}
 use Rattle.refusals.specs.FirstOf.{Check, check}
 use Rattle.refusals.specs.Conditions.{badLength, tooManyWords, shortBuffer, longBuffer, shortScratch, longChain, badSwap, noOrder, noRelease}
@@ -43,3 +45,18 @@ namedChecks r release order = check 14 (noRelease release) ∷ planChecks r orde
 abbrev pub requestChecks : ℕ → List ℕ → List ℕ → List ℕ → ℕ → ℕ → List Check
 requestChecks r ds buffer scratch release order =
     blockChecks ds buffer ++ (namedChecks r release order ++ (check 4 (shortScratch (planNeed r ds release order) scratch) ∷ []))
+
+-- the block of an adjacent swap: the axes before, the two that are exchanged, the axes after
+abbrev pub swapBlock : ℕ → ℕ → ℕ → ℕ → List ℕ
+swapBlock outer m n chunk = outer ∷ m ∷ n ∷ chunk ∷ []
+
+-- a side is out of range, or there is no block before or no word after the two axes
+abbrev pub noBlock : ℕ → ℕ → ℕ → ℕ → Bool
+noBlock outer m n chunk = badLength (m ∷ n ∷ []) || (eqb outer 0 || eqb chunk 0)
+
+-- adjacent swap: 1, 2, 3, 13, 4
+abbrev pub swapChecks : ℕ → ℕ → ℕ → ℕ → List ℕ → List ℕ → List Check
+swapChecks outer m n chunk buffer scratch =
+    check 1 (noBlock outer m n chunk)
+    ∷ check 2 (tooManyWords (swapBlock outer m n chunk))
+    ∷ (exactChecks (swapBlock outer m n chunk) buffer ++ (check 4 (shortScratch (need (m ∷ n ∷ [])) scratch) ∷ []))

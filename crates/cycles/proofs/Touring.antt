@@ -1,0 +1,142 @@
+-- The words of one cycle moved by exchanges with its least place x. The word that is to go on stands at x itself, and nothing on the way reads
+-- x before it is stored last: so after each exchange what is left to carry leaves what the whole cycle leaves.
+use mathlib.Core.Path.{_≡_, refl, sym, ap, ap₂, _∙_}
+use mathlib.Core.Bool.{true}
+use mathlib.Core.List.{List}
+use Prim.Native.Nat.{ℕ, zero, suc, _+_, _*_, _-_, _<_, _≤_}
+use native.Mathlib.Nat.{mul-le-mul-right, add-mul, one-mul}
+use native.Mathlib.Omega.{arith}
+use lib.ListN.{length, getD, set}
+use lib.Seq.{getD-set-other, set-getD, set-set, set-comm}
+use Rattle.lists.proofs.Tab.{length-tab}
+use Rattle.orbits.specs.Orbit.{iter, period}
+use Rattle.orbits.specs.Cycles.{takes, isLeast}
+use Rattle.orbits.specs.Along.{carried}
+use Rattle.orbits.proofs.Orbit.{iter-add, period-is}
+use Rattle.orbits.proofs.Takes.{takes-permutes}
+use Rattle.orbits.proofs.Least.{least-all}
+use Rattle.orbits.proofs.Along.{iter-shift}
+use Rattle.halves.specs.LentSlices.{swapped, Exchanged, ofChunks}
+use Rattle.halves.proofs.Diagonal.{at-first}
+use Rattle.halves.proofs.Chunks.{words-swapped}
+use Rattle.cycles.specs.Private.{Noted, Next, Toured}
+use Rattle.cycles.proofs.Follow.{Followed, low, starts, goes-on, home-whole}
+use Rattle.cycles.proofs.Marking.{Marking, marking-none, marking-more, tour-known}
+
+-- the word at x is not read before the walk comes to x, where it is overwritten
+not-read : (f : ℕ → ℕ) (c y x word other : ℕ) (words : List ℕ) → iter f (suc c) y ≡ x → ((j : ℕ) → 0 < j → j ≤ c → iter f j y ≡ x → ⊥)
+    → carried f (suc c) y word (set words x other) ≡ carried f (suc c) y word words
+unfolding carried iter
+not-read f zero y x word other words home away = ap (λ (z : ℕ). set (set words z other) (f y) word) (sym home) ∙ set-set words (f y) other word
+not-read f (suc c) y x word other words home away =
+    let here : f y ≡ x → ⊥ = away 1 (omega arith) (omega arith) in
+    ap₂ (carried f (suc c) (f y)) (getD-set-other words x (f y) other 0 here) (set-comm words x (f y) other word (λ e. here (sym e)))
+    ∙ not-read f c (f y) x (getD words (f y) 0) other (set words (f y) word) (iter-shift f (suc c) y ∙ home)
+    (λ j a b e. away (suc j) (omega arith) (omega arith) (sym (iter-shift f j y) ∙ e))
+
+-- what is left to carry from place `at` on, where the word at x goes, leaves what the whole cycle leaves
+abbrev Walked : ℕ → ℕ → ℕ → ℕ → ℕ → List ℕ → List ℕ → Type 0
+Walked m n x at count before words =
+    carried (takes m n) (period (takes m n) (m * n) x - count) at (getD words at 0) (set words at (getD words x 0))
+    ≡ carried (takes m n) (period (takes m n) (m * n) x) x (getD before x 0) before
+
+module _ (m n x : ℕ) (small : x < m * n) where
+  abbrev f : ℕ → ℕ
+  f = takes m n
+
+  abbrev whole : ℕ
+  whole = period f (m * n) x
+
+  walked-none : (at : ℕ) (before : List ℕ) → at ≡ f x → Walked m n x at 1 before before
+  unfolding carried
+  walked-none at before e =
+      let one : whole ≡ suc (whole - 1) = omega (arith, period-is (takes-permutes m n) x small .positive) in
+      rw e (sym (ap (λ (z : ℕ). carried f z x (getD before x 0) before) one))
+
+  module _ {at count : ℕ} (w : Followed m n x at count) where
+    walked-more : {next : ℕ} (before words after : List ℕ) → length words ≡ m * n → x < at → next ≡ f at → after ≡ swapped words x at
+        → Walked m n x at count before words → Walked m n x next (count + 1) before after
+    unfolding carried
+    walked-more {next} before words after long up e traded l =
+        let c = whole - (count + 1) in
+        let on : count + 1 ≤ whole = goes-on m n x small w up e .before in
+        let p = period-is (takes-permutes m n) x small in
+        let steps : (j : ℕ) → iter f j at ≡ iter f (j + count) x = λ j. ap (iter f j) (w .is) ∙ sym (iter-add f j count x) in
+        let more : whole - count ≡ suc c = omega arith in
+        let all : suc c + count ≡ whole = omega arith in
+        let apart : x ≡ at → ⊥ = λ q. omega arith in
+        let word : getD (swapped words x at) x 0 ≡ getD words at 0 =
+        at-first words x at apart (omega arith) (omega (arith, low m n x small w)) in
+        rw (traded, e)
+        (ap (λ (v : ℕ). carried f (suc c) at v (swapped words x at)) word
+        ∙ ap (carried f (suc c) at (getD words at 0)) (set-comm words x at (getD words at 0) (getD words x 0) apart)
+        ∙ not-read f c at x (getD words at 0) (getD words at 0) (set words at (getD words x 0))
+        (steps (suc c) ∙ ap (λ (h : ℕ). iter f h x) all ∙ p .home)
+        (λ j a b z. p .least (j + count) (omega arith) (omega arith) (sym (steps j) ∙ z))
+        ∙ ap (λ (z : ℕ). carried f z at (getD words at 0) (set words at (getD words x 0))) (sym more)
+        ∙ l)
+
+    walked-all : (before words : List ℕ) → at ≡ x → Walked m n x at count before words → words ≡ carried f whole x (getD before x 0) before
+    unfolding carried
+    walked-all before words e l =
+        let none : whole - count ≡ 0 = omega (arith, home-whole m n x small w e) in
+        sym (ap₂ (λ (k a : ℕ). carried f k a (getD words a 0) (set words a (getD words x 0))) none e ∙ set-getD words x 0) ∙ l
+
+-- a tour on the way: `count` steps from x it stands at `at`, and every place between is marked
+pub record Tour (m n chunk lo x at : ℕ) (before marks words marked : List ℕ) : Type 0 where
+  pub count : ℕ
+  pub followed : Followed m n x at count
+  pub marking : Marking m n lo x count marks marked
+  pub same : length words ≡ length before
+  pub walked : (u : ℕ) → u < chunk → Walked m n x at count (ofChunks (m * n) chunk u before) (ofChunks (m * n) chunk u words)
+
+-- the chunks of two places lie in the words, the first before the second
+pub record Apart (chunk x at : ℕ) (words : List ℕ) : Type 0 where
+  pub apart : x * chunk + chunk ≤ at * chunk
+  pub inside : at * chunk + chunk ≤ length words
+
+module _ {m n chunk lo x : ℕ} {before marks : List ℕ} (nx : Next m n lo x marks) where
+  pub tour-none : {at : ℕ} → at ≡ takes m n x → Tour m n chunk lo x at before marks before marks
+  tour-none {at} e = record {
+    count = 1;
+    followed = starts m n x (nx .low) e;
+    marking = marking-none nx;
+    same = refl;
+    walked = λ u h. walked-none m n x (nx .low) at (ofChunks (m * n) chunk u before) e;
+  }
+
+  module _ {at : ℕ} {words marked : List ℕ} (t : Tour m n chunk lo x at before marks words marked) where
+    pub at-low : at < m * n
+    at-low = low m n x (nx .low) (t .followed)
+
+    pub tour-apart : length before ≡ m * n * chunk → x < at → Apart chunk x at words
+    tour-apart fill up =
+        let one : (x + 1) * chunk ≤ at * chunk = mul-le-mul-right chunk (omega arith) in
+        let two : (at + 1) * chunk ≤ m * n * chunk = mul-le-mul-right chunk (omega (arith, at-low)) in
+        record {
+          apart = omega (arith, add-mul x 1 chunk, one-mul chunk);
+          inside = omega (arith, add-mul at 1 chunk, one-mul chunk, t .same);
+        }
+
+    pub tour-more : {next : ℕ} {after noted : List ℕ} → x < at → next ≡ takes m n at → Exchanged chunk (x * chunk) (at * chunk) words after
+        → Noted (32 * length marked) lo at marked noted → Tour m n chunk lo x next before marks after noted
+    tour-more {next} {after} up e traded w = record {
+      count = t .count + 1;
+      followed = goes-on m n x (nx .low) (t .followed) up e;
+      marking = marking-more nx (t .followed) (t .marking) up w;
+      same = traded .same ∙ t .same;
+      walked = λ u h.
+          walked-more m n x (nx .low) (t .followed) (ofChunks (m * n) chunk u before) (ofChunks (m * n) chunk u words) (ofChunks (m * n) chunk u after)
+          (length-tab (m * n) _) up e (words-swapped h (λ z. omega arith) (nx .low) at-low traded) (t .walked u h);
+    }
+
+    pub tour-all : isLeast (takes m n) (m * n) x ≡ true → at ≤ x → Toured m n chunk lo x before marks words marked
+    tour-all is ended =
+        let home : at ≡ x = omega (arith, t .followed .is, least-all (takes-permutes m n) x (nx .low) is (t .count)) in
+        record {
+          same = t .same;
+          each = λ u h.
+              walked-all m n x (nx .low) (t .followed) (ofChunks (m * n) chunk u before) (ofChunks (m * n) chunk u words) home (t .walked u h);
+          same-marks = t .marking .same;
+          known = tour-known nx (t .followed) (t .marking) (home-whole m n x (nx .low) (t .followed) home);
+        }

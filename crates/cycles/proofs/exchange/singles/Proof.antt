@@ -1,0 +1,46 @@
+-- `exchange::singles` meets its contract: after i turns of the loop the first i words of the stretches stand exchanged.
+use Prim.Native.Nat.{_-_, _≤_}
+use native.Mathlib.Omega.{arith}
+use borrow.Author.Needs.{needs}
+use Rattle.halves.specs.LentSlices.{Exchanged}
+use Rattle.halves.proofs.Exchanges.{exchanged-none, exchanged-more}
+use Rattle.cycles.proofs.Exchanging.{exchanged-all}
+use Rattle.cycles.proofs.exchange.singles.Statement.{statement}
+use Rattle.cycles.proofs.exchange.singles.Tie as tie
+
+abbrev Inv-loop : tie.InvT-loop
+Inv-loop s₀ p q w i₀ s i = (i ≤ w) × Exchanged i p q s₀ s
+
+abbrev μ-loop : tie.MeasureT-loop
+μ-loop s₀ p q w i₀ s i = w - i
+
+abbrev Loop : Type 0
+Loop = tie.At-loop Inv-loop μ-loop
+
+abbrev Begin : Type 0
+Begin = tie.Start Inv-loop μ-loop
+
+loop-again : tie.Need-loop-again Inv-loop μ-loop
+loop-again c =
+    let t : tie.After-trade Inv-loop μ-loop = search in
+    let l : Loop = search in
+    (omega arith, rw (t .trade .ensures) (exchanged-more (omega arith) (omega arith) (l .loop .inv .1)))
+
+returns : tie.Need-returns Inv-loop μ-loop
+returns c = let l : Loop = search in exchanged-all (l .loop .inv .1) (omega arith)
+
+pub singles-spec : {M : Type 1} → statement M
+singles-spec =
+    tie.close
+    (tie.spec
+    Inv-loop
+    μ-loop
+    (λ c. let x : Begin = search in (omega arith, exchanged-none (x .args .p) (x .args .q) (x .args .s .now)))
+    (search needs)
+    (search needs)
+    (λ c κs. search needs)
+    (search needs)
+    (search needs)
+    loop-again
+    (search needs)
+    returns)

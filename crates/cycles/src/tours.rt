@@ -1,0 +1,61 @@
+// Chunks moved along the cycles of a turn, each exchanged once into its place, cycle by cycle from its least place on. Which places a cycle
+// has passed is marked, for a window of places at a time: as many as the marks have bits.
+use crate::exchange;
+use crate::marks;
+use crate::steps;
+ghost use mathlib.Core.Bool.{true};
+ghost use mathlib.Core.Path.{_≡_};
+ghost use Prim.Native.Nat.{_*_, _<_};
+ghost use Rattle.orbits.specs.Cycles.{takes, isLeast};
+ghost use Rattle.cycles.specs.Private.{Follows, Filling, Next, Led, Toured};
+
+// A block of m rows and n columns of chunks, and the inverse of n that a step multiplies by.
+pub(crate) struct Grid {
+    pub m: usize,
+    pub n: usize,
+    pub inverse: usize,
+    pub chunk: usize,
+}
+
+// Whether place x is the least of its cycle: the cycle is followed until it is home or a smaller place shows. The places on the way are
+// above x, so none of them is the least: they are marked, and not asked about again.
+fn least(marks: &mut [u32], g: Grid, lo: usize, x: usize) -> bool
+    requires { ⌜ Follows g × Next (g .m) (g .n) lo x (now marks) × (0 < lo) ⌝ }
+    ensures { λ r. ⌜ Led (g .m) (g .n) lo x (now (marks .entry)) r (now (marks .exit)) ⌝ }
+{
+    let mut at = steps::step(g.m, g.n, g.inverse, x);
+    while x < at {
+        marks::note(marks, lo, at);
+        at = steps::step(g.m, g.n, g.inverse, at);
+    }
+    at == x
+}
+
+// Whether a tour begins at place x, the least of its cycle. In the first window the marks alone tell: a cycle that a tour of it has passed is
+// marked whole.
+fn leads(marks: &mut [u32], g: Grid, lo: usize, x: usize) -> bool
+    requires { ⌜ Follows g × Next (g .m) (g .n) lo x (now marks) ⌝ }
+    ensures { λ r. ⌜ Led (g .m) (g .n) lo x (now (marks .entry)) r (now (marks .exit)) ⌝ }
+{
+    if marks::marked(marks, x - lo) {
+        return false;
+    }
+    if lo == 0 {
+        return true;
+    }
+    least(marks, g, lo, x)
+}
+
+// Moves the chunks of the cycle of x, its least place. The chunk at x is exchanged with the one at each next place in turn: so what was at x is
+// one place on, what was there is two places on, and what comes home stands at x.
+fn tour(buf: &mut [u32], marks: &mut [u32], g: Grid, lo: usize, x: usize)
+    requires { ⌜ Filling g (now buf) × Next (g .m) (g .n) lo x (now marks) × (isLeast (takes (g .m) (g .n)) (g .m * g .n) x ≡ true) ⌝ }
+    ensures { λ _. ⌜ Toured (g .m) (g .n) (g .chunk) lo x (now (buf .entry)) (now (marks .entry)) (now (buf .exit)) (now (marks .exit)) ⌝ }
+{
+    let mut at = steps::step(g.m, g.n, g.inverse, x);
+    while x < at {
+        exchange::exchange(buf, x * g.chunk, at * g.chunk, g.chunk);
+        marks::note(marks, lo, at);
+        at = steps::step(g.m, g.n, g.inverse, at);
+    }
+}
