@@ -18,3 +18,5 @@ pub mod Exchanging
 pub mod Marking
 -- the words of one cycle moved by exchanges with its least place
 pub mod Touring
+-- what is left to carry, place by place and window by window
+pub mod Windows
