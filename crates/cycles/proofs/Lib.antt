@@ -20,3 +20,5 @@ pub mod Marking
 pub mod Touring
 -- what is left to carry, place by place and window by window
 pub mod Windows
+-- blocks of chunks turned where they lie, one after the other
+pub mod Blocks

@@ -6,10 +6,13 @@ use crate::steps;
 ghost use mathlib.Core.Bool.{true};
 ghost use mathlib.Core.Path.{_≡_};
 ghost use Prim.Native.Nat.{_+_, _*_, _<_, _≤_, min};
-ghost use lib.ListN.{length};
+ghost use lib.ListN.{length, replicate};
+ghost use Rattle.layout.specs.Layout.{Laid};
+ghost use Rattle.refusals.specs.Calls.{swapBlock};
+ghost use Rattle.refusals.specs.Promise.{middle};
 ghost use Rattle.orbits.specs.Cycles.{takes, isLeast};
 ghost use Rattle.halves.specs.LentSlices.{ChunksTurned};
-ghost use Rattle.cycles.specs.Private.{Follows, Filling, Known, Next, Led, Toured, Left};
+ghost use Rattle.cycles.specs.Private.{Follows, Filling, Known, Next, Led, Toured, Left, Lies, TurnedAt, AllFill};
 
 // A block of m rows and n columns of chunks, and the inverse of n that a step multiplies by.
 pub(crate) struct Grid {
@@ -101,4 +104,25 @@ fn block(buf: &mut [u32], marks: &mut [u32], g: Grid)
         window(buf, marks, g, lo);
         lo += span;
     }
+}
+
+// Turns the block of chunks that lies at base: its part of the buffer is lent.
+fn block_at(buf: &mut [u32], marks: &mut [u32], g: Grid, base: usize)
+    requires { ⌜ Lies g base (now buf) × (0 < length (now marks)) × (length (now marks) ≤ 4096) ⌝ }
+    ensures { λ _. ⌜ TurnedAt (g .m) (g .n) (g .chunk) base (now (buf .entry)) (now (buf .exit)) × (length (now (marks .exit)) ≡ length (now (marks .entry))) ⌝ }
+{
+    let end = base + g.m * g.n * g.chunk;
+    block(&mut buf[base..end], marks, g);
+}
+
+// Turns every block of chunks, one after the other, and leaves no place marked.
+pub(crate) fn blocks(buf: &mut [u32], marks: &mut [u32], g: Grid, outer: usize)
+    requires { ⌜ AllFill g outer (now buf) × (0 < length (now marks)) × (length (now marks) ≤ 4096) ⌝ }
+    ensures { λ _. ⌜ Laid (swapBlock outer (g .m) (g .n) (g .chunk)) middle (now (buf .entry)) (now (buf .exit)) × (now (marks .exit) ≡ replicate (length (now (marks .entry))) 0) ⌝ }
+{
+    let words = g.m * g.n * g.chunk;
+    for e in 0..outer {
+        block_at(buf, marks, g, e * words);
+    }
+    marks::clear(marks);
 }
