@@ -22,3 +22,5 @@ pub mod Touring
 pub mod Windows
 -- blocks of chunks turned where they lie, one after the other
 pub mod Blocks
+-- what an accepted swap hands to its blocks, and what is back of scratch
+pub mod Swapping
