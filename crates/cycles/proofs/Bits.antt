@@ -1,7 +1,7 @@
 -- Marks, one bit a place: a bit set in a word leaves the other bits of the word and every other word, and zeroes are no marks.
 use mathlib.Core.Path.{_≡_, refl, sym, ap, ap₂, _∙_}
 use mathlib.Core.Bool.{true, false}
-use mathlib.Core.List.{List, [], _∷_, _++_, append-nil}
+use mathlib.Core.List.{List, _++_, append-nil}
 use mathlib.Core.Logic.{inl, inr, ⊎-elim}
 use Prim.Native.Nat.{ℕ, zero, suc, _+_, _*_, _-_, _/_, _%_, _^_, _<_, _≤_, max}
 use native.Mathlib.Nat.{mod-lt, div-eq-of-lt, one-mul, div-add-mod', div-lt-iff-lt-mul, zero-div}

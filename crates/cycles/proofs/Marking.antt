@@ -4,7 +4,7 @@ use mathlib.Core.Path.{_≡_, refl, sym, ap, _∙_}
 use mathlib.Core.Bool.{true, false}
 use mathlib.Core.List.{List}
 use mathlib.Core.Logic.{⊎-elim}
-use Prim.Native.Nat.{ℕ, zero, suc, _+_, _*_, _-_, _%_, _<_, _≤_}
+use Prim.Native.Nat.{ℕ, _+_, _*_, _-_, _%_, _<_, _≤_}
 use native.Mathlib.Nat.{mod-lt}
 use native.Mathlib.Omega.{arith}
 use lib.Dec.{eqb}
@@ -13,7 +13,7 @@ use borrow.Author.Tests.{eq-eqb, ne-eqb}
 use Rattle.lists.proofs.Decide.{decided, eq-or-ne}
 use Rattle.orbits.specs.Orbit.{iter, period}
 use Rattle.orbits.specs.Cycles.{takes, isLeast}
-use Rattle.orbits.proofs.Orbit.{iter-add, iter-within, period-is}
+use Rattle.orbits.proofs.Orbit.{iter-add, period-is}
 use Rattle.orbits.proofs.Takes.{takes-permutes}
 use Rattle.orbits.proofs.Least.{iter-mod, least-is, least-all}
 use Rattle.orbits.proofs.Roots.{smaller, leads-back}

@@ -9,7 +9,6 @@ use lib.Seq.{length-take-le}
 use Rattle.refusals.specs.Scratch.{need, cleared}
 use Rattle.refusals.proofs.Swap.{Swappable, swap-need}
 use Rattle.cycles.specs.Private.{Inverse, AllFill}
-use Rattle.cycles.specs.declared.tours.Grid.{Grid}
 
 module _ {outer m n chunk : ℕ} {buffer scratch : List ℕ} (a : Swappable outer m n chunk buffer scratch) where
   pub all-fill : {inverse : ℕ} → Inverse n inverse → AllFill (record { m = m; n = n; inverse = inverse; chunk = chunk }) outer buffer

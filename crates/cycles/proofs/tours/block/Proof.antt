@@ -1,6 +1,6 @@
 -- `tours::block` meets its contract. The loop's invariant: the windows before lo are done; the measure is how many places are left.
 use mathlib.Core.Path.{refl}
-use Prim.Native.Nat.{_*_, _-_}
+use Prim.Native.Nat.{_-_}
 use native.Mathlib.Omega.{arith}
 use borrow.Author.Needs.{needs}
 use Rattle.cycles.proofs.Windows.{Done, left-none, left-turned, filling-on, cleared-long, cleared-known, done-more}
