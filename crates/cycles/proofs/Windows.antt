@@ -62,14 +62,14 @@ module _ {m n chunk : ℕ} where
   pub left-none : {x : ℕ} {xs : List ℕ} → Left m n chunk x x xs xs
   left-none = record { same = refl; left = λ u h. refl }
 
-  pub left-on : {x y z : ℕ} {xs ys zs : List ℕ} → Left m n chunk x y xs ys → Left m n chunk y z ys zs → Left m n chunk x z xs zs
+  left-on : {x y z : ℕ} {xs ys zs : List ℕ} → Left m n chunk x y xs ys → Left m n chunk y z ys zs → Left m n chunk x z xs zs
   left-on a b = record { same = b .same ∙ a .same; left = λ u h. b .left u h ∙ a .left u h }
 
   -- one place more
-  pub left-other : {x y : ℕ} {xs ys : List ℕ} → y < m * n → isLeast (takes m n) (m * n) y ≡ false → Left m n chunk x y xs ys → Left m n chunk x (y + 1) xs ys
+  left-other : {x y : ℕ} {xs ys : List ℕ} → y < m * n → isLeast (takes m n) (m * n) y ≡ false → Left m n chunk x y xs ys → Left m n chunk x (y + 1) xs ys
   left-other {y = y} {ys = ys} small e a = left-on a (record { same = refl; left = λ u h. rest-other m n y (ofChunks (m * n) chunk u ys) small e })
 
-  pub left-tour : {x y lo : ℕ} {xs ys zs marks marked : List ℕ} → y < m * n → isLeast (takes m n) (m * n) y ≡ true → Left m n chunk x y xs ys
+  left-tour : {x y lo : ℕ} {xs ys zs marks marked : List ℕ} → y < m * n → isLeast (takes m n) (m * n) y ≡ true → Left m n chunk x y xs ys
       → Toured m n chunk lo y ys marks zs marked → Left m n chunk x (y + 1) xs zs
   left-tour {y = y} {ys = ys} small e a t =
       left-on a (record {
