@@ -1,7 +1,7 @@
 -- Marks, one bit a place: a bit set in a word leaves the other bits of the word and every other word, and zeroes are no marks.
 use mathlib.Core.Path.{_≡_, refl, sym, ap, ap₂, _∙_}
-use mathlib.Core.Bool.{false}
-use mathlib.Core.List.{List, [], _∷_, _++_, append-nil}
+use mathlib.Core.Bool.{true, false}
+use mathlib.Core.List.{List, _++_, append-nil}
 use mathlib.Core.Logic.{inl, inr, ⊎-elim}
 use Prim.Native.Nat.{ℕ, zero, suc, _+_, _*_, _-_, _/_, _%_, _^_, _<_, _≤_, max}
 use native.Mathlib.Nat.{mod-lt, div-eq-of-lt, one-mul, div-add-mod', div-lt-iff-lt-mul, zero-div}
@@ -110,3 +110,7 @@ none-marked n q = ap (λ (w : ℕ). eqb (w / 2 ^ (q % 32) % 2) 1) (zeroes n (q /
     zeroes zero k = refl
     zeroes (suc n) zero = refl
     zeroes (suc n) (suc k) = zeroes n k
+
+-- a mark is not both there and missing
+pub both : {A : Type 0} (marks : List ℕ) (q : ℕ) → bitAt marks q ≡ true → bitAt marks q ≡ false → A
+both marks q t f = let z : _≡_ {A = ℕ} 0 1 = cc in absurd (omega arith)

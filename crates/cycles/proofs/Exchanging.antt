@@ -1,5 +1,5 @@
 -- Two stretches exchanged: by words that were read before any was stored, and stretch after stretch.
-use mathlib.Core.Path.{_≡_, refl, sym, ap, _∙_}
+use mathlib.Core.Path.{_≡_, refl, ap, _∙_}
 use mathlib.Core.List.{List}
 use mathlib.Core.Logic.{⊎-elim}
 use Prim.Native.Nat.{ℕ, _+_, _-_, _<_, _≤_}

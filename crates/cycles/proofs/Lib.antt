@@ -18,3 +18,9 @@ pub mod Exchanging
 pub mod Marking
 -- the words of one cycle moved by exchanges with its least place
 pub mod Touring
+-- what is left to carry, place by place and window by window
+pub mod Windows
+-- blocks of chunks turned where they lie, one after the other
+pub mod Blocks
+-- what an accepted swap hands to its blocks, and what is back of scratch
+pub mod Swapping

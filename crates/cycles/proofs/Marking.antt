@@ -4,7 +4,7 @@ use mathlib.Core.Path.{_≡_, refl, sym, ap, _∙_}
 use mathlib.Core.Bool.{true, false}
 use mathlib.Core.List.{List}
 use mathlib.Core.Logic.{⊎-elim}
-use Prim.Native.Nat.{ℕ, zero, suc, _+_, _*_, _-_, _%_, _<_, _≤_}
+use Prim.Native.Nat.{ℕ, _+_, _*_, _-_, _%_, _<_, _≤_}
 use native.Mathlib.Nat.{mod-lt}
 use native.Mathlib.Omega.{arith}
 use lib.Dec.{eqb}
@@ -13,16 +13,13 @@ use borrow.Author.Tests.{eq-eqb, ne-eqb}
 use Rattle.lists.proofs.Decide.{decided, eq-or-ne}
 use Rattle.orbits.specs.Orbit.{iter, period}
 use Rattle.orbits.specs.Cycles.{takes, isLeast}
-use Rattle.orbits.proofs.Orbit.{iter-add, iter-within, period-is}
+use Rattle.orbits.proofs.Orbit.{iter-add, period-is}
 use Rattle.orbits.proofs.Takes.{takes-permutes}
 use Rattle.orbits.proofs.Least.{iter-mod, least-is, least-all}
 use Rattle.orbits.proofs.Roots.{smaller, leads-back}
 use Rattle.cycles.specs.Private.{bitAt, Noted, Known, Next, Led}
+use Rattle.cycles.proofs.Bits.{both}
 use Rattle.cycles.proofs.Follow.{Followed, low, below-not-least, home-least}
-
--- a mark is not both there and missing
-both : {A : Type 0} (marks : List ℕ) (q : ℕ) → bitAt marks q ≡ true → bitAt marks q ≡ false → A
-both marks q t f = let z : _≡_ {A = ℕ} 0 1 = cc in absurd (omega arith)
 
 -- the marks once the first `count` steps along the cycle of x have been noted
 pub record Marking (m n lo x count : ℕ) (before after : List ℕ) : Type 0 where

@@ -7,8 +7,8 @@ use Prim.Native.Nat.{ℕ, _+_, _*_, _-_, _/_, _%_, _^_, _<_, _≤_}
 use lib.Dec.{eqb}
 use lib.ListN.{length, getD}
 use Rattle.orbits.specs.Orbit.{iter, period}
-use Rattle.orbits.specs.Cycles.{takes, isLeast, cycles, FirstOther}
-use Rattle.orbits.specs.Along.{carried}
+use Rattle.orbits.specs.Cycles.{takes, isLeast, cyclesFrom, cycles, FirstOther}
+use Rattle.orbits.specs.Along.{carried, alongCycles}
 use Rattle.halves.specs.LentSlices.{ofChunks}
 use Rattle.cycles.specs.declared.Judged.{Judged}
 use Rattle.cycles.specs.declared.tours.Grid.{Grid}
@@ -93,3 +93,31 @@ pub record Toured (m n chunk lo x : ℕ) (before marks : List ℕ) (after marked
       ≡ carried (takes m n) (period (takes m n) (m * n) x) x (getD (ofChunks (m * n) chunk u before) x 0) (ofChunks (m * n) chunk u before)
   pub same-marks : length marked ≡ length marks
   pub known : Known m n lo (x + 1) marked
+
+-- what carrying the words along the cycles from place x on leaves
+unfoldable pub restFrom : ℕ → ℕ → ℕ → List ℕ → List ℕ
+restFrom m n x words = alongCycles (takes m n) (cyclesFrom (takes m n) (m * n) x (m * n - x)) words
+
+-- the chunks of the cycles from place x on and before place y are carried: what is left from y on is what was left from x on
+pub record Left (m n chunk x y : ℕ) (before after : List ℕ) : Type 0 where
+  pub same : length after ≡ length before
+  pub left : (u : ℕ) → u < chunk → restFrom m n y (ofChunks (m * n) chunk u after) ≡ restFrom m n x (ofChunks (m * n) chunk u before)
+
+-- a block of chunks lies in the words at base
+pub record Lies (g : Grid) (base : ℕ) (xs : List ℕ) : Type 0 where
+  pub follows : Follows g
+  pub inside : base + g .m * g .n * g .chunk ≤ length xs
+  pub few : length xs ≤ 1048576
+
+-- the block of chunks at base is turned: the chunk of place i·n + j stands at place j·m + i; every word outside the block stands
+pub record TurnedAt (m n chunk base : ℕ) (before after : List ℕ) : Type 0 where
+  pub same : length after ≡ length before
+  pub placed : (i j u : ℕ) → i < m → j < n → u < chunk → getD after (base + ((j * m + i) * chunk + u)) 0 ≡ getD before (base + ((i * n + j) * chunk + u)) 0
+  pub others : (k : ℕ) → (k < base) ⊎ (base + m * n * chunk ≤ k) → getD after k 0 ≡ getD before k 0
+
+-- so many blocks of chunks fill the words, one after the other
+pub record AllFill (g : Grid) (outer : ℕ) (xs : List ℕ) : Type 0 where
+  pub follows : Follows g
+  pub some : 0 < outer
+  pub fill : length xs ≡ outer * (g .m * g .n * g .chunk)
+  pub few : length xs ≤ 1048576

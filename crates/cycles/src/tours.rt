@@ -5,9 +5,14 @@ use crate::marks;
 use crate::steps;
 ghost use mathlib.Core.Bool.{true};
 ghost use mathlib.Core.Path.{_≡_};
-ghost use Prim.Native.Nat.{_*_, _<_};
+ghost use Prim.Native.Nat.{_+_, _*_, _<_, _≤_, min};
+ghost use lib.ListN.{length, replicate};
+ghost use Rattle.layout.specs.Layout.{Laid};
+ghost use Rattle.refusals.specs.Calls.{swapBlock};
+ghost use Rattle.refusals.specs.Promise.{middle};
 ghost use Rattle.orbits.specs.Cycles.{takes, isLeast};
-ghost use Rattle.cycles.specs.Private.{Follows, Filling, Next, Led, Toured};
+ghost use Rattle.halves.specs.LentSlices.{ChunksTurned};
+ghost use Rattle.cycles.specs.Private.{Follows, Filling, Known, Next, Led, Toured, Left, Lies, TurnedAt, AllFill};
 
 // A block of m rows and n columns of chunks, and the inverse of n that a step multiplies by.
 pub(crate) struct Grid {
@@ -58,4 +63,66 @@ fn tour(buf: &mut [u32], marks: &mut [u32], g: Grid, lo: usize, x: usize)
         marks::note(marks, lo, at);
         at = steps::step(g.m, g.n, g.inverse, at);
     }
+}
+
+// The lesser of two places.
+fn lesser(first: usize, second: usize) -> usize
+    ensures { λ r. ⌜ r ≡ min first second ⌝ }
+{
+    if first < second {
+        return first;
+    }
+    second
+}
+
+// Moves the chunks of the cycles whose least places lie in the window that begins at place lo.
+fn window(buf: &mut [u32], marks: &mut [u32], g: Grid, lo: usize)
+    requires { ⌜ Filling g (now buf) × (lo < g .m * g .n) × (length (now marks) ≤ 4096) × Known (g .m) (g .n) lo lo (now marks) ⌝ }
+    ensures { λ _. ⌜ Left (g .m) (g .n) (g .chunk) lo (lo + 32 * length (now (marks .entry))) (now (buf .entry)) (now (buf .exit)) × (length (now (marks .exit)) ≡ length (now (marks .entry))) ⌝ }
+{
+    let count = g.m * g.n;
+    let past = lo + 32 * marks.len();
+    let end = lesser(past, count);
+    for x in lo..end {
+        if !leads(marks, g, lo, x) {
+            continue;
+        }
+        tour(buf, marks, g, lo, x);
+    }
+}
+
+// Turns a block of chunks, window after window.
+fn block(buf: &mut [u32], marks: &mut [u32], g: Grid)
+    requires { ⌜ Filling g (now buf) × (0 < length (now marks)) × (length (now marks) ≤ 4096) ⌝ }
+    ensures { λ _. ⌜ ChunksTurned (g .m) (g .n) (g .chunk) (now (buf .entry)) (now (buf .exit)) × (length (now (marks .exit)) ≡ length (now (marks .entry))) ⌝ }
+{
+    let count = g.m * g.n;
+    let span = 32 * marks.len();
+    let mut lo = 0;
+    while lo < count {
+        marks::clear(marks);
+        window(buf, marks, g, lo);
+        lo += span;
+    }
+}
+
+// Turns the block of chunks that lies at base: its part of the buffer is lent.
+fn block_at(buf: &mut [u32], marks: &mut [u32], g: Grid, base: usize)
+    requires { ⌜ Lies g base (now buf) × (0 < length (now marks)) × (length (now marks) ≤ 4096) ⌝ }
+    ensures { λ _. ⌜ TurnedAt (g .m) (g .n) (g .chunk) base (now (buf .entry)) (now (buf .exit)) × (length (now (marks .exit)) ≡ length (now (marks .entry))) ⌝ }
+{
+    let end = base + g.m * g.n * g.chunk;
+    block(&mut buf[base..end], marks, g);
+}
+
+// Turns every block of chunks, one after the other, and leaves no place marked.
+pub(crate) fn blocks(buf: &mut [u32], marks: &mut [u32], g: Grid, outer: usize)
+    requires { ⌜ AllFill g outer (now buf) × (0 < length (now marks)) × (length (now marks) ≤ 4096) ⌝ }
+    ensures { λ _. ⌜ Laid (swapBlock outer (g .m) (g .n) (g .chunk)) middle (now (buf .entry)) (now (buf .exit)) × (now (marks .exit) ≡ replicate (length (now (marks .entry))) 0) ⌝ }
+{
+    let words = g.m * g.n * g.chunk;
+    for e in 0..outer {
+        block_at(buf, marks, g, e * words);
+    }
+    marks::clear(marks);
 }

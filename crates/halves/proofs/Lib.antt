@@ -1,7 +1,7 @@
 -- one exchange more of two stretches
 mod Stretches
 -- a slice lent in parts, and the whole once they are back
-mod Parts
+pub mod Parts
 -- rotation by exchanges of the shorter side
 mod Rotations
 -- words in front of and behind a cut, and runs merged half by half

@@ -1,12 +1,13 @@
 -- A slice that is lent in parts: what is lent as a part, and the whole once that part is back.
-use mathlib.Core.Path.{_≡_, ap, _∙_}
+use mathlib.Core.Path.{_≡_, refl, ap, _∙_}
 use mathlib.Core.List.{List, _++_, append-nil}
-use Prim.Native.Nat.{ℕ, _-_, _+_, _≤_}
+use Prim.Native.Nat.{ℕ, _-_, _+_, _<_, _≤_}
 use native.Mathlib.Omega.{arith}
 use native.Mathlib.Nat.{le-refl}
-use lib.ListN.{length, take, drop, length-append, length-drop, drop-of-length-le}
-use lib.Seq.{length-take-le, take-all, take-at, drop-at, take-append-add, drop-append-add}
-use borrow.Rule.Slice.PartMut.{midOf, putMid}
+use lib.ListN.{length, getD, take, drop, length-append, length-drop, drop-of-length-le}
+use lib.Seq.{length-take-le, take-all, take-at, drop-at, take-append-add, drop-append-add, getD-take, getD-drop}
+use borrow.Rule.Slice.PartMut.{midOf, putMid, postOf}
+use Rattle.halves.proofs.Merges.{in-front, behind}
 
 module _ (k : ℕ) (xs : List ℕ) where
   -- what is lent as the part from k on
@@ -44,3 +45,26 @@ module _ (k : ℕ) (xs a : List ℕ) (le : k ≤ length xs) (la : length a ≡ l
   -- the whole once both are back
   pub joined : (b : List ℕ) → putMid k (length (a ++ drop k xs) - k) (a ++ drop k xs) b ≡ a ++ b
   joined b = rest-back k (a ++ drop k xs) b ∙ ap (λ (l : List ℕ). l ++ b) (take-at a (drop k xs) k front)
+
+-- a middle part of a list: what stands in it, and what stands in the list once the part is back as ys
+module _ (a k : ℕ) (xs : List ℕ) (inside : a + k ≤ length xs) where
+  pub part-at : (i : ℕ) → i < k → getD (midOf a k xs) i 0 ≡ getD xs (a + i) 0
+  part-at i h = getD-take k (drop a xs) i 0 h ∙ getD-drop a xs i 0
+
+  before-part : length (take a xs) ≡ a
+  before-part = length-take-le a xs (omega arith)
+
+  module _ (ys : List ℕ) (long : length ys ≡ k) where
+    pub back-at : (i : ℕ) → i < k → getD (putMid a k xs ys) (a + i) 0 ≡ getD ys i 0
+    back-at i h = behind (take a xs) (ys ++ postOf a k xs) i before-part refl ∙ in-front ys (postOf a k xs) long h
+
+    pub before-it : (i : ℕ) → i < a → getD (putMid a k xs ys) i 0 ≡ getD xs i 0
+    before-it i h = in-front (take a xs) (ys ++ postOf a k xs) before-part h ∙ getD-take a xs i 0 h
+
+    pub after-it : (i : ℕ) → a + k ≤ i → getD (putMid a k xs ys) i 0 ≡ getD xs i 0
+    after-it i h =
+        behind (take a xs) (ys ++ postOf a k xs) (i - a) before-part (omega arith)
+        ∙ behind ys (postOf a k xs) (i - a - k) long (omega arith)
+        ∙ getD-drop k (drop a xs) (i - a - k) 0
+        ∙ getD-drop a xs (k + (i - a - k)) 0
+        ∙ ap (λ (z : ℕ). getD xs z 0) (omega arith)

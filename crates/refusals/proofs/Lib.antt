@@ -10,3 +10,5 @@ pub mod Conditions
 pub mod Calls
 -- what callers use of the need of scratch, and what clearing scratch leaves
 pub mod Scratch
+-- what the checks of an adjacent swap tell, and that any two outcomes of its promise coincide
+pub mod Swap

@@ -1,6 +1,4 @@
 -- `exchange::sixteen` meets its contract: what was read of each stretch is stored where the other was.
-use mathlib.Core.Path.{_∙_}
-use native.Mathlib.Omega.{arith}
 use borrow.Author.Needs.{needs}
 use Rattle.cycles.proofs.Exchanging.{stores-exchange}
 use Rattle.cycles.proofs.exchange.sixteen.Statement.{statement}

@@ -2,7 +2,6 @@
 -- measure is how many steps it is home.
 use Prim.Native.Nat.{ℕ, _+_}
 use native.Mathlib.Omega.{arith}
-use borrow.Author.Needs.{needs}
 use Rattle.cycles.proofs.Follow.{Followed, homeward, low, starts, goes-on, nearer}
 use Rattle.cycles.proofs.Marking.{Marking, marking-none, marking-more, least-led}
 use Rattle.cycles.proofs.tours.least.Statement.{statement}

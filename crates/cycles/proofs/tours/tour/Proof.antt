@@ -1,6 +1,5 @@
 -- `tours::tour` meets its contract. The loop's invariant: the tour is on the way; the measure is how many steps it is home.
 use native.Mathlib.Omega.{arith}
-use borrow.Author.Needs.{needs}
 use Rattle.cycles.proofs.Follow.{homeward, nearer}
 use Rattle.cycles.proofs.Touring.{Tour, tour-none, at-low, tour-apart, tour-more, tour-all}
 use Rattle.cycles.proofs.tours.tour.Statement.{statement}
