@@ -30,7 +30,8 @@ use Rattle.refusals.proofs.Scratch.{need-swap}
 use Rattle.refusals.proofs.FirstOf.Silent.{none, more}
 use Rattle.checks.specs.Words.{capped}
 use Rattle.checks.proofs.Capped.{capped-few}
-use Rattle.passes.specs.Promises.{swapBlock, middle, swapChecks, SwapPromise}
+use Rattle.refusals.specs.Calls.{swapBlock, swapChecks}
+use Rattle.refusals.specs.Promise.{middle, SwapPromise}
 use Rattle.axes.proofs.Grouped.{grouped-volume, regrouped, one-swap-more}
 use Rattle.axes.proofs.Accepted.{BlockAccepted}
 

@@ -8,7 +8,9 @@ use lib.ListN.{replicate}
 use Rattle.layout.specs.Layout.{volume, at, pick}
 use Rattle.refusals.specs.FirstOf.{firstOf}
 use Rattle.refusals.specs.Conditions.{longest}
-use Rattle.passes.specs.Promises.{swapChecks, SwapPromise, ClearPromise}
+use Rattle.refusals.specs.Calls.{swapChecks}
+use Rattle.refusals.specs.Promise.{SwapPromise}
+use Rattle.passes.specs.Promises.{ClearPromise}
 use Rattle.outcomes.proofs.Wrong.{other-number, other-list, misplaced, refuses, Broken, broken}
 
 abbrev block : List ℕ

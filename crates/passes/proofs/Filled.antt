@@ -33,11 +33,12 @@ filled-more {to} {word} {count} {k} {before} {now} apart h inside f = record {
   others = λ p g. getD-set-other now (to k) p (word k) 0 (λ e. g k (omega arith) (sym e)) ∙ f .others p (λ j l. g j (omega arith));
 }
 
-pub filled-pair : {to word : ℕ → ℕ} {count k : ℕ} {before now : List ℕ} → Apart to count → k + 1 < count → to k < length before → to (k + 1) < length before
-    → Filled to word k before now → Filled to word (k + 2) before (set (set now (to k) (word k)) (to (k + 1)) (word (k + 1)))
-filled-pair {to} {word} {count} {k} {before} {now} apart h here next f =
-    let two : k + 1 + 1 ≡ k + 2 = omega arith in
-    subst (λ (z : ℕ). Filled to word z before (set (set now (to k) (word k)) (to (k + 1)) (word (k + 1)))) two (filled-more apart h next (filled-more apart (omega arith) here f))
+pub filled-pair : {to word : ℕ → ℕ} {count k k′ : ℕ} {before now : List ℕ} → Apart to count → k + 2 ≡ k′ → k′ ≤ count → to k < length before → to (k + 1) < length before
+    → Filled to word k before now → Filled to word k′ before (set (set now (to k) (word k)) (to (k + 1)) (word (k + 1)))
+filled-pair {to} {word} {count} {k} {k′} {before} {now} apart e h here next f =
+    let two : k + 1 + 1 ≡ k′ = omega arith in
+    subst (λ (z : ℕ). Filled to word z before (set (set now (to k) (word k)) (to (k + 1)) (word (k + 1)))) two
+    (filled-more apart (omega arith) next (filled-more apart (omega arith) here f))
 
 -- the same loop from the last word down to word k
 pub record FilledFrom (to word : ℕ → ℕ) (k count : ℕ) (before after : List ℕ) : Type 0 where

@@ -14,13 +14,13 @@ use Rattle.lists.proofs.Decide.{lt-or-ge}
 use Rattle.layout.specs.Layout.{Laid, Within, at, pick}
 use Rattle.layout.specs.Layout.Within.{none, more}
 use Rattle.refusals.specs.FirstOf.{firstOf}
-use Rattle.refusals.specs.Calls.{recursionChecks}
+use Rattle.refusals.specs.Calls.{recursionChecks, swapBlock}
 use Rattle.halves.specs.Promise.{TurnChunksPromise, chunked, firstTwo}
 use Rattle.halves.proofs.Lent.{chunks-accept, at-three}
 use Rattle.halves.proofs.Merges.{in-front, behind}
 use Rattle.passes.specs.ThroughScratch.{Grouped}
 use Rattle.passes.specs.Chunks.{ChunksTurnedAt, PartLies}
-use Rattle.passes.specs.Promises.{swapBlock, middle}
+use Rattle.refusals.specs.Promise.{middle}
 use Rattle.passes.specs.declared.line.GroupedSides.{GroupedSides}
 use Rattle.passes.proofs.Swaps.{swap-at}
 

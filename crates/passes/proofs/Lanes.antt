@@ -26,11 +26,11 @@ module _ (w : Walk) (place : ℕ) (low : place < w .modulus) where
     next-low = rw (l .next) (walk-lt place (w .step) (w .modulus) (t + 1) (omega arith))
 
     pub lanes-more : (double : ℕ) → ((z : ℕ) → (z + double) % w .modulus ≡ (z + w .step + w .step) % w .modulus)
-        → {p′ q′ : ℕ} → p′ ≡ (p + double) % w .modulus → q′ ≡ (q + double) % w .modulus → Lanes w place (t + 2) p′ q′
-    lanes-more double two a b =
+        → {t′ p′ q′ : ℕ} → t + 2 ≡ t′ → p′ ≡ (p + double) % w .modulus → q′ ≡ (q + double) % w .modulus → Lanes w place t′ p′ q′
+    lanes-more double two {t′} e a b =
         let on = walk-two place (w .step) (w .modulus) in
-        let reach : t + 1 + 1 ≡ t + 2 = omega arith in
-        let reach-next : t + 1 + 1 + 1 ≡ t + 2 + 1 = omega arith in
+        let reach : t + 1 + 1 ≡ t′ = omega arith in
+        let reach-next : t + 1 + 1 + 1 ≡ t′ + 1 = omega arith in
         record {
           here = a ∙ ap (λ (z : ℕ). (z + double) % w .modulus) (l .here) ∙ sym (on t double two) ∙ ap (stands w place) reach;
           next = b ∙ ap (λ (z : ℕ). (z + double) % w .modulus) (l .next) ∙ sym (on (t + 1) double two) ∙ ap (stands w place) reach-next;

@@ -38,17 +38,7 @@ pub mod OneOutcome
 pub mod OneTick
 -- a turn and its reverse, either one first, restore every word
 pub mod ThereAndBack
--- two places taken for each other
-pub mod Across
--- how many places of a table do not name themselves
-pub mod Loose
--- chunks on their way along a table: one exchange more, and all at home
-pub mod Settling
--- the table of a line, as its walk fills it
-pub mod Names
--- a line of chunks: its table, its moves, and each word of the chunks as a flat block
-pub mod ChunkLines
--- blocks of chunks on their way, line by line and block by block
+-- blocks of chunks turned one after the other are the swap
 pub mod ChunkBlocks
 -- a block of chunks turned by recursion, and a swap that moves nothing
 pub mod Halved

@@ -1,18 +1,15 @@
 -- Any two outcomes that one promise allows coincide: the number is a function of the entry, two right buffers are equal, and what is
 -- refused or cleared is told by the entry.
-use mathlib.Core.Path.{_≡_, refl, sym, _∙_}
-use mathlib.Core.List.{List, [], _∷_}
+use mathlib.Core.Path.{_≡_, sym, _∙_}
+use mathlib.Core.List.{List}
 use mathlib.Core.Logic.{⊎-elim}
 use Prim.Native.Nat.{ℕ}
 use Rattle.lists.proofs.Decide.{eq-or-ne}
-use Rattle.orders.specs.Chains.{named, follow, exchange}
-use Rattle.orders.proofs.Layouts.{chain-once}
-use Rattle.layout.specs.Layout.{Laid}
 use Rattle.refusals.proofs.Promise.{one-outcome}
 use Rattle.flat.proofs.Turn.{one-turn}
 use Rattle.stages.specs.Stages.{Memory}
 use Rattle.passes.specs.Restart.{ResumePromise}
-use Rattle.passes.specs.Promises.{TurnPromise, TurnBackPromise, SwapPromise, ClearPromise, swapBlock, middle}
+use Rattle.passes.specs.Promises.{TurnPromise, TurnBackPromise, ClearPromise}
 
 -- number, buffer and scratch are the same
 abbrev pub Same : ℕ → ℕ → List ℕ → List ℕ → List ℕ → List ℕ → Type 0
@@ -25,16 +22,6 @@ turn-once p q = one-outcome (λ ys zs t u. one-turn t u) p q
 pub turn-back-once : {m n r r′ : ℕ} {b₀ s₀ b s b′ s′ : List ℕ}
     → TurnBackPromise m n b₀ s₀ r b s → TurnBackPromise m n b₀ s₀ r′ b′ s′ → Same r r′ b b′ s s′
 turn-back-once p q = one-outcome (λ ys zs t u. one-turn t u) p q
-
--- two outcomes of an adjacent swap's layout are equal: a chain of one swap names its order
-one-swap : {outer m n chunk : ℕ} {xs : List ℕ} (ys zs : List ℕ)
-    → Laid (swapBlock outer m n chunk) middle xs ys → Laid (swapBlock outer m n chunk) middle xs zs → ys ≡ zs
-unfolding named follow exchange
-one-swap {outer} {m} {n} {chunk} ys zs f g = chain-once (swapBlock outer m n chunk) refl (1 ∷ []) f g
-
-pub swap-once : {outer m n chunk r r′ : ℕ} {b₀ s₀ b s b′ s′ : List ℕ}
-    → SwapPromise outer m n chunk b₀ s₀ r b s → SwapPromise outer m n chunk b₀ s₀ r′ b′ s′ → Same r r′ b b′ s s′
-swap-once p q = one-outcome one-swap p q
 
 pub clear-once : {n r r′ : ℕ} {s₀ s s′ : List ℕ} → ClearPromise n s₀ r s → ClearPromise n s₀ r′ s′ → (r ≡ r′) × (s ≡ s′)
 clear-once {r = r} p q =

@@ -1,28 +1,20 @@
 -- The blocks of an adjacent swap are a family: turned one after the other, they are the layout that exchanges the two axes
 -- in the middle.
 use mathlib.Core.Path.{_≡_, sym, ap, ap₂, _∙_, subst}
-use mathlib.Core.List.{List, [], _∷_, _++_}
+use mathlib.Core.List.{List, [], _∷_}
 use Prim.Native.Nat.{ℕ, _+_, _*_, _/_, _%_, _<_, _≤_}
 use native.Mathlib.Omega.{arith}
-use native.Mathlib.Nat.{mul-comm, mul-assoc, mul-add, add-mul, mul-one, one-mul, mod-lt, div-add-mod', div-lt-iff-lt-mul, pos-of-ne-zero, le-trans, le-mul-of-pos-right, mul-pos}
+use native.Mathlib.Nat.{mul-comm, mul-assoc, mul-add, add-mul, mul-one, one-mul, mod-lt, div-add-mod', div-lt-iff-lt-mul, le-trans, le-mul-of-pos-right, mul-pos}
 use lib.ListN.{length, getD}
 use lib.Arith.{digits-div, digits-mod, digits-lt}
-use mathlib.Core.Bool.{false, _||_}
-use lib.Dec.{eqb, lit<}
-use borrow.Author.Tests.{ltb-false, eqb-false}
-use Rattle.refusals.specs.FirstOf.{check, firstOf}
-use Rattle.refusals.specs.Conditions.{badLength, tooManyWords, shortScratch}
-use Rattle.refusals.specs.Calls.{exactChecks}
-use Rattle.refusals.specs.Scratch.{need}
-use Rattle.refusals.proofs.Conditions.{InRange, in-range, passed, exact-passed, enough-scratch}
-use Rattle.refusals.proofs.Some.{either-false}
-use Rattle.flat.specs.Turn.{sides}
+use Rattle.refusals.specs.Calls.{swapBlock}
+use Rattle.refusals.specs.Promise.{middle}
+use Rattle.refusals.proofs.Swap.{Swappable}
 use Rattle.layout.specs.Layout.{volume, Within, at, pick, Laid}
 use Rattle.layout.specs.Layout.Within.{none, more}
 use Rattle.layout.proofs.Offsets.{at-lt}
-use Rattle.passes.specs.ThroughScratch.{Lies, AllLie, TurnedAt}
+use Rattle.passes.specs.ThroughScratch.{Lies, BlocksLie, AllLie, TurnedAt}
 use Rattle.passes.proofs.Fits.{side-need}
-use Rattle.passes.specs.Promises.{swapBlock, middle, noBlock, swapChecks}
 use Rattle.passes.proofs.Family.{Family, Some, some-more}
 
 -- a word of the swap, by its block, row, column and word: its offset
@@ -140,7 +132,7 @@ module _ (outer m n chunk : ℕ) (hm : 0 < m) (hn : 0 < n) (hc : 0 < chunk) wher
           ∙ ap (λ (z : ℕ). getD xs z 0) (ap (λ (a : ℕ). a + chunk * p) base ∙ swap-at outer m n chunk e i j u)
 
 -- a block of a swap that lies in the buffer, on the way: buffer and scratch of the same lengths
-module _ {outer m n chunk : ℕ} {xs scratch : List ℕ} (hm : 0 < m) (hn : 0 < n) (y : AllLie outer m n chunk xs scratch) where
+module _ {outer m n chunk : ℕ} {xs : List ℕ} (hm : 0 < m) (hn : 0 < n) (y : BlocksLie outer m n chunk xs) where
   -- all that is computed on the way is no more than the words of the block
   pub around-few : outer * chunk ≤ 1048576
   around-few = le-trans (le-mul-of-pos-right (outer * chunk) (mul-pos hm hn)) (y .few)
@@ -155,62 +147,24 @@ module _ {outer m n chunk : ℕ} {xs scratch : List ℕ} (hm : 0 < m) (hn : 0 < 
       let z = pos-lt outer m n chunk hm hn (y .words) t 0 h (mul-pos hm hn) in
       omega (arith, y .few, swap-volume outer m n chunk)
 
-  pub block-lies : (t : ℕ) (ys held : List ℕ) → t < outer * chunk → length ys ≡ length xs → length held ≡ length scratch
-      → Lies m n (swapBase m n chunk t) chunk ys held
-  block-lies t ys held h e f = record {
-    apart = y .words;
-    inside = λ p k. let z = pos-lt outer m n chunk hm hn (y .words) t p h k in omega (arith, y .enough, swap-volume outer m n chunk);
-    rows = rw f (le-trans (side-need m n .0) (y .room));
-    columns = rw f (le-trans (side-need m n .1) (y .room));
-    near = base-few t h;
-    close = le-trans (subst (λ (z : ℕ). chunk ≤ z) (mul-comm chunk outer) (le-mul-of-pos-right chunk (y .blocks))) around-few;
-  }
-
--- sides and counts of an adjacent swap that has a block
-pub record There (outer m n chunk : ℕ) : Type 0 where
-  pub m-pos : 0 < m
-  pub n-pos : 0 < n
-  pub m-few : m ≤ 4096
-  pub n-few : n ≤ 4096
-  pub outer-pos : 0 < outer
-  pub chunk-pos : 0 < chunk
-
-pub there : (outer m n chunk : ℕ) → noBlock outer m n chunk ≡ false → There outer m n chunk
-there outer m n chunk e = go (in-range (sides m n) (p .0))
-  where
-    p : (badLength (sides m n) ≡ false) × ((eqb outer 0 || eqb chunk 0) ≡ false)
-    p = either-false (badLength (sides m n)) (eqb outer 0 || eqb chunk 0) e
-
-    q : (eqb outer 0 ≡ false) × (eqb chunk 0 ≡ false)
-    q = either-false (eqb outer 0) (eqb chunk 0) (p .1)
-
-    go : InRange (sides m n) → There outer m n chunk
-    go (InRange.more pm fm (InRange.more pn fn InRange.none)) = record {
-      m-pos = pm;
-      n-pos = pn;
-      m-few = fm;
-      n-few = fn;
-      outer-pos = pos-of-ne-zero (eqb-false outer 0 (q .0));
-      chunk-pos = pos-of-ne-zero (eqb-false chunk 0 (q .1));
+pub block-lies : {outer m n chunk : ℕ} {xs scratch : List ℕ} → 0 < m → 0 < n → AllLie outer m n chunk xs scratch
+    → (t : ℕ) (ys held : List ℕ) → t < outer * chunk → length ys ≡ length xs → length held ≡ length scratch → Lies m n (swapBase m n chunk t) chunk ys held
+block-lies {outer} {m} {n} {chunk} hm hn y t ys held h e f =
+    let b = y .lie in
+    record {
+      apart = b .words;
+      inside = λ p k. let z = pos-lt outer m n chunk hm hn (b .words) t p h k in omega (arith, b .enough, swap-volume outer m n chunk);
+      rows = rw f (le-trans (side-need m n .0) (y .room));
+      columns = rw f (le-trans (side-need m n .1) (y .room));
+      near = base-few hm hn b t h;
+      close = le-trans (subst (λ (z : ℕ). chunk ≤ z) (mul-comm chunk outer) (le-mul-of-pos-right chunk (b .blocks))) (around-few hm hn b);
     }
 
--- an adjacent swap that is accepted: it has a block, and its blocks lie in the buffer
-pub swap-accepted : (outer m n chunk : ℕ) (buffer scratch : List ℕ) → firstOf (swapChecks outer m n chunk buffer scratch) ≡ 0
-    → There outer m n chunk × AllLie outer m n chunk buffer scratch
-swap-accepted outer m n chunk buffer scratch e =
-    let block = swapBlock outer m n chunk in
-    let room = check 4 (shortScratch (need (sides m n)) scratch) ∷ [] in
-    let last = exactChecks block buffer ++ room in
-    let p = passed (noBlock outer m n chunk) 1 (firstOf (check 2 (tooManyWords block) ∷ last)) (lit< tt) e in
-    let q = passed (tooManyWords block) 2 (firstOf last) (lit< tt) (p .1) in
-    let r = exact-passed block buffer room (q .1) in
-    let h = there outer m n chunk (p .0) in (
-      h,
-      record {
-        blocks = h .outer-pos;
-        words = h .chunk-pos;
-        few = rw (swap-volume outer m n chunk) at (ltb-false 1048576 (volume block) (q .0));
-        enough = omega (arith, r .0, swap-volume outer m n chunk);
-        room = enough-scratch (need (sides m n)) scratch [] (r .1) .0;
-      },
-    )
+-- the blocks of an adjacent swap that is accepted lie in the buffer
+pub all-lie : {outer m n chunk : ℕ} {xs scratch : List ℕ} → Swappable outer m n chunk xs scratch → AllLie outer m n chunk xs scratch
+all-lie {outer} {m} {n} {chunk} a =
+    let all : outer * (m * n * chunk) ≡ outer * chunk * (m * n) = ap (λ (z : ℕ). outer * z) (mul-comm (m * n) chunk) ∙ sym (mul-assoc outer chunk (m * n)) in
+    record {
+      lie = record { blocks = a .outer-pos; words = a .chunk-pos; few = omega (arith, a .few); enough = omega (arith, a .exact) };
+      room = a .room;
+    }

@@ -72,20 +72,18 @@ fn give_group(buf: &mut [u32], scratch: &[u32], l: Line, w: Walk, from: usize, p
     }
     let start = l.start;
     let stride = l.stride;
-    let size = w.size;
     let double = walk::twice(w.step, w.modulus);
     let mut p = place;
     let mut q = walk::step_on(place, w.step, w.modulus);
-    let mut t = 0;
-    while t + 1 < size {
-        buf[start + stride * (from + t)] = scratch[p];
-        buf[start + stride * (from + (t + 1))] = scratch[q];
+    let pairs = w.size >> 1;
+    for k in 0..pairs {
+        buf[start + stride * (from + 2 * k)] = scratch[p];
+        buf[start + stride * (from + (2 * k + 1))] = scratch[q];
         p = walk::step_on(p, double, w.modulus);
         q = walk::step_on(q, double, w.modulus);
-        t += 2;
     }
-    if t < size {
-        buf[start + stride * (from + t)] = scratch[p];
+    if 2 * pairs < w.size {
+        buf[start + stride * (from + 2 * pairs)] = scratch[p];
     }
 }
 

@@ -1,18 +1,16 @@
 // The flat turn by passes, in one call, one line a call or stages that a stop may cut, its reverse, and the adjacent swap of four axes.
-mod chunks;
 mod column;
 mod gcd;
 mod line;
-mod refusal;
 mod restart;
 mod scratch;
 mod source;
 mod swapping;
-mod table;
 mod turning;
 mod walk;
 
-ghost use Rattle.passes.specs.Promises.{TurnPromise, TurnBackPromise, SwapPromise, ClearPromise};
+ghost use Rattle.refusals.specs.Promise.{SwapPromise};
+ghost use Rattle.passes.specs.Promises.{TurnPromise, TurnBackPromise, ClearPromise};
 ghost use Rattle.passes.specs.Ticks.{LinesPromise, TickPromise};
 ghost use Rattle.passes.specs.Restart.{memory, ResumePromise};
 
@@ -136,9 +134,12 @@ pub fn swap(
 ) -> u32
     ensures { λ r. ⌜ SwapPromise outer m n chunk (now (buf .entry)) (now (scratch .entry)) r (now (buf .exit)) (now (scratch .exit)) ⌝ }
 {
-    let number = refusal::swap_number(buf, scratch, outer, m, n, chunk);
+    let number = checks::swap_number(buf, scratch, outer, m, n, chunk);
     if number != 0 {
         return number;
+    }
+    if swapping::along_cycles(m, n, chunk) {
+        return cycles::swap(buf, scratch, outer, m, n, chunk);
     }
     let s = turning::group_sides(m, n);
     swapping::turn_every(buf, scratch, s, outer, chunk);

@@ -110,16 +110,15 @@ fn gather_group(
     let double = walk::twice(w.step, w.modulus);
     let mut p = place;
     let mut q = walk::step_on(place, w.step, w.modulus);
-    let mut t = 0;
-    while t + 1 < size {
-        scratch[from + t] = buf[start + stride * p];
-        scratch[from + (t + 1)] = buf[start + stride * q];
+    let pairs = size >> 1;
+    for k in 0..pairs {
+        scratch[from + 2 * k] = buf[start + stride * p];
+        scratch[from + (2 * k + 1)] = buf[start + stride * q];
         p = walk::step_on(p, double, w.modulus);
         q = walk::step_on(q, double, w.modulus);
-        t += 2;
     }
-    if t < size {
-        scratch[from + t] = buf[start + stride * p];
+    if 2 * pairs < size {
+        scratch[from + 2 * pairs] = buf[start + stride * p];
     }
 }
 
@@ -213,20 +212,18 @@ fn scatter_group(buf: &[u32], scratch: &mut [u32], l: Line, w: Walk, from: usize
     }
     let start = l.start;
     let stride = l.stride;
-    let size = w.size;
     let double = walk::twice(w.step, w.modulus);
     let mut p = place;
     let mut q = walk::step_on(place, w.step, w.modulus);
-    let mut t = 0;
-    while t + 1 < size {
-        scratch[p] = buf[start + stride * (from + t)];
-        scratch[q] = buf[start + stride * (from + (t + 1))];
+    let pairs = w.size >> 1;
+    for k in 0..pairs {
+        scratch[p] = buf[start + stride * (from + 2 * k)];
+        scratch[q] = buf[start + stride * (from + (2 * k + 1))];
         p = walk::step_on(p, double, w.modulus);
         q = walk::step_on(q, double, w.modulus);
-        t += 2;
     }
-    if t < size {
-        scratch[p] = buf[start + stride * (from + t)];
+    if 2 * pairs < w.size {
+        scratch[p] = buf[start + stride * (from + 2 * pairs)];
     }
 }
 

@@ -1,8 +1,5 @@
-// Blocks of chunks turned where they lie, line by line: the chunks of a line move as chunks, along its table in scratch.
-use crate::chunks;
+// Blocks of chunks turned where they lie by recursion, and the choice of the way that an adjacent swap goes.
 use crate::line::GroupedSides;
-use crate::line::Line;
-use crate::table;
 use crate::turning;
 ghost use mathlib.Core.Bool.{true};
 ghost use mathlib.Core.Logic.{_↔_};
@@ -11,31 +8,10 @@ ghost use Prim.Native.Nat.{_<_, _≤_};
 ghost use Rattle.layout.specs.Layout.{Laid};
 ghost use Rattle.flat.specs.Turn.{sides};
 ghost use Rattle.refusals.specs.Scratch.{need};
-ghost use Rattle.passes.specs.ThroughScratch.{Grouped, Fits, AllLie, Past};
-ghost use Rattle.passes.specs.Chunks.{ChunksLie, ChunkLineMoved, PartLies, BlockLies, ChunksTurnedAt, Doubled, EndsInSquares};
-ghost use Rattle.passes.specs.Promises.{swapBlock, middle};
-
-// The chunks of a line move as its pass says.
-fn move_line(buf: &mut [u32], scratch: &mut [u32], s: GroupedSides, l: Line, chunk: usize)
-    requires { ⌜ Grouped s × Fits (s .m) (s .n) l (now buf) (now scratch) × ChunksLie (l .start) (l .stride) (l .count) chunk (now buf) ⌝ }
-    ensures { λ _. ⌜ ChunkLineMoved (s .m) (s .n) l chunk (now (buf .entry)) (now (buf .exit)) × Past (l .count) (now (scratch .entry)) (now (scratch .exit)) ⌝ }
-{
-    table::name(scratch, s, l);
-    chunks::settle(buf, scratch, l.start, l.stride, l.count, chunk);
-}
-
-// The block of chunks is turned by its passes.
-fn turn_lines(buf: &mut [u32], scratch: &mut [u32], s: GroupedSides, base: usize, chunk: usize)
-    requires { ⌜ Grouped s × BlockLies (s .m) (s .n) base chunk (now buf) (now scratch) ⌝ }
-    ensures { λ _. ⌜ ChunksTurnedAt (s .m) (s .n) base chunk (now (buf .entry)) (now (buf .exit)) × Past (need (sides (s .m) (s .n))) (now (scratch .entry)) (now (scratch .exit)) ⌝ }
-{
-    let first = turning::first_moved(s);
-    let count = turning::line_count(s);
-    for l in first..count {
-        let line = turning::line_of(s, base, chunk, l);
-        move_line(buf, scratch, s, line, chunk);
-    }
-}
+ghost use Rattle.refusals.specs.Calls.{swapBlock};
+ghost use Rattle.refusals.specs.Promise.{middle};
+ghost use Rattle.passes.specs.ThroughScratch.{Grouped, BlocksLie, AllLie, Past};
+ghost use Rattle.passes.specs.Chunks.{PartLies, ChunksTurnedAt, Doubled, ByHalves, AlongCycles};
 
 // The block of chunks is turned by recursion: its part of the buffer is lent.
 fn turn_part(buf: &mut [u32], s: GroupedSides, base: usize, chunk: usize)
@@ -46,41 +22,15 @@ fn turn_part(buf: &mut [u32], s: GroupedSides, base: usize, chunk: usize)
     halves::turn_chunks(&mut buf[base..end], s.m, s.n, chunk);
 }
 
-// The block of chunks is turned, by recursion or by its passes.
-fn turn_block(
-    buf: &mut [u32],
-    scratch: &mut [u32],
-    s: GroupedSides,
-    base: usize,
-    chunk: usize,
-    halving: bool,
-)
-    requires { ⌜ Grouped s × BlockLies (s .m) (s .n) base chunk (now buf) (now scratch) × (halving ≡ true → chunk ≤ 4096) ⌝ }
-    ensures { λ _. ⌜ ChunksTurnedAt (s .m) (s .n) base chunk (now (buf .entry)) (now (buf .exit)) × Past (need (sides (s .m) (s .n))) (now (scratch .entry)) (now (scratch .exit)) ⌝ }
-{
-    if halving {
-        turn_part(buf, s, base, chunk);
-        return;
-    }
-    turn_lines(buf, scratch, s, base, chunk);
-}
-
 // Every block of an adjacent swap is turned where it lies, one after the other.
-fn turn_blocks(
-    buf: &mut [u32],
-    scratch: &mut [u32],
-    s: GroupedSides,
-    outer: usize,
-    chunk: usize,
-    halving: bool,
-)
-    requires { ⌜ Grouped s × AllLie outer (s .m) (s .n) chunk (now buf) (now scratch) × (halving ≡ true → chunk ≤ 4096) ⌝ }
-    ensures { λ _. ⌜ Laid (swapBlock outer (s .m) (s .n) chunk) middle (now (buf .entry)) (now (buf .exit)) × Past (need (sides (s .m) (s .n))) (now (scratch .entry)) (now (scratch .exit)) ⌝ }
+fn turn_blocks(buf: &mut [u32], s: GroupedSides, outer: usize, chunk: usize)
+    requires { ⌜ Grouped s × BlocksLie outer (s .m) (s .n) chunk (now buf) × (chunk ≤ 4096) ⌝ }
+    ensures { λ _. ⌜ Laid (swapBlock outer (s .m) (s .n) chunk) middle (now (buf .entry)) (now (buf .exit)) ⌝ }
 {
     let words = s.m * s.n * chunk;
     let mut base = 0;
     for e in 0..outer {
-        turn_block(buf, scratch, s, base, chunk, halving);
+        turn_part(buf, s, base, chunk);
         base += words;
     }
 }
@@ -97,13 +47,19 @@ fn doubles(shorter: usize, longer: usize) -> bool
     side == longer
 }
 
-// Whether the recursion turns a block: where halving the longer side again and again ends in squares it is the faster way. Its chunks have
-// as many words as an axis may have, or fewer.
+// Whether the recursion turns a block: a square always, since it is exchanged across its diagonal; short chunks also where halving the longer side
+// again and again ends in squares. Chunks have as many words as an axis may have, or fewer.
 fn by_halves(m: usize, n: usize, chunk: usize) -> bool
     requires { ⌜ (0 < m) × (0 < n) × (m ≤ 4096) × (n ≤ 4096) ⌝ }
-    ensures { λ r. ⌜ (r ≡ true) ↔ ((chunk ≤ 4096) × EndsInSquares m n) ⌝ }
+    ensures { λ r. ⌜ (r ≡ true) ↔ ByHalves m n chunk ⌝ }
 {
     if 4096 < chunk {
+        return false;
+    }
+    if m == n {
+        return true;
+    }
+    if 15 < chunk {
         return false;
     }
     if m < n {
@@ -112,8 +68,25 @@ fn by_halves(m: usize, n: usize, chunk: usize) -> bool
     doubles(n, m)
 }
 
-// Every block of an adjacent swap is turned. Where a side is 1 no word moves. Where halving ends in squares the recursion turns each block.
-// Else short chunks go word by word, for an exchange of two chunks costs more than a few words lifted through scratch, and longer ones as chunks.
+// Whether chunks move along the cycles of the turn: not where nothing moves, nor where the recursion is faster, nor chunks so short that an exchange
+// of two costs more than their words lifted through scratch.
+pub(crate) fn along_cycles(m: usize, n: usize, chunk: usize) -> bool
+    requires { ⌜ (0 < m) × (0 < n) × (m ≤ 4096) × (n ≤ 4096) ⌝ }
+    ensures { λ r. ⌜ (r ≡ true) ↔ AlongCycles m n chunk ⌝ }
+{
+    if chunk < 7 {
+        return false;
+    }
+    if m == 1 {
+        return false;
+    }
+    if n == 1 {
+        return false;
+    }
+    !by_halves(m, n, chunk)
+}
+
+// Every block of an adjacent swap is turned by recursion or word by word. Where a side is 1 no word moves.
 pub(crate) fn turn_every(
     buf: &mut [u32],
     scratch: &mut [u32],
@@ -131,12 +104,8 @@ pub(crate) fn turn_every(
         return;
     }
     if by_halves(s.m, s.n, chunk) {
-        turn_blocks(buf, scratch, s, outer, chunk, true);
+        turn_blocks(buf, s, outer, chunk);
         return;
     }
-    if chunk < 7 {
-        turning::turn_all(buf, scratch, s, outer, chunk);
-        return;
-    }
-    turn_blocks(buf, scratch, s, outer, chunk, false);
+    turning::turn_all(buf, scratch, s, outer, chunk);
 }

@@ -14,7 +14,8 @@ ghost use Rattle.flat.specs.Passes.{columnGroup};
 ghost use Rattle.refusals.specs.Scratch.{need};
 ghost use Rattle.passes.specs.Lines.{lineCount, lineOf, skipped};
 ghost use Rattle.passes.specs.ThroughScratch.{Grouped, Lies, AllLie, Past, TurnedAt};
-ghost use Rattle.passes.specs.Promises.{swapBlock, middle};
+ghost use Rattle.refusals.specs.Calls.{swapBlock};
+ghost use Rattle.refusals.specs.Promise.{middle};
 
 // How many columns of pass 1 are left out: all n of them where the sides share no factor above 1.
 fn left_out(n: usize, c: usize) -> usize

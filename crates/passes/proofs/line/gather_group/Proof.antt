@@ -1,6 +1,7 @@
--- `gather_group` meets its contract: of many places, after t of them the two lanes of the walk stand t and t + 1 steps on, and t words are in scratch.
+-- `gather_group` meets its contract: of many places, after k pairs the two lanes of the walk stand 2k and 2k + 1 steps on, and 2k words are in scratch.
 use mathlib.Core.Path.{_≡_, sym}
-use Prim.Native.Nat.{ℕ, _+_, _*_, _-_, _%_, _<_, _≤_}
+use Prim.Native.Nat.{ℕ, _+_, _*_, _-_, _/_, _<_, _≤_}
+use native.Mathlib.Nat.{div-add-mod'}
 use native.Mathlib.Omega.{arith}
 use borrow.Author.Needs.{needs}
 use lib.ListN.{length, getD, length-set}
@@ -12,11 +13,11 @@ use Rattle.passes.proofs.line.gather_group.Statement.{statement}
 use Rattle.passes.proofs.line.gather_group.Tie as tie
 
 abbrev Inv-loop : tie.InvT-loop
-Inv-loop buf scratch₀ w from place size start stride double p₀ q₀ t₀ scratch p q t =
-    (t ≤ size) × Lanes w place t p q × Filled (λ j. from + j) (λ j. getD buf (start + stride * stands w place j) 0) t scratch₀ scratch
+Inv-loop buf scratch₀ w from place size start stride double p₀ q₀ pairs k₀ scratch p q k =
+    (k ≤ pairs) × Lanes w place (2 * k) p q × Filled (λ j. from + j) (λ j. getD buf (start + stride * stands w place j) 0) (2 * k) scratch₀ scratch
 
 abbrev μ-loop : tie.MeasureT-loop
-μ-loop buf scratch₀ w from place size start stride double p₀ q₀ t₀ scratch p q t = size - t
+μ-loop buf scratch₀ w from place size start stride double p₀ q₀ pairs k₀ scratch p q k = pairs - k
 
 -- the places that the answers look back to
 abbrev Start : Type 0
@@ -36,7 +37,10 @@ next-in : (x : Start) {t p q : ℕ} → Lanes (x .args .w) (x .args .place) t p 
 next-in x l = x .pre .inside _ (next-low _ _ (x .pre .low) l)
 
 loop-holds : tie.Need-loop-holds Inv-loop μ-loop
-loop-holds c = let x : Start = search in (omega arith, lanes-start _ _ (x .pre .low) (c .step-on .ensures), filled-none _ _ _)
+loop-holds c =
+    let x : Start = search in
+    let s : tie.After-step-on Inv-loop μ-loop = search in
+    (omega arith, lanes-start _ _ (x .pre .low) (s .step-on .ensures), filled-none _ _ _)
 
 loop-again : tie.Need-loop-again Inv-loop μ-loop
 loop-again c =
@@ -45,22 +49,23 @@ loop-again c =
     let s : tie.After-step-on2 Inv-loop μ-loop = search in
     let d : Twice = search in (
       omega arith,
-      lanes-more _ _ (x .pre .low) (l .loop .inv .1) _ (d .twice .ensures .1) (s .step-on2 .ensures) (c .step-on3 .ensures),
-      rw (l .loop .inv .1 .here, l .loop .inv .1 .next) (filled-pair {count = x .args .size} (λ i j _ _ e. omega arith) (omega arith) (omega arith) (omega arith) (l .loop .inv .2)),
+      lanes-more _ _ (x .pre .low) (l .loop .inv .1) _ (d .twice .ensures .1) (omega arith) (s .step-on2 .ensures) (c .step-on3 .ensures),
+      rw (l .loop .inv .1 .here, l .loop .inv .1 .next) (filled-pair {count = x .args .size} (λ i j _ _ e. omega arith) (omega arith) (omega (arith, div-add-mod' (x .args .size) 2)) (omega arith) (omega arith) (l .loop .inv .2)),
     )
 
 returns-2 : tie.Need-returns-2 Inv-loop μ-loop
 returns-2 c =
     let l : Loop = search in
     let x : Start = search in
-    let e : l .loop .t + 1 ≡ x .args .size = omega arith in
-    rw (sym e, l .loop .inv .1 .here) (filled-more {count = x .args .size} (λ i j _ _ e. omega arith) (omega arith) (omega arith) (l .loop .inv .2))
+    let half : x .args .size / 2 ≡ l .loop .k = omega (arith, div-add-mod' (x .args .size) 2) in
+    let e : 2 * l .loop .k + 1 ≡ x .args .size = omega (arith, div-add-mod' (x .args .size) 2) in
+    rw (half, sym e, l .loop .inv .1 .here) (filled-more {count = x .args .size} (λ i j _ _ e. omega arith) (omega arith) (omega arith) (l .loop .inv .2))
 
 returns-3 : tie.Need-returns-3 Inv-loop μ-loop
 returns-3 c =
     let l : Loop = search in
     let x : Start = search in
-    let e : l .loop .t ≡ x .args .size = omega arith in
+    let e : 2 * l .loop .k ≡ x .args .size = omega (arith, div-add-mod' (x .args .size) 2) in
     rw e at (l .loop .inv .2)
 
 pub gather-group-spec : {M : Type 1} → statement M
@@ -75,34 +80,37 @@ gather-group-spec =
     (λ c κs. let x : Start = search in x .pre .short)
     (λ c κs. let x : Start = search in (x .pre .low, x .pre .short))
     loop-holds
-    (search needs)
     (λ c. let l : Loop = search in omega (arith, here-in (search) (l .loop .inv .1)))
     (λ c. let l : Loop = search in omega (arith, here-in (search) (l .loop .inv .1)))
     (λ c. let l : Loop = search in omega (arith, here-in (search) (l .loop .inv .1)))
     (λ c. let l : Loop = search in here-in (search) (l .loop .inv .1))
-    (search needs)
-    (search needs)
-    (search needs)
+    (λ c. let x : Start = search in omega (arith, x .pre, div-add-mod' (x .args .size) 2))
+    (λ c. let x : Start = search in omega (arith, x .pre, div-add-mod' (x .args .size) 2))
+    (λ c. let x : Start = search in omega (arith, x .pre, div-add-mod' (x .args .size) 2))
+    (λ c. let l : Loop = search in let x : Start = search in omega (arith, x .pre, l .loop .inv .2 .same, div-add-mod' (x .args .size) 2))
     (λ c. let l : Loop = search in omega (arith, next-in (search) (l .loop .inv .1)))
     (λ c. let l : Loop = search in omega (arith, next-in (search) (l .loop .inv .1)))
     (λ c. let l : Loop = search in omega (arith, next-in (search) (l .loop .inv .1)))
     (λ c. let l : Loop = search in next-in (search) (l .loop .inv .1))
-    (search needs)
-    (search needs)
-    (search needs)
-    (λ c. let l : Loop = search in let x : Start = search in rw (length-set (l .loop .scratch) (x .args .from + l .loop .t)) (omega (arith, l .loop .inv .2 .same, x .pre .room, x .pre .on-line)))
+    (λ c. let x : Start = search in omega (arith, x .pre, div-add-mod' (x .args .size) 2))
+    (λ c. let x : Start = search in omega (arith, x .pre, div-add-mod' (x .args .size) 2))
+    (λ c. let x : Start = search in omega (arith, x .pre, div-add-mod' (x .args .size) 2))
+    (λ c. let x : Start = search in omega (arith, x .pre, div-add-mod' (x .args .size) 2))
+    (λ c. let l : Loop = search in let x : Start = search in rw (length-set (l .loop .scratch) (x .args .from + 2 * l .loop .k)) (omega (arith, x .pre, l .loop .inv .2 .same, div-add-mod' (x .args .size) 2)))
     (λ c κs. let l : Loop = search in let x : Start = search in let d : Twice = search in (here-low _ _ (x .pre .low) (l .loop .inv .1), d .twice .ensures .0))
     (λ c κs. let l : Loop = search in let x : Start = search in let d : Twice = search in (next-low _ _ (x .pre .low) (l .loop .inv .1), d .twice .ensures .0))
     (search needs)
     (search needs)
     loop-again
+    (λ c. let x : Start = search in omega (arith, x .pre, div-add-mod' (x .args .size) 2))
     (λ c. let l : Loop = search in omega (arith, here-in (search) (l .loop .inv .1)))
     (λ c. let l : Loop = search in omega (arith, here-in (search) (l .loop .inv .1)))
     (λ c. let l : Loop = search in omega (arith, here-in (search) (l .loop .inv .1)))
     (λ c. let l : Loop = search in here-in (search) (l .loop .inv .1))
-    (search needs)
-    (search needs)
-    (search needs)
+    (λ c. let x : Start = search in omega (arith, x .pre, div-add-mod' (x .args .size) 2))
+    (λ c. let x : Start = search in omega (arith, x .pre, div-add-mod' (x .args .size) 2))
+    (λ c. let x : Start = search in omega (arith, x .pre, div-add-mod' (x .args .size) 2))
+    (λ c. let l : Loop = search in let x : Start = search in omega (arith, x .pre, l .loop .inv .2 .same, div-add-mod' (x .args .size) 2))
     (λ c. returns-2 c .same)
     returns-2
     (λ c. returns-3 c .same)

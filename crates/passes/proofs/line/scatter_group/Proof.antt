@@ -1,6 +1,7 @@
--- `scatter_group` meets its contract: of many places, after t of them the two lanes of the walk stand t and t + 1 steps on, and t words are where it went.
+-- `scatter_group` meets its contract: of many places, after k pairs the two lanes of the walk stand 2k and 2k + 1 steps on, and 2k words are where it went.
 use mathlib.Core.Path.{_≡_, sym}
-use Prim.Native.Nat.{ℕ, _+_, _*_, _-_, _%_, _<_, _≤_}
+use Prim.Native.Nat.{ℕ, _+_, _*_, _-_, _/_, _<_, _≤_}
+use native.Mathlib.Nat.{div-add-mod'}
 use native.Mathlib.Omega.{arith}
 use borrow.Author.Needs.{needs}
 use lib.ListN.{length, getD, length-set}
@@ -13,11 +14,11 @@ use Rattle.passes.proofs.line.scatter_group.Statement.{statement}
 use Rattle.passes.proofs.line.scatter_group.Tie as tie
 
 abbrev Inv-loop : tie.InvT-loop
-Inv-loop buf scratch₀ w from place start stride size double p₀ q₀ t₀ scratch p q t =
-    (t ≤ w .size) × Lanes w place t p q × Filled (stands w place) (λ j. getD buf (start + stride * (from + j)) 0) t scratch₀ scratch
+Inv-loop buf scratch₀ w from place start stride double p₀ q₀ pairs k₀ scratch p q k =
+    (k ≤ pairs) × Lanes w place (2 * k) p q × Filled (stands w place) (λ j. getD buf (start + stride * (from + j)) 0) (2 * k) scratch₀ scratch
 
 abbrev μ-loop : tie.MeasureT-loop
-μ-loop buf scratch₀ w from place start stride size double p₀ q₀ t₀ scratch p q t = w .size - t
+μ-loop buf scratch₀ w from place start stride double p₀ q₀ pairs k₀ scratch p q k = pairs - k
 
 -- the places that the answers look back to
 abbrev Start : Type 0
@@ -43,7 +44,10 @@ next-room : (x : Start) {t p q : ℕ} → Lanes (x .args .w) (x .args .place) t 
 next-room x l = omega (arith, next-low _ _ (x .pre .0 .low) l, x .pre .0 .room)
 
 loop-holds : tie.Need-loop-holds Inv-loop μ-loop
-loop-holds c = let x : Start = search in (omega arith, lanes-start _ _ (x .pre .0 .low) (c .step-on .ensures), filled-none _ _ _)
+loop-holds c =
+    let x : Start = search in
+    let s : tie.After-step-on Inv-loop μ-loop = search in
+    (omega arith, lanes-start _ _ (x .pre .0 .low) (s .step-on .ensures), filled-none _ _ _)
 
 loop-again : tie.Need-loop-again Inv-loop μ-loop
 loop-again c =
@@ -52,22 +56,23 @@ loop-again c =
     let s : tie.After-step-on2 Inv-loop μ-loop = search in
     let d : Twice = search in (
       omega arith,
-      lanes-more _ _ (x .pre .0 .low) (l .loop .inv .1) _ (d .twice .ensures .1) (s .step-on2 .ensures) (c .step-on3 .ensures),
-      rw (l .loop .inv .1 .here, l .loop .inv .1 .next) (filled-pair (x .pre .1) (omega arith) (reached x _) (reached x _) (l .loop .inv .2)),
+      lanes-more _ _ (x .pre .0 .low) (l .loop .inv .1) _ (d .twice .ensures .1) (omega arith) (s .step-on2 .ensures) (c .step-on3 .ensures),
+      rw (l .loop .inv .1 .here, l .loop .inv .1 .next) (filled-pair (x .pre .1) (omega arith) (omega (arith, div-add-mod' (x .args .w .size) 2)) (reached x _) (reached x _) (l .loop .inv .2)),
     )
 
 returns-2 : tie.Need-returns-2 Inv-loop μ-loop
 returns-2 c =
     let l : Loop = search in
     let x : Start = search in
-    let e : l .loop .t + 1 ≡ x .args .w .size = omega arith in
-    rw (sym e, l .loop .inv .1 .here) (filled-more (x .pre .1) (omega arith) (reached x _) (l .loop .inv .2))
+    let half : x .args .w .size / 2 ≡ l .loop .k = omega (arith, div-add-mod' (x .args .w .size) 2) in
+    let e : 2 * l .loop .k + 1 ≡ x .args .w .size = omega (arith, div-add-mod' (x .args .w .size) 2) in
+    rw (half, sym e, l .loop .inv .1 .here) (filled-more (x .pre .1) (omega arith) (reached x _) (l .loop .inv .2))
 
 returns-3 : tie.Need-returns-3 Inv-loop μ-loop
 returns-3 c =
     let l : Loop = search in
     let x : Start = search in
-    let e : l .loop .t ≡ x .args .w .size = omega arith in
+    let e : 2 * l .loop .k ≡ x .args .w .size = omega (arith, div-add-mod' (x .args .w .size) 2) in
     rw e at (l .loop .inv .2)
 
 pub scatter-group-spec : {M : Type 1} → statement M
@@ -82,20 +87,21 @@ scatter-group-spec =
     (λ c κs. let x : Start = search in x .pre .0 .short)
     (λ c κs. let x : Start = search in (x .pre .0 .low, x .pre .0 .short))
     loop-holds
-    (search needs)
-    (search needs)
-    (λ c. let l : Loop = search in omega (arith, inside (search) (l .loop .t) (omega arith)))
-    (λ c. let l : Loop = search in omega (arith, inside (search) (l .loop .t) (omega arith)))
-    (λ c. let l : Loop = search in omega (arith, inside (search) (l .loop .t) (omega arith)))
-    (λ c. let l : Loop = search in inside (search) (l .loop .t) (omega arith))
+    (λ c. let x : Start = search in omega (arith, x .pre .0, div-add-mod' (x .args .w .size) 2))
+    (λ c. let x : Start = search in omega (arith, x .pre .0, div-add-mod' (x .args .w .size) 2))
+    (λ c. let l : Loop = search in let x : Start = search in omega (arith, inside (search) (2 * l .loop .k) (omega (arith, div-add-mod' (x .args .w .size) 2))))
+    (λ c. let l : Loop = search in let x : Start = search in omega (arith, inside (search) (2 * l .loop .k) (omega (arith, div-add-mod' (x .args .w .size) 2))))
+    (λ c. let l : Loop = search in let x : Start = search in omega (arith, inside (search) (2 * l .loop .k) (omega (arith, div-add-mod' (x .args .w .size) 2))))
+    (λ c. let l : Loop = search in let x : Start = search in inside (search) (2 * l .loop .k) (omega (arith, div-add-mod' (x .args .w .size) 2)))
     (λ c. let l : Loop = search in omega (arith, here-room (search) (l .loop .inv .1)))
     (λ c. let l : Loop = search in omega (arith, here-room (search) (l .loop .inv .1), l .loop .inv .2 .same))
-    (search needs)
-    (search needs)
-    (λ c. let l : Loop = search in omega (arith, inside (search) (l .loop .t + 1) (omega arith)))
-    (λ c. let l : Loop = search in omega (arith, inside (search) (l .loop .t + 1) (omega arith)))
-    (λ c. let l : Loop = search in omega (arith, inside (search) (l .loop .t + 1) (omega arith)))
-    (λ c. let l : Loop = search in inside (search) (l .loop .t + 1) (omega arith))
+    (λ c. let x : Start = search in omega (arith, x .pre .0, div-add-mod' (x .args .w .size) 2))
+    (λ c. let x : Start = search in omega (arith, x .pre .0, div-add-mod' (x .args .w .size) 2))
+    (λ c. let x : Start = search in omega (arith, x .pre .0, div-add-mod' (x .args .w .size) 2))
+    (λ c. let l : Loop = search in let x : Start = search in omega (arith, inside (search) (2 * l .loop .k + 1) (omega (arith, div-add-mod' (x .args .w .size) 2))))
+    (λ c. let l : Loop = search in let x : Start = search in omega (arith, inside (search) (2 * l .loop .k + 1) (omega (arith, div-add-mod' (x .args .w .size) 2))))
+    (λ c. let l : Loop = search in let x : Start = search in omega (arith, inside (search) (2 * l .loop .k + 1) (omega (arith, div-add-mod' (x .args .w .size) 2))))
+    (λ c. let l : Loop = search in let x : Start = search in inside (search) (2 * l .loop .k + 1) (omega (arith, div-add-mod' (x .args .w .size) 2)))
     (λ c. let l : Loop = search in omega (arith, next-room (search) (l .loop .inv .1)))
     (λ c. let l : Loop = search in rw (length-set (l .loop .scratch) (l .loop .p)) (omega (arith, next-room (search) (l .loop .inv .1), l .loop .inv .2 .same)))
     (λ c κs. let l : Loop = search in let x : Start = search in let d : Twice = search in (here-low _ _ (x .pre .0 .low) (l .loop .inv .1), d .twice .ensures .0))
@@ -103,11 +109,13 @@ scatter-group-spec =
     (search needs)
     (search needs)
     loop-again
-    (search needs)
-    (λ c. let l : Loop = search in omega (arith, inside (search) (l .loop .t) (omega arith)))
-    (λ c. let l : Loop = search in omega (arith, inside (search) (l .loop .t) (omega arith)))
-    (λ c. let l : Loop = search in omega (arith, inside (search) (l .loop .t) (omega arith)))
-    (λ c. let l : Loop = search in inside (search) (l .loop .t) (omega arith))
+    (λ c. let x : Start = search in omega (arith, x .pre .0, div-add-mod' (x .args .w .size) 2))
+    (λ c. let x : Start = search in omega (arith, x .pre .0, div-add-mod' (x .args .w .size) 2))
+    (λ c. let x : Start = search in omega (arith, x .pre .0, div-add-mod' (x .args .w .size) 2))
+    (λ c. let l : Loop = search in let x : Start = search in omega (arith, inside (search) (2 * (x .args .w .size / 2)) (omega (arith, div-add-mod' (x .args .w .size) 2))))
+    (λ c. let l : Loop = search in let x : Start = search in omega (arith, inside (search) (2 * (x .args .w .size / 2)) (omega (arith, div-add-mod' (x .args .w .size) 2))))
+    (λ c. let l : Loop = search in let x : Start = search in omega (arith, inside (search) (2 * (x .args .w .size / 2)) (omega (arith, div-add-mod' (x .args .w .size) 2))))
+    (λ c. let l : Loop = search in let x : Start = search in inside (search) (2 * (x .args .w .size / 2)) (omega (arith, div-add-mod' (x .args .w .size) 2)))
     (λ c. let l : Loop = search in omega (arith, here-room (search) (l .loop .inv .1)))
     (λ c. let l : Loop = search in omega (arith, here-room (search) (l .loop .inv .1), l .loop .inv .2 .same))
     (λ c. returns-2 c .same)

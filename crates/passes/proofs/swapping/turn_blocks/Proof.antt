@@ -1,28 +1,23 @@
 -- `turn_blocks` meets its contract: after e blocks of chunks those before e are turned, the others stand; all of them are the swap.
 use mathlib.Core.Path.{_≡_, sym, ap, _∙_}
 use Prim.Native.Nat.{ℕ, _+_, _*_, _-_, _≤_}
-use native.Mathlib.Nat.{mul-le-mul, le-refl, add-mul, one-mul, zero-mul}
+use native.Mathlib.Nat.{mul-le-mul, add-mul, one-mul, zero-mul}
 use native.Mathlib.Omega.{arith}
 use borrow.Author.Needs.{needs}
-use Rattle.refusals.specs.Scratch.{need}
-use Rattle.flat.specs.Turn.{sides}
-use Rattle.passes.specs.ThroughScratch.{Past}
 use Rattle.passes.proofs.Family.{Some, some-none}
-use Rattle.passes.proofs.Fits.{past-none, past-more}
 use Rattle.passes.proofs.Swaps.{posOf, toOf, fromOf, swapped, words-few}
 use Rattle.passes.proofs.ChunkBlocks.{block-lies, blocks-more}
 use Rattle.passes.proofs.swapping.turn_blocks.Statement.{statement}
 use Rattle.passes.proofs.swapping.turn_blocks.Tie as tie
 
 abbrev Inv-loop : tie.InvT-loop
-Inv-loop buf₀ scratch₀ s outer chunk halving words base₀ e₀ buf scratch base e =
+Inv-loop buf₀ s outer chunk words base₀ e₀ buf base e =
     (e ≤ outer)
     × (base ≡ e * (s .m * s .n * chunk))
     × Some (outer * chunk) (s .m * s .n) (posOf (s .m) (s .n) chunk) (toOf (s .m) (s .n)) fromOf (e * chunk) buf₀ buf
-    × Past (need (sides (s .m) (s .n))) scratch₀ scratch
 
 abbrev μ-loop : tie.MeasureT-loop
-μ-loop buf₀ scratch₀ s outer chunk halving words base₀ e₀ buf scratch base e = outer - e
+μ-loop buf₀ s outer chunk words base₀ e₀ buf base e = outer - e
 
 -- the places that the answers look back to
 abbrev Start : Type 0
@@ -42,30 +37,28 @@ loop-holds c =
       omega arith,
       sym (zero-mul (a .s .m * a .s .n * a .chunk)),
       rw (zero-mul (a .chunk)) (some-none _ _ _ _ _ (a .buf .now)),
-      past-none _ (a .scratch .now),
     )
 
-turn-block-requires : tie.Need-turn-block-requires Inv-loop μ-loop
-turn-block-requires c κs =
+turn-part-requires : tie.Need-turn-part-requires Inv-loop μ-loop
+turn-part-requires c κs =
     let l : Loop = search in
     let x : Start = search in
     let g = x .pre .0 in
     let v = l .loop .inv in
-    (g, rw (v .1) (block-lies (g .m-pos) (g .n-pos) (x .pre .1) (l .loop .e) (l .loop .buf) (l .loop .scratch) (omega arith) (v .2 .same) (v .3 .same)), x .pre .2)
+    (g, rw (v .1) (block-lies (x .pre .1) (l .loop .e) (l .loop .buf) (omega arith) (v .2 .same)), x .pre .2)
 
 -- where the block at hand lies
 near : (c : tie.In-loop Inv-loop μ-loop) → c .before .loop .base ≤ 1048576
 near c =
     let l : Loop = search in
     let x : Start = search in
-    let g = x .pre .0 in
     let v = l .loop .inv in
-    let y = block-lies (g .m-pos) (g .n-pos) (x .pre .1) (l .loop .e) (l .loop .buf) (l .loop .scratch) (omega arith) (v .2 .same) (v .3 .same) in
-    rw (v .1) (omega (arith, y .part))
+    let y = block-lies (x .pre .1) (l .loop .e) (l .loop .buf) (omega arith) (v .2 .same) in
+    rw (v .1) (omega (arith, y))
 
 loop-again : tie.Need-loop-again Inv-loop μ-loop
 loop-again c =
-    let n : tie.After-turn-block Inv-loop μ-loop = search in
+    let n : tie.After-turn-part Inv-loop μ-loop = search in
     let l : Loop = search in
     let x : Start = search in
     let g = x .pre .0 in
@@ -73,11 +66,10 @@ loop-again c =
     let a = x .args in
     let e = l .loop .e in
     let w = a .s .m * a .s .n * a .chunk in
-    let turned = rw (v .1) at (n .turn-block .ensures .0) in (
+    let turned = rw (v .1) at (n .turn-part .ensures) in (
       omega arith,
       ap (λ (z : ℕ). z + w) (v .1) ∙ omega (arith, add-mul e 1 w, one-mul w),
       blocks-more (a .outer) (a .s .m) (a .s .n) (a .chunk) (x .pre .1 .words) (g .n-pos) (omega arith) (v .2) turned,
-      past-more (le-refl _) (v .3) (n .turn-block .ensures .1),
     )
 
 returns : tie.Need-returns Inv-loop μ-loop
@@ -86,7 +78,7 @@ returns c =
     let x : Start = search in
     let e : l .loop .e ≡ x .args .outer = omega arith in
     let g = x .pre .0 in
-    (swapped (x .args .outer) (x .args .s .m) (x .args .s .n) (x .args .chunk) (g .m-pos) (g .n-pos) (x .pre .1 .words) _ _ (rw e at (l .loop .inv .2)), l .loop .inv .3)
+    swapped (x .args .outer) (x .args .s .m) (x .args .s .n) (x .args .chunk) (g .m-pos) (g .n-pos) (x .pre .1 .words) _ _ (rw e at (l .loop .inv .2))
 
 pub turn-blocks-spec : {M : Type 1} → statement M
 turn-blocks-spec =
@@ -97,11 +89,10 @@ turn-blocks-spec =
     (λ c. omega (arith, few (search)))
     (λ c. omega (arith, few (search)))
     loop-holds
-    turn-block-requires
+    turn-part-requires
     (λ c. omega (arith, near (search), few (search)))
     (search needs)
     (search needs)
     loop-again
     (λ c. let l : Loop = search in l .loop .inv .2 .same)
-    (λ c. let l : Loop = search in l .loop .inv .3 .same)
     returns)

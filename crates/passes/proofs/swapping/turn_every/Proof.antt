@@ -1,6 +1,4 @@
--- `turn_every` meets its contract: where a side is 1 nothing is to move, and each other way turns every block.
-use mathlib.Core.Bool.{true≢false}
-use mathlib.Core.Path.{sym}
+-- `turn_every` meets its contract: where a side is 1 nothing is to move, and either way turns every block.
 use borrow.Author.Needs.{needs}
 use Rattle.passes.proofs.Fits.{past-none}
 use Rattle.passes.proofs.Halved.{stands-still, one-row, one-column}
@@ -26,10 +24,7 @@ turn-blocks-requires c κs =
     let t : tie.Then3 = search in
     let h : tie.After-by-halves = search in
     let x : tie.Start = search in
-    (x .pre .0, x .pre .1, λ _. h .by-halves .ensures .0 (t .if3 .taken) .0)
-
-turn-blocks-requires-2 : tie.Need-turn-blocks-requires-2
-turn-blocks-requires-2 c κs = let x : tie.Start = search in (x .pre .0, x .pre .1, λ e. absurd (true≢false (sym e)))
+    (x .pre .0, x .pre .1 .lie, h .by-halves .ensures .0 (t .if3 .taken) .0)
 
 pub turn-every-spec : {M : Type 1} → statement M
 turn-every-spec =
@@ -40,13 +35,8 @@ turn-every-spec =
     (λ c κs. search needs)
     turn-blocks-requires
     (search needs)
-    (search needs)
-    (λ c. let t : tie.After-turn-blocks = search in t .turn-blocks .ensures)
+    (λ c. let t : tie.After-turn-blocks = search in (t .turn-blocks .ensures, past-none _ _))
     (λ c κs. search needs)
     (search needs)
     (search needs)
-    (λ c. let t : tie.After-turn-all = search in t .turn-all .ensures)
-    turn-blocks-requires-2
-    (search needs)
-    (search needs)
-    (λ c. let t : tie.After-turn-blocks2 = search in t .turn-blocks2 .ensures))
+    (λ c. let t : tie.After-turn-all = search in t .turn-all .ensures))

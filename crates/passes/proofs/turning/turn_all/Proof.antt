@@ -36,14 +36,14 @@ Loop = tie.At-loop Inv-loop μ-loop
 few : (x : Start) → let a = x .args in (a .s .m * a .s .n ≤ 16777216) × (a .s .m * a .s .n * a .chunk ≤ 1048576) × (a .outer * a .chunk ≤ 1048576)
 few x =
     let g = x .pre .0 in
-    (mul-le-mul (g .m-few) (g .n-few), words-few (g .m-pos) (g .n-pos) (x .pre .1), around-few (g .m-pos) (g .n-pos) (x .pre .1))
+    (mul-le-mul (g .m-few) (g .n-few), words-few (g .m-pos) (g .n-pos) (x .pre .1 .lie), around-few (g .m-pos) (g .n-pos) (x .pre .1 .lie))
 
 -- where the block at hand lies
 base : (c : tie.In-loop Inv-loop μ-loop) → c .before .loop .base + c .before .loop .word ≤ 1048576
 base c =
     let l : Loop = search in
     let x : Start = search in
-    rw (l .loop .inv .1, l .loop .inv .2) (base-few (x .pre .0 .m-pos) (x .pre .0 .n-pos) (x .pre .1) (l .loop .t) (omega arith))
+    rw (l .loop .inv .1, l .loop .inv .2) (base-few (x .pre .0 .m-pos) (x .pre .0 .n-pos) (x .pre .1 .lie) (l .loop .t) (omega arith))
 
 turn-at-requires : tie.Need-turn-at-requires Inv-loop μ-loop
 turn-at-requires c κs =
@@ -76,7 +76,7 @@ loop-again c =
       omega arith,
       v .1 ∙ ap (λ (z : ℕ). z * w) (next .0),
       ap (λ (z : ℕ). z + 1) (v .2) ∙ next .1,
-      block-more (x .args .outer) _ _ _ (g .m-pos) (g .n-pos) (x .pre .1 .words) (omega arith) (v .1) (v .2) (v .3) (n .turn-at .ensures .0),
+      block-more (x .args .outer) _ _ _ (g .m-pos) (g .n-pos) (x .pre .1 .lie .words) (omega arith) (v .1) (v .2) (v .3) (n .turn-at .ensures .0),
       past-more (le-refl _) (v .4) (n .turn-at .ensures .1),
     )
 
@@ -88,11 +88,11 @@ loop-again-2 c =
     let g = x .pre .0 in
     let v = l .loop .inv in
     let w = x .args .s .m * x .args .s .n * x .args .chunk in
-    let next = next-block (l .loop .t) (x .args .chunk) (x .pre .1 .words) (rw (v .2) at (c .if1 .left)) in (
+    let next = next-block (l .loop .t) (x .args .chunk) (x .pre .1 .lie .words) (rw (v .2) at (c .if1 .left)) in (
       omega arith,
       ap (λ (z : ℕ). z + w) (v .1) ∙ (omega (arith, add-mul (l .loop .t / x .args .chunk) 1 w, one-mul w)) ∙ ap (λ (z : ℕ). z * w) (next .0),
       next .1,
-      block-more (x .args .outer) _ _ _ (g .m-pos) (g .n-pos) (x .pre .1 .words) (omega arith) (v .1) (v .2) (v .3) (n .turn-at .ensures .0),
+      block-more (x .args .outer) _ _ _ (g .m-pos) (g .n-pos) (x .pre .1 .lie .words) (omega arith) (v .1) (v .2) (v .3) (n .turn-at .ensures .0),
       past-more (le-refl _) (v .4) (n .turn-at .ensures .1),
     )
 
@@ -102,7 +102,7 @@ returns c =
     let x : Start = search in
     let e : l .loop .t ≡ x .args .outer * x .args .chunk = omega arith in
     let g = x .pre .0 in
-    (swapped (x .args .outer) (x .args .s .m) (x .args .s .n) (x .args .chunk) (g .m-pos) (g .n-pos) (x .pre .1 .words) _ _ (rw e at (l .loop .inv .3)), l .loop .inv .4)
+    (swapped (x .args .outer) (x .args .s .m) (x .args .s .n) (x .args .chunk) (g .m-pos) (g .n-pos) (x .pre .1 .lie .words) _ _ (rw e at (l .loop .inv .3)), l .loop .inv .4)
 
 pub turn-all-spec : {M : Type 1} → statement M
 turn-all-spec =
