@@ -73,7 +73,7 @@ pub(crate) fn exchange(s: &mut [u32], p: usize, q: usize, w: usize)
     requires { ⌜ (p + w ≤ q) × (q + w ≤ length (now s)) ⌝ }
     ensures { λ _. ⌜ Exchanged w p q (now (s .entry)) (now (s .exit)) ⌝ }
 {
-    let whole = w / 16;
+    let whole = w >> 4;
     let done = 16 * whole;
     sixteens(s, p, q, whole);
     singles(s, p + done, q + done, w - done);

@@ -9,8 +9,8 @@ pub(crate) fn marked(marks: &[u32], place: usize) -> bool
     requires { ⌜ place < 32 * length (now marks) ⌝ }
     ensures { λ r. ⌜ r ≡ bitAt (now (marks .entry)) place ⌝ }
 {
-    let word = marks[place / 32];
-    (word >> (place % 32)) % 2 == 1
+    let word = marks[place >> 5];
+    (word >> (place & 31)) & 1 == 1
 }
 
 // Marks a place.
@@ -18,8 +18,8 @@ fn mark(marks: &mut [u32], place: usize)
     requires { ⌜ place < 32 * length (now marks) ⌝ }
     ensures { λ _. ⌜ MarkedToo place (now (marks .entry)) (now (marks .exit)) ⌝ }
 {
-    let at = place / 32;
-    marks[at] = marks[at] | (1 << (place % 32));
+    let at = place >> 5;
+    marks[at] = marks[at] | (1 << (place & 31));
 }
 
 // Marks where a place lies in the window that begins at place lo; nothing where it lies past it.

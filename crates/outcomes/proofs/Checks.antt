@@ -33,6 +33,8 @@ use Rattle.checks.proofs.block_number.Kinds as block-number-kinds
 use Rattle.checks.proofs.block_number.Reads as block-number
 use Rattle.checks.proofs.passes_number.Kinds as passes-number-kinds
 use Rattle.checks.proofs.passes_number.Reads as passes-number
+use Rattle.checks.proofs.swap_number.Kinds as swap-number-kinds
+use Rattle.checks.proofs.swap_number.Reads as swap-number
 use Rattle.checks.proofs.named_number.Kinds as named-number-kinds
 use Rattle.checks.proofs.named_number.Reads as named-number
 use Rattle.outcomes.proofs.Wrong.{other-number, other-list}
@@ -68,6 +70,10 @@ block-number-once κs a r r′ s s′ p q = p ∙ sym q
 pub passes-number-once : (κs : Lfts 3) (a : Dens κs passes-number-kinds.ps) (r r′ : ℕ) (s s′ : AtExit (endedOf 3 passes-number-kinds.ps passes-number-kinds.r) κs)
     → passes-number.Post κs a r s → passes-number.Post κs a r′ s′ → r ≡ r′
 passes-number-once κs a r r′ s s′ p q = p ∙ sym q
+
+pub swap-number-once : (κs : Lfts 2) (a : Dens κs swap-number-kinds.ps) (r r′ : ℕ) (s s′ : AtExit (endedOf 2 swap-number-kinds.ps swap-number-kinds.r) κs)
+    → swap-number.Post κs a r s → swap-number.Post κs a r′ s′ → r ≡ r′
+swap-number-once κs a r r′ s s′ p q = p ∙ sym q
 
 pub named-number-once : (κs : Lfts 0) (a : Dens κs named-number-kinds.ps) (r r′ : ℕ) (s s′ : AtExit (endedOf 0 named-number-kinds.ps named-number-kinds.r) κs)
     → named-number.Post κs a r s → named-number.Post κs a r′ s′ → r ≡ r′

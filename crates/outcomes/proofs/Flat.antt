@@ -4,6 +4,7 @@ use Prim.Native.Nat.{ℕ}
 use contract.Lifetimes.{Lfts}
 use denote.Triple.Clauses.{AtExit}
 use borrow.Fn.Kinds.{endedOf, Dens}
+use Rattle.refusals.proofs.Swap as low
 use Rattle.passes.proofs.OneOutcome as passes
 use Rattle.halves.proofs.OneOutcome as halves
 use Rattle.passes.proofs.turn.Kinds as turn-kinds
@@ -12,6 +13,8 @@ use Rattle.passes.proofs.turn_back.Kinds as turn-back-kinds
 use Rattle.passes.proofs.turn_back.Reads as turn-back
 use Rattle.passes.proofs.swap.Kinds as swap-kinds
 use Rattle.passes.proofs.swap.Reads as swap
+use Rattle.cycles.proofs.swap.Kinds as along-kinds
+use Rattle.cycles.proofs.swap.Reads as along
 use Rattle.passes.proofs.clear.Kinds as clear-kinds
 use Rattle.passes.proofs.clear.Reads as clear
 use Rattle.halves.proofs.turn.Kinds as halves-kinds
@@ -29,7 +32,11 @@ turn-back-once κs a r r′ s s′ p q = passes.turn-back-once p q
 
 pub swap-once : (κs : Lfts 2) (a : Dens κs swap-kinds.ps) (r r′ : ℕ) (s s′ : AtExit (endedOf 2 swap-kinds.ps swap-kinds.r) κs)
     → swap.Post κs a r s → swap.Post κs a r′ s′ → (r ≡ r′) × (s .0 .now ≡ s′ .0 .now) × (s .1 .0 .now ≡ s′ .1 .0 .now)
-swap-once κs a r r′ s s′ p q = passes.swap-once p q
+swap-once κs a r r′ s s′ p q = low.swap-once p q
+
+pub along-cycles-once : (κs : Lfts 2) (a : Dens κs along-kinds.ps) (r r′ : ℕ) (s s′ : AtExit (endedOf 2 along-kinds.ps along-kinds.r) κs)
+    → along.Post κs a r s → along.Post κs a r′ s′ → (r ≡ r′) × (s .0 .now ≡ s′ .0 .now) × (s .1 .0 .now ≡ s′ .1 .0 .now)
+along-cycles-once κs a r r′ s s′ p q = low.swap-once p q
 
 pub clear-once : (κs : Lfts 1) (a : Dens κs clear-kinds.ps) (r r′ : ℕ) (s s′ : AtExit (endedOf 1 clear-kinds.ps clear-kinds.r) κs)
     → clear.Post κs a r s → clear.Post κs a r′ s′ → (r ≡ r′) × (s .0 .now ≡ s′ .0 .now)
