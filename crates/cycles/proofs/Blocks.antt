@@ -1,106 +1,20 @@
--- Blocks of chunks turned one after the other. A part of the words that comes back turned is a block turned where it lies; after e blocks those
--- before e are turned and the others stand; all of them turned are the layout that exchanges the two axes in the middle.
-use mathlib.Core.Path.{_≡_, refl, sym, ap, _∙_}
-use mathlib.Core.List.{List, [], _∷_}
-use mathlib.Core.Logic.{inl, inr, ⊎-elim}
+-- The blocks of an adjacent swap that fill the words: each lies in them, and the part of the words that it is is filled by its chunks.
+use mathlib.Core.Path.{_≡_, refl, _∙_}
+use mathlib.Core.List.{List}
 use Prim.Native.Nat.{ℕ, _+_, _*_, _-_, _<_, _≤_}
-use native.Mathlib.Nat.{mul-comm, mul-le-mul-right, add-mul, one-mul}
+use native.Mathlib.Nat.{mul-le-mul-right, add-mul, one-mul}
 use native.Mathlib.Omega.{arith}
-use lib.Arith.{digits-lt}
-use lib.ListN.{length, getD}
-use borrow.Rule.Slice.PartMut.{midOf, putMid, mid-len, same-len-mid}
-use Rattle.lists.proofs.Decide.{eq-or-ne}
-use Rattle.layout.specs.Layout.{volume, Within, at, pick, Laid}
-use Rattle.layout.specs.Layout.Within.{none, more}
-use Rattle.refusals.specs.Calls.{swapBlock}
-use Rattle.refusals.specs.Promise.{middle}
-use Rattle.refusals.proofs.Swap.{swap-volume}
-use Rattle.halves.specs.LentSlices.{ChunksTurned}
-use Rattle.halves.proofs.Parts.{part-at, back-at, before-it, after-it}
-use Rattle.cycles.specs.Private.{Filling, Lies, TurnedAt, AllFill}
+use lib.ListN.{length}
+use borrow.Rule.Slice.PartMut.{midOf, mid-len}
+use Rattle.cycles.specs.Private.{Filling, Lies, AllFill}
 use Rattle.cycles.specs.declared.tours.Grid.{Grid}
 
--- a word of a chunk lies in the block, before the turn and after it
-in-block : (m n chunk i j u : ℕ) → i < m → j < n → u < chunk → ((i * n + j) * chunk + u < m * n * chunk) × ((j * m + i) * chunk + u < m * n * chunk)
-in-block m n chunk i j u hi hj hu =
-    (digits-lt (digits-lt {q = i} {r = j} hi hj) hu, rw (mul-comm m n) (digits-lt (digits-lt {q = j} {r = i} hj hi) hu))
-
--- the part of the words that the block is
-module _ {g : Grid} {base end : ℕ} {xs : List ℕ} (y : Lies g base xs) (is : end ≡ base + g .m * g .n * g .chunk) where
-  pub part-fills : Filling g (midOf base (end - base) xs)
-  part-fills = record {
-    follows = y .follows;
-    fill = mid-len base end xs (omega (arith, y .inside)) ∙ omega arith;
-    few = omega (arith, y .inside, y .few);
-  }
-
-  pub part-turned : {ys : List ℕ} → ChunksTurned (g .m) (g .n) (g .chunk) (midOf base (end - base) xs) ys
-      → TurnedAt (g .m) (g .n) (g .chunk) base xs (putMid base (end - base) xs ys)
-  part-turned {ys} t =
-      let size : end - base ≡ g .m * g .n * g .chunk = omega arith in
-      let room : base + (end - base) ≤ length xs = omega (arith, y .inside) in
-      let long : length ys ≡ end - base = t .same ∙ part-fills .fill ∙ sym size in
-      record {
-        same = same-len-mid base (end - base) xs ys (t .same);
-        placed = λ i j u hi hj hu.
-            let low = in-block (g .m) (g .n) (g .chunk) i j u hi hj hu in
-            back-at base (end - base) xs room ys long ((j * g .m + i) * g .chunk + u) (omega arith)
-            ∙ t .placed i j u hi hj hu
-            ∙ part-at base (end - base) xs room ((i * g .n + j) * g .chunk + u) (omega arith);
-        others = λ k o. ⊎-elim
-            (λ (h : k < base). before-it base (end - base) xs room ys long k h)
-            (λ (h : base + g .m * g .n * g .chunk ≤ k). after-it base (end - base) xs room ys long k (omega arith))
-            o;
-      }
-
--- the first e blocks are turned, the others stand
-pub record TurnedTo (m n chunk e : ℕ) (before after : List ℕ) : Type 0 where
-  pub same : length after ≡ length before
-  pub placed : (k i j u : ℕ) → k < e → i < m → j < n → u < chunk
-      → getD after (k * (m * n * chunk) + ((j * m + i) * chunk + u)) 0 ≡ getD before (k * (m * n * chunk) + ((i * n + j) * chunk + u)) 0
-  pub stands : (p : ℕ) → e * (m * n * chunk) ≤ p → getD after p 0 ≡ getD before p 0
-
--- a word of the swap, by its block, row, column and word: its place
-swap-at : (outer m n chunk e i j u : ℕ) → at (swapBlock outer m n chunk) (e ∷ i ∷ j ∷ u ∷ []) ≡ e * (m * n * chunk) + ((i * n + j) * chunk + u)
-unfolding at volume
-swap-at outer m n chunk e i j u = omega arith
-
-module _ {m n chunk : ℕ} where
-  pub turned-none : {xs : List ℕ} → TurnedTo m n chunk 0 xs xs
-  turned-none = record { same = refl; placed = λ k i j u h. absurd (omega arith); stands = λ p h. refl }
-
-  -- one block more
-  pub turned-more : {e : ℕ} {xs ys zs : List ℕ} → TurnedTo m n chunk e xs ys → TurnedAt m n chunk (e * (m * n * chunk)) ys zs → TurnedTo m n chunk (e + 1) xs zs
-  turned-more {e} {xs} {ys} {zs} a t = record {
-    same = t .same ∙ a .same;
-    placed = λ k i j u h hi hj hu.
-        let low = in-block m n chunk i j u hi hj hu in
-        ⊎-elim
-        (λ (z : k ≡ e). rw z (t .placed i j u hi hj hu ∙ a .stands (e * (m * n * chunk) + ((i * n + j) * chunk + u)) (omega arith)))
-        (λ (z : k ≡ e → ⊥).
-        let before : (k + 1) * (m * n * chunk) ≤ e * (m * n * chunk) = mul-le-mul-right (m * n * chunk) (omega arith) in
-        t .others (k * (m * n * chunk) + ((j * m + i) * chunk + u)) (inl (omega (arith, add-mul k 1 (m * n * chunk), one-mul (m * n * chunk))))
-        ∙ a .placed k i j u (omega arith) hi hj hu)
-        (eq-or-ne k e);
-    stands = λ p h.
-        t .others p (inr (omega (arith, add-mul e 1 (m * n * chunk), one-mul (m * n * chunk))))
-        ∙ a .stands p (omega (arith, add-mul e 1 (m * n * chunk), one-mul (m * n * chunk)));
-  }
-
-  pub all-turned : {outer : ℕ} {xs ys : List ℕ} → TurnedTo m n chunk outer xs ys → Laid (swapBlock outer m n chunk) middle xs ys
-  unfolding pick
-  all-turned {outer} {xs} {ys} a = record {
-    same = a .same;
-    placed = λ x w. placed x w;
-    tail = λ k h. a .stands k (omega (arith, swap-volume outer m n chunk));
-  }
-    where
-      placed : (x : List ℕ) → Within (swapBlock outer m n chunk) x
-          → getD ys (at (pick middle (swapBlock outer m n chunk)) (pick middle x)) 0 ≡ getD xs (at (swapBlock outer m n chunk) x) 0
-      placed x (more {x = e} he (more {x = i} hi (more {x = j} hj (more {x = u} hu none)))) =
-          ap (λ (z : ℕ). getD ys z 0) (swap-at outer n m chunk e j i u ∙ ap (λ (z : ℕ). e * (z * chunk) + ((j * m + i) * chunk + u)) (mul-comm n m))
-          ∙ a .placed e i j u he hi hj hu
-          ∙ ap (λ (z : ℕ). getD xs z 0) (sym (swap-at outer m n chunk e i j u))
+pub part-fills : {g : Grid} {base end : ℕ} {xs : List ℕ} → Lies g base xs → end ≡ base + g .m * g .n * g .chunk → Filling g (midOf base (end - base) xs)
+part-fills {g} {base} {end} {xs} y is = record {
+  follows = y .follows;
+  fill = mid-len base end xs (omega (arith, y .inside)) ∙ omega arith;
+  few = omega (arith, y .inside, y .few);
+}
 
 -- block e of the blocks that fill the words lies in them
 pub block-lies : {g : Grid} {outer : ℕ} {xs : List ℕ} → AllFill g outer xs → (e : ℕ) (ys : List ℕ) → length ys ≡ length xs → e < outer → Lies g (e * (g .m * g .n * g .chunk)) ys

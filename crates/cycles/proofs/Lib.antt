@@ -20,7 +20,7 @@ pub mod Marking
 pub mod Touring
 -- what is left to carry, place by place and window by window
 pub mod Windows
--- blocks of chunks turned where they lie, one after the other
+-- the blocks of a swap that fill the words
 pub mod Blocks
 -- what an accepted swap hands to its blocks, and what is back of scratch
 pub mod Swapping

@@ -109,12 +109,6 @@ pub record Lies (g : Grid) (base : ℕ) (xs : List ℕ) : Type 0 where
   pub inside : base + g .m * g .n * g .chunk ≤ length xs
   pub few : length xs ≤ 1048576
 
--- the block of chunks at base is turned: the chunk of place i·n + j stands at place j·m + i; every word outside the block stands
-pub record TurnedAt (m n chunk base : ℕ) (before after : List ℕ) : Type 0 where
-  pub same : length after ≡ length before
-  pub placed : (i j u : ℕ) → i < m → j < n → u < chunk → getD after (base + ((j * m + i) * chunk + u)) 0 ≡ getD before (base + ((i * n + j) * chunk + u)) 0
-  pub others : (k : ℕ) → (k < base) ⊎ (base + m * n * chunk ≤ k) → getD after k 0 ≡ getD before k 0
-
 -- so many blocks of chunks fill the words, one after the other
 pub record AllFill (g : Grid) (outer : ℕ) (xs : List ℕ) : Type 0 where
   pub follows : Follows g

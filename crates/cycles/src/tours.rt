@@ -11,8 +11,8 @@ ghost use Rattle.layout.specs.Layout.{Laid};
 ghost use Rattle.refusals.specs.Calls.{swapBlock};
 ghost use Rattle.refusals.specs.Promise.{middle};
 ghost use Rattle.orbits.specs.Cycles.{takes, isLeast};
-ghost use Rattle.halves.specs.LentSlices.{ChunksTurned};
-ghost use Rattle.cycles.specs.Private.{Follows, Filling, Known, Next, Led, Toured, Left, Lies, TurnedAt, AllFill};
+ghost use Rattle.halves.specs.LentSlices.{ChunksTurned, TurnedAt};
+ghost use Rattle.cycles.specs.Private.{Follows, Filling, Known, Next, Led, Toured, Left, Lies, AllFill};
 
 // A block of m rows and n columns of chunks, and the inverse of n that a step multiplies by.
 pub(crate) struct Grid {

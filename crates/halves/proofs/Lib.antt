@@ -26,3 +26,5 @@ pub mod Lent
 pub mod Undo
 -- any two outcomes that a promise allows coincide
 pub mod OneOutcome
+-- blocks of chunks turned where they lie, one after the other, are the adjacent swap
+pub mod Blocks

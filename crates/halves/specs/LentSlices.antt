@@ -2,7 +2,8 @@
 -- What the functions that work on a lent slice ask and leave. Assumes nothing: these are definitions.
 use mathlib.Core.Path.{_≡_}
 use mathlib.Core.List.{List, _++_}
-use Prim.Native.Nat.{ℕ, _+_, _*_, _<_}
+use mathlib.Core.Logic.{_⊎_}
+use Prim.Native.Nat.{ℕ, _+_, _*_, _<_, _≤_}
 use lib.ListN.{length, getD, set, take, drop}
 use Rattle.lists.specs.Tab.{tab}
 
@@ -30,6 +31,12 @@ pub record Block (m n w : ℕ) (xs : List ℕ) : Type 0 where
 pub record ChunksTurned (m n w : ℕ) (xs ys : List ℕ) : Type 0 where
   pub same : length ys ≡ length xs
   pub placed : (i j u : ℕ) → i < m → j < n → u < w → getD ys ((j * m + i) * w + u) 0 ≡ getD xs ((i * n + j) * w + u) 0
+
+-- the block of chunks at base is turned: the chunk of place i·n + j stands at place j·m + i; every word outside the block stands
+pub record TurnedAt (m n chunk base : ℕ) (before after : List ℕ) : Type 0 where
+  pub same : length after ≡ length before
+  pub placed : (i j u : ℕ) → i < m → j < n → u < chunk → getD after (base + ((j * m + i) * chunk + u)) 0 ≡ getD before (base + ((i * n + j) * chunk + u)) 0
+  pub others : (k : ℕ) → (k < base) ⊎ (base + m * n * chunk ≤ k) → getD after k 0 ≡ getD before k 0
 
 -- ys is xs, n by n, with the words of row i and of column i exchanged from beyond the diagonal up to place e; every other word stands
 pub record Crossed (n i e : ℕ) (xs ys : List ℕ) : Type 0 where

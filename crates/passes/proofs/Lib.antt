@@ -38,8 +38,6 @@ pub mod OneOutcome
 pub mod OneTick
 -- a turn and its reverse, either one first, restore every word
 pub mod ThereAndBack
--- blocks of chunks turned one after the other are the swap
-pub mod ChunkBlocks
 -- a block of chunks turned by recursion, and a swap that moves nothing
 pub mod Halved
 -- whether a longer side comes of a shorter one by doubling it

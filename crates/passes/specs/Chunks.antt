@@ -1,22 +1,16 @@
 -- These definitions serve only the contracts of private functions: a reader of the promises can pass over them.
--- Blocks of chunks turned where they lie, and which way they are turned. Assumes nothing: these are definitions.
+-- Blocks of chunks where they lie, and which way they are turned. Assumes nothing: these are definitions.
 use mathlib.Core.Path.{_≡_}
 use mathlib.Core.List.{List}
 use mathlib.Core.Logic.{_⊎_}
-use Prim.Native.Nat.{ℕ, _+_, _*_, _/_, _%_, _<_, _≤_}
-use lib.ListN.{length, getD}
-
--- the block of chunks has been turned where it lies: the chunk of offset i·n + j stands at offset j·m + i, every other word of the buffer stands
-pub record ChunksTurnedAt (m n base chunk : ℕ) (xs ys : List ℕ) : Type 0 where
-  pub same : length ys ≡ length xs
-  pub placed : (p u : ℕ) → p < m * n → u < chunk → getD ys (base + chunk * ((p % n) * m + p / n) + u) 0 ≡ getD xs (base + chunk * p + u) 0
-  pub others : (i : ℕ) → ((p u : ℕ) → p < m * n → u < chunk → base + chunk * p + u ≡ i → ⊥) → getD ys i 0 ≡ getD xs i 0
+use Prim.Native.Nat.{ℕ, _+_, _*_, _<_, _≤_}
+use lib.ListN.{length}
 
 -- an m by n block of chunks lies in the buffer at base
 pub record PartLies (m n base chunk : ℕ) (xs : List ℕ) : Type 0 where
   pub some : 0 < chunk
-  pub inside : base + chunk * (m * n) ≤ length xs
-  pub few : base + chunk * (m * n) ≤ 1048576
+  pub inside : base + m * n * chunk ≤ length xs
+  pub few : base + m * n * chunk ≤ 1048576
 
 -- the sides that come of a side by doubling it again and again
 pub data Doubled (side : ℕ) : ℕ → Type 0 where

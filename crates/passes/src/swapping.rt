@@ -10,13 +10,14 @@ ghost use Rattle.flat.specs.Turn.{sides};
 ghost use Rattle.refusals.specs.Scratch.{need};
 ghost use Rattle.refusals.specs.Calls.{swapBlock};
 ghost use Rattle.refusals.specs.Promise.{middle};
+ghost use Rattle.halves.specs.LentSlices.{TurnedAt};
 ghost use Rattle.passes.specs.ThroughScratch.{Grouped, BlocksLie, AllLie, Past};
-ghost use Rattle.passes.specs.Chunks.{PartLies, ChunksTurnedAt, Doubled, ByHalves, AlongCycles};
+ghost use Rattle.passes.specs.Chunks.{PartLies, Doubled, ByHalves, AlongCycles};
 
 // The block of chunks is turned by recursion: its part of the buffer is lent.
 fn turn_part(buf: &mut [u32], s: GroupedSides, base: usize, chunk: usize)
     requires { ⌜ Grouped s × PartLies (s .m) (s .n) base chunk (now buf) × (chunk ≤ 4096) ⌝ }
-    ensures { λ _. ⌜ ChunksTurnedAt (s .m) (s .n) base chunk (now (buf .entry)) (now (buf .exit)) ⌝ }
+    ensures { λ _. ⌜ TurnedAt (s .m) (s .n) chunk base (now (buf .entry)) (now (buf .exit)) ⌝ }
 {
     let end = base + s.m * s.n * chunk;
     halves::turn_chunks(&mut buf[base..end], s.m, s.n, chunk);

@@ -1,7 +1,8 @@
 -- `tours::block_at` meets its contract: the block's part is lent, and turned it is the block turned where it lies.
 use mathlib.Core.Path.{refl}
 use borrow.Author.Needs.{needs}
-use Rattle.cycles.proofs.Blocks.{part-fills, part-turned}
+use Rattle.halves.proofs.Blocks.{part-turned}
+use Rattle.cycles.proofs.Blocks.{part-fills}
 use Rattle.cycles.proofs.tours.block_at.Statement.{statement}
 use Rattle.cycles.proofs.tours.block_at.Tie as tie
 
@@ -12,7 +13,7 @@ returns : tie.Need-returns
 returns c =
     let t : tie.After-block = search in
     let s : tie.Start = search in
-    (part-turned (s .pre .0) refl (t .block .ensures .0), t .block .ensures .1)
+    (part-turned refl (s .pre .0 .inside) (t .block .ensures .0), t .block .ensures .1)
 
 pub block-at-spec : {M : Type 1} → statement M
 block-at-spec =

@@ -4,7 +4,8 @@ use Prim.Native.Nat.{ℕ, _-_, _≤_}
 use native.Mathlib.Omega.{arith}
 use borrow.Author.Needs.{needs}
 use lib.ListN.{length, replicate}
-use Rattle.cycles.proofs.Blocks.{TurnedTo, turned-none, turned-more, all-turned, block-lies, words-few}
+use Rattle.halves.proofs.Blocks.{TurnedTo, turned-none, turned-more, all-turned}
+use Rattle.cycles.proofs.Blocks.{block-lies, words-few}
 use Rattle.cycles.proofs.tours.blocks.Statement.{statement}
 use Rattle.cycles.proofs.tours.blocks.Tie as tie
 

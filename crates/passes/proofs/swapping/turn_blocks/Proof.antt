@@ -4,9 +4,9 @@ use Prim.Native.Nat.{ℕ, _+_, _*_, _-_, _≤_}
 use native.Mathlib.Nat.{mul-le-mul, add-mul, one-mul, zero-mul}
 use native.Mathlib.Omega.{arith}
 use borrow.Author.Needs.{needs}
-use Rattle.passes.proofs.Family.{Some, some-none}
-use Rattle.passes.proofs.Swaps.{posOf, toOf, fromOf, swapped, words-few}
-use Rattle.passes.proofs.ChunkBlocks.{block-lies, blocks-more}
+use Rattle.halves.proofs.Blocks.{TurnedTo, turned-none, turned-more, all-turned}
+use Rattle.passes.proofs.Swaps.{words-few}
+use Rattle.passes.proofs.Halved.{part-lies}
 use Rattle.passes.proofs.swapping.turn_blocks.Statement.{statement}
 use Rattle.passes.proofs.swapping.turn_blocks.Tie as tie
 
@@ -14,7 +14,7 @@ abbrev Inv-loop : tie.InvT-loop
 Inv-loop buf₀ s outer chunk words base₀ e₀ buf base e =
     (e ≤ outer)
     × (base ≡ e * (s .m * s .n * chunk))
-    × Some (outer * chunk) (s .m * s .n) (posOf (s .m) (s .n) chunk) (toOf (s .m) (s .n)) fromOf (e * chunk) buf₀ buf
+    × TurnedTo (s .m) (s .n) chunk e buf₀ buf
 
 abbrev μ-loop : tie.MeasureT-loop
 μ-loop buf₀ s outer chunk words base₀ e₀ buf base e = outer - e
@@ -36,7 +36,7 @@ loop-holds c =
     let a = x .args in (
       omega arith,
       sym (zero-mul (a .s .m * a .s .n * a .chunk)),
-      rw (zero-mul (a .chunk)) (some-none _ _ _ _ _ (a .buf .now)),
+      turned-none,
     )
 
 turn-part-requires : tie.Need-turn-part-requires Inv-loop μ-loop
@@ -45,7 +45,7 @@ turn-part-requires c κs =
     let x : Start = search in
     let g = x .pre .0 in
     let v = l .loop .inv in
-    (g, rw (v .1) (block-lies (x .pre .1) (l .loop .e) (l .loop .buf) (omega arith) (v .2 .same)), x .pre .2)
+    (g, rw (v .1) (part-lies (x .pre .1) (l .loop .e) (l .loop .buf) (omega arith) (v .2 .same)), x .pre .2)
 
 -- where the block at hand lies
 near : (c : tie.In-loop Inv-loop μ-loop) → c .before .loop .base ≤ 1048576
@@ -53,7 +53,7 @@ near c =
     let l : Loop = search in
     let x : Start = search in
     let v = l .loop .inv in
-    let y = block-lies (x .pre .1) (l .loop .e) (l .loop .buf) (omega arith) (v .2 .same) in
+    let y = part-lies (x .pre .1) (l .loop .e) (l .loop .buf) (omega arith) (v .2 .same) in
     rw (v .1) (omega (arith, y))
 
 loop-again : tie.Need-loop-again Inv-loop μ-loop
@@ -69,7 +69,7 @@ loop-again c =
     let turned = rw (v .1) at (n .turn-part .ensures) in (
       omega arith,
       ap (λ (z : ℕ). z + w) (v .1) ∙ omega (arith, add-mul e 1 w, one-mul w),
-      blocks-more (a .outer) (a .s .m) (a .s .n) (a .chunk) (x .pre .1 .words) (g .n-pos) (omega arith) (v .2) turned,
+      turned-more (v .2) turned,
     )
 
 returns : tie.Need-returns Inv-loop μ-loop
@@ -78,7 +78,7 @@ returns c =
     let x : Start = search in
     let e : l .loop .e ≡ x .args .outer = omega arith in
     let g = x .pre .0 in
-    swapped (x .args .outer) (x .args .s .m) (x .args .s .n) (x .args .chunk) (g .m-pos) (g .n-pos) (x .pre .1 .words) _ _ (rw e at (l .loop .inv .2))
+    all-turned (rw e at (l .loop .inv .2))
 
 pub turn-blocks-spec : {M : Type 1} → statement M
 turn-blocks-spec =
