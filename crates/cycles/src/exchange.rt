@@ -1,36 +1,36 @@
-// Two chunks exchanged: sixteen words at a time, which the machine moves at once, then those left word by word.
+// Two chunks exchanged: eight words at a time, which the machine moves at once, then those left word by word.
 ghost use mathlib.Core.Path.{_≡_};
 ghost use Prim.Native.Nat.{ℕ, _+_, _*_, _<_, _≤_};
 ghost use lib.ListN.{length, getD};
 ghost use Rattle.halves.specs.LentSlices.{swapped, Exchanged};
 ghost use Rattle.cycles.specs.Private.{Stored};
 
-// The sixteen words from a place on.
-fn held(s: &[u32], from: usize) -> [u32; 16]
-    requires { ⌜ from + 16 ≤ length (now s) ⌝ }
-    ensures { λ r. ⌜ ((p : ℕ) → p < 16 → getD r p 0 ≡ getD (now (s .entry)) (from + p) 0) ⌝ }
+// The eight words from a place on.
+fn held(s: &[u32], from: usize) -> [u32; 8]
+    requires { ⌜ from + 8 ≤ length (now s) ⌝ }
+    ensures { λ r. ⌜ ((p : ℕ) → p < 8 → getD r p 0 ≡ getD (now (s .entry)) (from + p) 0) ⌝ }
 {
-    let mut words = [0; 16];
-    for p in 0..16 {
+    let mut words = [0; 8];
+    for p in 0..8 {
         words[p] = s[from + p];
     }
     words
 }
 
-// Stores sixteen words from a place on.
-fn store(s: &mut [u32], to: usize, words: [u32; 16])
-    requires { ⌜ to + 16 ≤ length (now s) ⌝ }
-    ensures { λ _. ⌜ Stored to 16 words (now (s .entry)) (now (s .exit)) ⌝ }
+// Stores eight words from a place on.
+fn store(s: &mut [u32], to: usize, words: [u32; 8])
+    requires { ⌜ to + 8 ≤ length (now s) ⌝ }
+    ensures { λ _. ⌜ Stored to 8 words (now (s .entry)) (now (s .exit)) ⌝ }
 {
-    for p in 0..16 {
+    for p in 0..8 {
         s[to + p] = words[p];
     }
 }
 
-// Exchanges the sixteen words from p on with those from q on: all are read before any is stored.
-fn sixteen(s: &mut [u32], p: usize, q: usize)
-    requires { ⌜ (p + 16 ≤ q) × (q + 16 ≤ length (now s)) ⌝ }
-    ensures { λ _. ⌜ Exchanged 16 p q (now (s .entry)) (now (s .exit)) ⌝ }
+// Exchanges the eight words from p on with those from q on: all are read before any is stored.
+fn eight(s: &mut [u32], p: usize, q: usize)
+    requires { ⌜ (p + 8 ≤ q) × (q + 8 ≤ length (now s)) ⌝ }
+    ensures { λ _. ⌜ Exchanged 8 p q (now (s .entry)) (now (s .exit)) ⌝ }
 {
     let first = held(s, p);
     let second = held(s, q);
@@ -38,13 +38,13 @@ fn sixteen(s: &mut [u32], p: usize, q: usize)
     store(s, q, first);
 }
 
-// Exchanges so many sixteens.
-fn sixteens(s: &mut [u32], p: usize, q: usize, count: usize)
-    requires { ⌜ (p + 16 * count ≤ q) × (q + 16 * count ≤ length (now s)) ⌝ }
-    ensures { λ _. ⌜ Exchanged (16 * count) p q (now (s .entry)) (now (s .exit)) ⌝ }
+// Exchanges so many eights.
+fn eights(s: &mut [u32], p: usize, q: usize, count: usize)
+    requires { ⌜ (p + 8 * count ≤ q) × (q + 8 * count ≤ length (now s)) ⌝ }
+    ensures { λ _. ⌜ Exchanged (8 * count) p q (now (s .entry)) (now (s .exit)) ⌝ }
 {
     for e in 0..count {
-        sixteen(s, p + 16 * e, q + 16 * e);
+        eight(s, p + 8 * e, q + 8 * e);
     }
 }
 
@@ -73,8 +73,8 @@ pub(crate) fn exchange(s: &mut [u32], p: usize, q: usize, w: usize)
     requires { ⌜ (p + w ≤ q) × (q + w ≤ length (now s)) ⌝ }
     ensures { λ _. ⌜ Exchanged w p q (now (s .entry)) (now (s .exit)) ⌝ }
 {
-    let whole = w >> 4;
-    let done = 16 * whole;
-    sixteens(s, p, q, whole);
+    let whole = w >> 3;
+    let done = 8 * whole;
+    eights(s, p, q, whole);
     singles(s, p + done, q + done, w - done);
 }
