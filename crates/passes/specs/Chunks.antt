@@ -27,4 +27,4 @@ ByHalves m n chunk = (chunk ≤ 4096) × ((m ≡ n) ⊎ ((chunk ≤ 15) × EndsI
 
 -- the chunks move along the cycles of the turn: they are not short, there is something to move, and the recursion does not turn the block
 abbrev pub AlongCycles : ℕ → ℕ → ℕ → Type 0
-AlongCycles m n chunk = (7 ≤ chunk) × (m ≡ 1 → ⊥) × (n ≡ 1 → ⊥) × (ByHalves m n chunk → ⊥)
+AlongCycles m n chunk = (4 ≤ chunk) × (m ≡ 1 → ⊥) × (n ≡ 1 → ⊥) × (ByHalves m n chunk → ⊥)

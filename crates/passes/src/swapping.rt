@@ -75,7 +75,7 @@ pub(crate) fn along_cycles(m: usize, n: usize, chunk: usize) -> bool
     requires { ⌜ (0 < m) × (0 < n) × (m ≤ 4096) × (n ≤ 4096) ⌝ }
     ensures { λ r. ⌜ (r ≡ true) ↔ AlongCycles m n chunk ⌝ }
 {
-    if chunk < 7 {
+    if chunk < 4 {
         return false;
     }
     if m == 1 {
