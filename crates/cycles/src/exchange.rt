@@ -1,4 +1,4 @@
-// Two chunks exchanged: sixteen words at a time, which the machine moves at once, then those left word by word.
+// Two chunks exchanged: sixteen words at a time, which the machine moves at once, those left by fours, and the last ones word by word.
 ghost use mathlib.Core.Path.{_≡_};
 ghost use Prim.Native.Nat.{ℕ, _+_, _*_, _<_, _≤_};
 ghost use lib.ListN.{length, getD};
@@ -48,6 +48,49 @@ fn sixteens(s: &mut [u32], p: usize, q: usize, count: usize)
     }
 }
 
+// The four words from a place on.
+fn held_four(s: &[u32], from: usize) -> [u32; 4]
+    requires { ⌜ from + 4 ≤ length (now s) ⌝ }
+    ensures { λ r. ⌜ ((p : ℕ) → p < 4 → getD r p 0 ≡ getD (now (s .entry)) (from + p) 0) ⌝ }
+{
+    let mut words = [0; 4];
+    for p in 0..4 {
+        words[p] = s[from + p];
+    }
+    words
+}
+
+// Stores four words from a place on.
+fn store_four(s: &mut [u32], to: usize, words: [u32; 4])
+    requires { ⌜ to + 4 ≤ length (now s) ⌝ }
+    ensures { λ _. ⌜ Stored to 4 words (now (s .entry)) (now (s .exit)) ⌝ }
+{
+    for p in 0..4 {
+        s[to + p] = words[p];
+    }
+}
+
+// Exchanges the four words from p on with those from q on.
+fn four(s: &mut [u32], p: usize, q: usize)
+    requires { ⌜ (p + 4 ≤ q) × (q + 4 ≤ length (now s)) ⌝ }
+    ensures { λ _. ⌜ Exchanged 4 p q (now (s .entry)) (now (s .exit)) ⌝ }
+{
+    let first = held_four(s, p);
+    let second = held_four(s, q);
+    store_four(s, p, second);
+    store_four(s, q, first);
+}
+
+// Exchanges so many fours.
+fn fours(s: &mut [u32], p: usize, q: usize, count: usize)
+    requires { ⌜ (p + 4 * count ≤ q) × (q + 4 * count ≤ length (now s)) ⌝ }
+    ensures { λ _. ⌜ Exchanged (4 * count) p q (now (s .entry)) (now (s .exit)) ⌝ }
+{
+    for e in 0..count {
+        four(s, p + 4 * e, q + 4 * e);
+    }
+}
+
 // Exchanges the words at a and at b.
 fn trade(s: &mut [u32], a: usize, b: usize)
     requires { ⌜ (a < length (now s)) × (b < length (now s)) ⌝ }
@@ -68,6 +111,17 @@ fn singles(s: &mut [u32], p: usize, q: usize, w: usize)
     }
 }
 
+// Exchanges w words by fours, then those left word by word.
+fn by_fours(s: &mut [u32], p: usize, q: usize, w: usize)
+    requires { ⌜ (p + w ≤ q) × (q + w ≤ length (now s)) ⌝ }
+    ensures { λ _. ⌜ Exchanged w p q (now (s .entry)) (now (s .exit)) ⌝ }
+{
+    let whole = w / 4;
+    let done = 4 * whole;
+    fours(s, p, q, whole);
+    singles(s, p + done, q + done, w - done);
+}
+
 // Exchanges the w words from p on with the w words from q on.
 pub(crate) fn exchange(s: &mut [u32], p: usize, q: usize, w: usize)
     requires { ⌜ (p + w ≤ q) × (q + w ≤ length (now s)) ⌝ }
@@ -76,5 +130,5 @@ pub(crate) fn exchange(s: &mut [u32], p: usize, q: usize, w: usize)
     let whole = w / 16;
     let done = 16 * whole;
     sixteens(s, p, q, whole);
-    singles(s, p + done, q + done, w - done);
+    by_fours(s, p + done, q + done, w - done);
 }

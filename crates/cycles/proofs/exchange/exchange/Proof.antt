@@ -7,9 +7,9 @@ use Rattle.cycles.proofs.exchange.exchange.Tie as tie
 
 returns : tie.Need-returns
 returns c =
-    let b : tie.After-singles = search in
+    let b : tie.After-by-fours = search in
     let a : tie.After-sixteens = search in
-    exchanged-all (exchanged-on (omega arith) (a .sixteens .ensures) (b .singles .ensures)) (omega arith)
+    exchanged-all (exchanged-on (omega arith) (a .sixteens .ensures) (b .by-fours .ensures)) (omega arith)
 
 pub exchange-spec : {M : Type 1} → statement M
 exchange-spec =
