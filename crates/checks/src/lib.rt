@@ -1,4 +1,6 @@
 // The checks that every call on a block makes, on lengths and counts. Each function is total: no caller needs to have tested anything.
+pub mod swaps;
+
 ghost use mathlib.Core.Path.{_≡_};
 ghost use mathlib.Core.List.{[], _∷_};
 ghost use Prim.Native.Nat.{_*_, _≤_, max};
@@ -7,7 +9,7 @@ ghost use Rattle.layout.specs.Layout.{volume};
 ghost use Rattle.orders.specs.Needs.{exchanged, chainNeed};
 ghost use Rattle.refusals.specs.FirstOf.{check, firstOf};
 ghost use Rattle.refusals.specs.Conditions.{outOfRange, badLength, longest, firstPlace, noRelease};
-ghost use Rattle.refusals.specs.Calls.{sizeChecks, blockChecks, passesChecks, noBlock, swapChecks};
+ghost use Rattle.refusals.specs.Calls.{sizeChecks, blockChecks, passesChecks};
 ghost use Rattle.checks.specs.Words.{capped};
 
 // Whether no axis may have this length: 0 or above 4,096.
@@ -186,52 +188,6 @@ pub fn named_number(last: usize, release: usize, order: usize) -> u32
     }
     if last < order {
         return 7;
-    }
-    0
-}
-
-// Whether an adjacent swap has a side out of range, no block before the two axes or no word after them.
-fn no_block(outer: usize, m: usize, n: usize, chunk: usize) -> bool
-    ensures { λ r. ⌜ r ≡ noBlock outer m n chunk ⌝ }
-{
-    let lens = [m, n];
-    if bad_length(&lens) {
-        return true;
-    }
-    if outer == 0 {
-        return true;
-    }
-    chunk == 0
-}
-
-// The first of the checks 1, 2, 3, 13 and 4 of an adjacent swap that holds, else 0.
-pub fn swap_number(
-    buf: &[u32],
-    scratch: &[u32],
-    outer: usize,
-    m: usize,
-    n: usize,
-    chunk: usize,
-) -> u32
-    ensures { λ r. ⌜ r ≡ firstOf (swapChecks outer m n chunk (now (buf .entry)) (now (scratch .entry))) ⌝ }
-{
-    if no_block(outer, m, n, chunk) {
-        return 1;
-    }
-    let block = [outer, m, n, chunk];
-    let words = words_of(&block);
-    if 1048576 < words {
-        return 2;
-    }
-    if buf.len() < words {
-        return 3;
-    }
-    if words < buf.len() {
-        return 13;
-    }
-    let sides = [m, n];
-    if scratch.len() < longest_of(&sides) {
-        return 4;
     }
     0
 }

@@ -22,7 +22,7 @@ fn mark(marks: &mut [u32], place: usize)
     marks[at] = marks[at] | (1 << (place & 31));
 }
 
-// Marks where a place lies in the window that begins at place lo; nothing where it lies past it.
+// Marks a place that lies in the window which begins at place lo; a place past the window has no mark.
 pub(crate) fn note(marks: &mut [u32], lo: usize, at: usize)
     requires { ⌜ (lo ≤ at) × (length (now marks) ≤ 4096) ⌝ }
     ensures { λ _. ⌜ Noted (32 * length (now (marks .entry))) lo at (now (marks .entry)) (now (marks .exit)) ⌝ }

@@ -1,5 +1,5 @@
-// Chunks moved along the cycles of a turn, each exchanged once into its place, cycle by cycle from its least place on. Which places a cycle
-// has passed is marked, for a window of places at a time: as many as the marks have bits.
+// Chunks moved along the cycles of a turn, cycle by cycle, each chunk exchanged once into its place. Which places are done is marked, for a
+// window of places at a time: as many as the marks have bits.
 use crate::exchange;
 use crate::marks;
 use crate::steps;
@@ -36,8 +36,8 @@ fn least(marks: &mut [u32], g: Grid, lo: usize, x: usize) -> bool
     at == x
 }
 
-// Whether a tour begins at place x, the least of its cycle. In the first window the marks alone tell: a cycle that a tour of it has passed is
-// marked whole.
+// Whether a tour begins at place x: where it is the least of its cycle. In the first window the marks alone tell, for a tour marks all of its
+// cycle that lies there.
 fn leads(marks: &mut [u32], g: Grid, lo: usize, x: usize) -> bool
     requires { ⌜ Follows g × Next (g .m) (g .n) lo x (now marks) ⌝ }
     ensures { λ r. ⌜ Led (g .m) (g .n) lo x (now (marks .entry)) r (now (marks .exit)) ⌝ }

@@ -33,8 +33,8 @@ use Rattle.checks.proofs.block_number.Kinds as block-number-kinds
 use Rattle.checks.proofs.block_number.Reads as block-number
 use Rattle.checks.proofs.passes_number.Kinds as passes-number-kinds
 use Rattle.checks.proofs.passes_number.Reads as passes-number
-use Rattle.checks.proofs.swap_number.Kinds as swap-number-kinds
-use Rattle.checks.proofs.swap_number.Reads as swap-number
+use Rattle.checks.proofs.swaps.swap_number.Kinds as swap-number-kinds
+use Rattle.checks.proofs.swaps.swap_number.Reads as swap-number
 use Rattle.checks.proofs.named_number.Kinds as named-number-kinds
 use Rattle.checks.proofs.named_number.Reads as named-number
 use Rattle.outcomes.proofs.Wrong.{other-number, other-list}

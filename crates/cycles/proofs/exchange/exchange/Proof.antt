@@ -1,4 +1,4 @@
--- `exchange::exchange` meets its contract: the eights of the stretches, and then the words past them.
+-- `exchange::exchange` meets its contract: the sixteens of the stretches, and then the words past them.
 use native.Mathlib.Omega.{arith}
 use borrow.Author.Needs.{needs}
 use Rattle.cycles.proofs.Exchanging.{exchanged-on, exchanged-all}
@@ -7,9 +7,9 @@ use Rattle.cycles.proofs.exchange.exchange.Tie as tie
 
 returns : tie.Need-returns
 returns c =
-    let b : tie.After-singles = search in
-    let a : tie.After-eights = search in
-    exchanged-all (exchanged-on (omega arith) (a .eights .ensures) (b .singles .ensures)) (omega arith)
+    let b : tie.After-by-fours = search in
+    let a : tie.After-sixteens = search in
+    exchanged-all (exchanged-on (omega arith) (a .sixteens .ensures) (b .by-fours .ensures)) (omega arith)
 
 pub exchange-spec : {M : Type 1} → statement M
 exchange-spec =

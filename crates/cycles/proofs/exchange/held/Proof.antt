@@ -10,10 +10,10 @@ use Rattle.cycles.proofs.exchange.held.Statement.{statement}
 use Rattle.cycles.proofs.exchange.held.Tie as tie
 
 abbrev Inv-loop : tie.InvT-loop
-Inv-loop s from words₀ p₀ words p = (p ≤ 8) × (length words ≡ 8) × ((k : ℕ) → k < p → getD words k 0 ≡ getD s (from + k) 0)
+Inv-loop s from words₀ p₀ words p = (p ≤ 16) × (length words ≡ 16) × ((k : ℕ) → k < p → getD words k 0 ≡ getD s (from + k) 0)
 
 abbrev μ-loop : tie.MeasureT-loop
-μ-loop s from words₀ p₀ words p = 8 - p
+μ-loop s from words₀ p₀ words p = 16 - p
 
 abbrev Loop : Type 0
 Loop = tie.At-loop Inv-loop μ-loop

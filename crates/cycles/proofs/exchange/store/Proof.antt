@@ -8,10 +8,10 @@ use Rattle.cycles.proofs.exchange.store.Statement.{statement}
 use Rattle.cycles.proofs.exchange.store.Tie as tie
 
 abbrev Inv-loop : tie.InvT-loop
-Inv-loop s₀ to words p₀ s p = (p ≤ 8) × Stored to p words s₀ s
+Inv-loop s₀ to words p₀ s p = (p ≤ 16) × Stored to p words s₀ s
 
 abbrev μ-loop : tie.MeasureT-loop
-μ-loop s₀ to words p₀ s p = 8 - p
+μ-loop s₀ to words p₀ s p = 16 - p
 
 abbrev Loop : Type 0
 Loop = tie.At-loop Inv-loop μ-loop

@@ -1,15 +1,15 @@
--- `exchange::eights` meets its contract: after e turns of the loop the first e eights of the stretches stand exchanged.
+-- `exchange::fours` meets its contract: after e turns of the loop the first e fours of the stretches stand exchanged.
 use Prim.Native.Nat.{_*_, _-_, _≤_}
 use native.Mathlib.Omega.{arith}
 use borrow.Author.Needs.{needs}
 use Rattle.halves.specs.LentSlices.{Exchanged}
 use Rattle.halves.proofs.Exchanges.{exchanged-none}
 use Rattle.cycles.proofs.Exchanging.{exchanged-on, exchanged-all}
-use Rattle.cycles.proofs.exchange.eights.Statement.{statement}
-use Rattle.cycles.proofs.exchange.eights.Tie as tie
+use Rattle.cycles.proofs.exchange.fours.Statement.{statement}
+use Rattle.cycles.proofs.exchange.fours.Tie as tie
 
 abbrev Inv-loop : tie.InvT-loop
-Inv-loop s₀ p q count e₀ s e = (e ≤ count) × Exchanged (8 * e) p q s₀ s
+Inv-loop s₀ p q count e₀ s e = (e ≤ count) × Exchanged (4 * e) p q s₀ s
 
 abbrev μ-loop : tie.MeasureT-loop
 μ-loop s₀ p q count e₀ s e = count - e
@@ -22,15 +22,15 @@ Begin = tie.Start Inv-loop μ-loop
 
 loop-again : tie.Need-loop-again Inv-loop μ-loop
 loop-again c =
-    let t : tie.After-eight Inv-loop μ-loop = search in
+    let t : tie.After-four Inv-loop μ-loop = search in
     let l : Loop = search in
-    (omega arith, exchanged-all (exchanged-on (omega arith) (l .loop .inv .1) (t .eight .ensures)) (omega arith))
+    (omega arith, exchanged-all (exchanged-on (omega arith) (l .loop .inv .1) (t .four .ensures)) (omega arith))
 
 returns : tie.Need-returns Inv-loop μ-loop
 returns c = let l : Loop = search in exchanged-all (l .loop .inv .1) (omega arith)
 
-pub eights-spec : {M : Type 1} → statement M
-eights-spec =
+pub fours-spec : {M : Type 1} → statement M
+fours-spec =
     tie.close
     (tie.spec
     Inv-loop

@@ -1,4 +1,4 @@
--- `swap_number` meets its contract: each test is that of a check, and a cut count of words decides 2, 3 and 13 as the count itself does.
+-- `swaps::swap_number` meets its contract: each test is that of a check, and a cut count of words decides 2, 3 and 13 as the count itself does.
 use mathlib.Core.Path.{_≡_, sym, _∙_}
 use mathlib.Core.Bool.{true, false, cond}
 use mathlib.Core.List.{List, [], _∷_}
@@ -15,8 +15,8 @@ use Rattle.refusals.specs.Calls.{swapBlock, swapChecks, noBlock}
 use Rattle.refusals.specs.Scratch.{need}
 use Rattle.checks.specs.Words.{capped}
 use Rattle.checks.proofs.Capped.{cut}
-use Rattle.checks.proofs.swap_number.Statement.{statement}
-use Rattle.checks.proofs.swap_number.Tie as tie
+use Rattle.checks.proofs.swaps.swap_number.Statement.{statement}
+use Rattle.checks.proofs.swaps.swap_number.Tie as tie
 
 module _ (x : tie.Start) where
   abbrev checks : List Check

@@ -1,4 +1,4 @@
--- `no_block` meets its contract: each return answers the test that led there.
+-- `swaps::no_block` meets its contract: each return answers the test that led there.
 use mathlib.Core.Path.{_≡_}
 use mathlib.Core.Bool.{true, false}
 use mathlib.Core.List.{[], _∷_}
@@ -6,8 +6,8 @@ use borrow.Author.Needs.{needs}
 use borrow.Author.Tests.{eq-eqb, ne-eqb}
 use Rattle.lists.proofs.Via.{via}
 use Rattle.refusals.specs.Conditions.{badLength}
-use Rattle.checks.proofs.no_block.Statement.{statement}
-use Rattle.checks.proofs.no_block.Tie as tie
+use Rattle.checks.proofs.swaps.no_block.Statement.{statement}
+use Rattle.checks.proofs.swaps.no_block.Tie as tie
 
 returns : tie.Need-returns
 returns c =

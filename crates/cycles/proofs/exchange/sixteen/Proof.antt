@@ -1,8 +1,8 @@
--- `exchange::eight` meets its contract: what was read of each stretch is stored where the other was.
+-- `exchange::sixteen` meets its contract: what was read of each stretch is stored where the other was.
 use borrow.Author.Needs.{needs}
 use Rattle.cycles.proofs.Exchanging.{stores-exchange}
-use Rattle.cycles.proofs.exchange.eight.Statement.{statement}
-use Rattle.cycles.proofs.exchange.eight.Tie as tie
+use Rattle.cycles.proofs.exchange.sixteen.Statement.{statement}
+use Rattle.cycles.proofs.exchange.sixteen.Tie as tie
 
 returns : tie.Need-returns
 returns c =
@@ -13,8 +13,8 @@ returns c =
     let x : tie.Start = search in
     stores-exchange (x .pre .0) (one .held .ensures) (two .held2 .ensures) (a .store .ensures) (b .store2 .ensures)
 
-pub eight-spec : {M : Type 1} → statement M
-eight-spec =
+pub sixteen-spec : {M : Type 1} → statement M
+sixteen-spec =
     tie.close
     (tie.spec
     (λ c κs. search needs)

@@ -1,0 +1,53 @@
+-- `exchange::held_four` meets its contract. The loop's invariant: the places passed hold the words that were read.
+use mathlib.Core.Path.{_≡_, refl, _∙_}
+use Prim.Native.Nat.{ℕ, _+_, _-_, _<_, _≤_}
+use native.Mathlib.Omega.{arith}
+use lib.ListN.{length, getD, length-set}
+use lib.Seq.{getD-set-same, getD-set-other}
+use borrow.Author.Count.{below-none, below-more}
+use borrow.Author.Needs.{needs}
+use Rattle.cycles.proofs.exchange.held_four.Statement.{statement}
+use Rattle.cycles.proofs.exchange.held_four.Tie as tie
+
+abbrev Inv-loop : tie.InvT-loop
+Inv-loop s from words₀ p₀ words p = (p ≤ 4) × (length words ≡ 4) × ((k : ℕ) → k < p → getD words k 0 ≡ getD s (from + k) 0)
+
+abbrev μ-loop : tie.MeasureT-loop
+μ-loop s from words₀ p₀ words p = 4 - p
+
+abbrev Loop : Type 0
+Loop = tie.At-loop Inv-loop μ-loop
+
+loop-again : tie.Need-loop-again Inv-loop μ-loop
+loop-again c =
+    let l : Loop = search in
+    let w = l .loop .words in
+    let p = l .loop .p in
+    let b : tie.Start Inv-loop μ-loop = search in
+    let v = getD (b .args .s .now) (b .args .from + p) 0 in (
+      omega arith,
+      length-set w p v ∙ l .loop .inv .1,
+      below-more _ p
+          (λ k h. getD-set-other w p k v 0 (λ e. omega arith) ∙ l .loop .inv .2 k h)
+          (getD-set-same w p v 0 (omega (arith, l .loop .inv .1))),
+    )
+
+returns : tie.Need-returns Inv-loop μ-loop
+returns c = let l : Loop = search in λ k h. l .loop .inv .2 k (omega arith)
+
+pub held-four-spec : {M : Type 1} → statement M
+held-four-spec =
+    tie.close
+    (tie.spec
+    Inv-loop
+    μ-loop
+    (λ c. (omega arith, refl, below-none _))
+    (search needs)
+    (search needs)
+    (search needs)
+    (search needs)
+    (search needs)
+    (search needs)
+    (search needs)
+    loop-again
+    returns)
