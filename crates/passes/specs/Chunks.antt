@@ -21,9 +21,13 @@ pub data Doubled (side : ℕ) : ℕ → Type 0 where
 abbrev pub EndsInSquares : ℕ → ℕ → Type 0
 EndsInSquares m n = Doubled m n ⊎ Doubled n m
 
--- the recursion turns the block: a square, or short chunks where halving ends in squares
+-- the block is a square, or two of them side by side
+abbrev pub NearSquare : ℕ → ℕ → Type 0
+NearSquare m n = (m ≡ n) ⊎ (m ≡ n + n) ⊎ (n ≡ m + m)
+
+-- the recursion turns the block: a square or two, or short chunks where halving ends in squares
 abbrev pub ByHalves : ℕ → ℕ → ℕ → Type 0
-ByHalves m n chunk = (chunk ≤ 4096) × ((m ≡ n) ⊎ ((chunk ≤ 15) × EndsInSquares m n))
+ByHalves m n chunk = (chunk ≤ 4096) × (NearSquare m n ⊎ ((chunk ≤ 15) × EndsInSquares m n))
 
 -- the chunks move along the cycles of the turn: they are not short, there is something to move, and the recursion does not turn the block
 abbrev pub AlongCycles : ℕ → ℕ → ℕ → Type 0

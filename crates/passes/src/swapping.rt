@@ -12,7 +12,7 @@ ghost use Rattle.refusals.specs.Calls.{swapBlock};
 ghost use Rattle.refusals.specs.Promise.{middle};
 ghost use Rattle.halves.specs.LentSlices.{TurnedAt};
 ghost use Rattle.passes.specs.ThroughScratch.{Grouped, BlocksLie, AllLie, Past};
-ghost use Rattle.passes.specs.Chunks.{PartLies, Doubled, ByHalves, AlongCycles};
+ghost use Rattle.passes.specs.Chunks.{PartLies, Doubled, NearSquare, ByHalves, AlongCycles};
 
 // The block of chunks is turned by recursion: its part of the buffer is lent.
 fn turn_part(buf: &mut [u32], s: GroupedSides, base: usize, chunk: usize)
@@ -48,8 +48,22 @@ fn doubles(shorter: usize, longer: usize) -> bool
     side == longer
 }
 
-// Whether the recursion turns a block: a square always, since it is exchanged across its diagonal; short chunks also where halving the longer side
-// again and again ends in squares. Chunks have as many words as an axis may have, or fewer.
+// Whether a block is a square or two of them side by side.
+fn near_square(m: usize, n: usize) -> bool
+    requires { ⌜ (m ≤ 4096) × (n ≤ 4096) ⌝ }
+    ensures { λ r. ⌜ (r ≡ true) ↔ NearSquare m n ⌝ }
+{
+    if m == n {
+        return true;
+    }
+    if m == n + n {
+        return true;
+    }
+    n == m + m
+}
+
+// Whether the recursion turns a block: a square always, since it is exchanged across its diagonal, and two of them; short chunks also where halving the
+// longer side again and again ends in squares. Chunks have as many words as an axis may have, or fewer.
 fn by_halves(m: usize, n: usize, chunk: usize) -> bool
     requires { ⌜ (0 < m) × (0 < n) × (m ≤ 4096) × (n ≤ 4096) ⌝ }
     ensures { λ r. ⌜ (r ≡ true) ↔ ByHalves m n chunk ⌝ }
@@ -57,7 +71,7 @@ fn by_halves(m: usize, n: usize, chunk: usize) -> bool
     if 4096 < chunk {
         return false;
     }
-    if m == n {
+    if near_square(m, n) {
         return true;
     }
     if 15 < chunk {
