@@ -1,10 +1,10 @@
 -- A block of chunks turned by recursion on its part of the buffer is turned where it lies, every word outside it stands. And where a side is 1
 -- the words of an adjacent swap stand as they are to stand.
 use mathlib.Core.Path.{_≡_, refl, sym, ap, _∙_}
-use mathlib.Core.List.{List, [], _∷_}
+use mathlib.Core.List.{List}
 use Prim.Native.Nat.{ℕ, _+_, _*_, _-_, _<_, _≤_}
 use native.Mathlib.Omega.{arith}
-use native.Mathlib.Nat.{mul-comm, mul-assoc, mul-le-mul-right, add-mul, one-mul, le-mul-of-pos-right}
+use native.Mathlib.Nat.{mul-comm, mul-assoc, mul-le-mul-right, add-mul, one-mul}
 use lib.ListN.{length, getD}
 use borrow.Rule.Slice.PartMut.{midOf, putMid, mid-len}
 use Rattle.layout.specs.Layout.{Laid, Within, at, pick}

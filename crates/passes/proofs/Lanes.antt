@@ -1,9 +1,8 @@
 -- Two lanes of a walk: one stands where the walk is after t steps, the other a step further, and both go on by two steps at once. So the loops
 -- over a group do not wait for one place to know the next.
 use mathlib.Core.Path.{_≡_, sym, ap, _∙_}
-use Prim.Native.Nat.{ℕ, _+_, _%_, _<_, _≤_}
+use Prim.Native.Nat.{ℕ, _+_, _%_, _<_}
 use native.Mathlib.Omega.{arith}
-use native.Mathlib.Nat.{zero-add}
 use Rattle.walks.proofs.Steps.{walk-start, walk-more, walk-two, walk-lt}
 use Rattle.passes.specs.ThroughScratch.{stands}
 use Rattle.passes.specs.declared.walk.Walk.{Walk}

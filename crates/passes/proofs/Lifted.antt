@@ -91,15 +91,8 @@ received-moved {m} {n} l d of-pass within {xs} {ys} h = ⊎-elim in-two in-other
         (not-two m n l (λ (f g : ℕ → ℕ). Moved (l .count) (posOn l) (λ k. k) g xs ys → Moved (l .count) (posOn l) (λ k. k) f xs ys) e (λ f d. d) h)
 
 module _ {m n : ℕ} {l : Line} {xs scratch : List ℕ} (f : Fits m n l xs scratch) where
-  -- a word goes to a place of the line, and comes from one
-  pub to-within : (k : ℕ) → k < l .count → toPlace m n l k < l .count
-  to-within k h = go (eqb (l .pass) 2)
-    where
-      go : (t : Bool) → cond t (paired m n (l .pass) (l .index) k) k < l .count
-      go true = f .within k h
-      go false = h
-
-  pub from-within : (k : ℕ) → k < l .count → fromPlace m n l k < l .count
+  -- a word comes from a place of the line
+  from-within : (k : ℕ) → k < l .count → fromPlace m n l k < l .count
   from-within k h = go (eqb (l .pass) 2)
     where
       go : (t : Bool) → cond t k (paired m n (l .pass) (l .index) k) < l .count

@@ -1,8 +1,6 @@
 -- `near_square` meets its contract: the three cases, one after the other.
-use mathlib.Core.Bool.{true≢false}
 use mathlib.Core.Logic.{inl, inr, ⊎-elim}
-use mathlib.Core.Path.{refl, sym}
-use native.Mathlib.Omega.{arith}
+use mathlib.Core.Path.{refl}
 use borrow.Author.Needs.{needs}
 use borrow.Author.Tests.{eqb-true, eq-eqb}
 use Rattle.passes.proofs.swapping.near_square.Statement.{statement}

@@ -1,5 +1,4 @@
 -- `twice` meets its contract: the sum of two steps, less the modulus where it reaches it, brings a place as far as the steps one after the other.
-use Prim.Native.Nat.{_≤_}
 use native.Mathlib.Omega.{arith}
 use borrow.Author.Needs.{needs}
 use Rattle.walks.proofs.Steps.{twice-short, twice-past}
