@@ -17,8 +17,8 @@
  *   zib_turn            2.8        3.4          3.7            22             2.4        three passes over the block, two where the sides
  *   zib_turn_back       2.6        3.5          3.7            22             2.8        share no factor: there they are the faster way
  *   zib_turn_halves     6.5        1.0          0.7            4.5            18         faster where halving the longer side ends in squares
- * Swaps choose between the two themselves. A chain costs its swaps, one after the other: 0.04 to 1.2 where the axes behind the two have 16 words or more
- * together, 0.4 to 4 where single words move.
+ * Swaps choose between the two themselves, or move along the cycles of the turn. A chain costs its swaps, one after the other: 0.04 to 1.2 where the
+ * axes behind the two have 16 words or more together, 0.4 to 4 where single words move.
  *
  * Sides and lengths are 1 to 4,096; a block has at most 1,048,576 words, from the first word of the buffer on.
  * A buffer may not be longer than the block: turns, chains, requests, tiles and running cycles take one of exactly the block's size. Where a call says

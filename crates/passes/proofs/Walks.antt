@@ -14,7 +14,7 @@ use Rattle.walks.specs.Walk.{walk, starts}
 use Rattle.walks.proofs.Steps.{starts-next, starts-lt}
 use Rattle.walks.proofs.Passes.{row1-walk, row1-start, column2-walk, column2-alone, row3-walk, row3-alone}
 use Rattle.passes.specs.Lines.{paired, posOn}
-use Rattle.passes.specs.ThroughScratch.{Grouped, OfPass, Inside, Apart, GroupFits, Filled, Lifted, startOf, stands, Follows, alone}
+use Rattle.passes.specs.ThroughScratch.{Grouped, OfPass, Inside, Apart, GroupFits, Filled, Lifted, startOf, stands, Follows, alone, isStraight}
 use Rattle.passes.proofs.Filled.{filled-two, all-lifted}
 use Rattle.passes.specs.declared.line.GroupedSides.{GroupedSides}
 use Rattle.passes.specs.declared.line.Line.{Line}
@@ -109,7 +109,7 @@ both true u e = (refl, e)
 both false u e = absurd (true≢false (sym e))
 
 -- a straight walk is two runs: up to its modulus, and from 0 on
-module _ {w : Walk} (l : Line) {f : ℕ → ℕ} (y : Follows w (l .count) f) (straight : (eqb (w .step) 1 && eqb (w .groups) 1) ≡ true) where
+module _ {w : Walk} (l : Line) {f : ℕ → ℕ} (y : Follows w (l .count) f) (straight : isStraight w ≡ true) where
   one-by-one : (t : ℕ) → t < l .count → f t ≡ (w .first + t) % w .modulus
   unfolding walk starts
   one-by-one t h =

@@ -1,6 +1,6 @@
 -- These definitions serve only the contracts of private functions: a reader of the promises can pass over them.
 -- What the functions that move lines and blocks through scratch ask and leave. Assumes nothing: these are definitions.
-use mathlib.Core.Bool.{cond}
+use mathlib.Core.Bool.{Bool, cond, _&&_}
 use mathlib.Core.Path.{_≡_}
 use mathlib.Core.List.{List}
 use Prim.Native.Nat.{ℕ, _+_, _*_, _/_, _%_, _<_, _≤_}
@@ -61,6 +61,10 @@ stands w place t = walk place (w .step) (w .modulus) t
 -- a walk in one group, over as many places as its modulus
 abbrev pub alone : ℕ → ℕ → ℕ → Walk
 alone first step modulus = record { first = first; step = step; modulus = modulus; size = modulus; groups = 1; shift = 0; restart = 0 }
+
+-- a walk goes through its places one by one in one group
+abbrev pub isStraight : Walk → Bool
+isStraight w = eqb (w .step) 1 && eqb (w .groups) 1
 
 -- a walk goes over `count` places and pairs each, place t of group g, as f does
 pub record Follows (w : Walk) (count : ℕ) (f : ℕ → ℕ) : Type 0 where

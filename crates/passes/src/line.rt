@@ -3,14 +3,13 @@ use crate::column;
 use crate::source;
 use crate::walk;
 use crate::walk::Walk;
-ghost use mathlib.Core.Bool.{true, _&&_};
+ghost use mathlib.Core.Bool.{true};
 ghost use mathlib.Core.Path.{_≡_};
 ghost use Prim.Native.Nat.{ℕ, _+_, _*_, _<_, _≤_};
-ghost use lib.Dec.{eqb};
 ghost use lib.ListN.{length, getD};
 ghost use Rattle.flat.specs.Passes.{source2};
 ghost use Rattle.passes.specs.Lines.{paired, received, posOn, toPlace, fromPlace, LineMoved};
-ghost use Rattle.passes.specs.ThroughScratch.{Grouped, Follows, Inside, Apart, GroupFits, stands, Fits, Filled, Lifted, Past};
+ghost use Rattle.passes.specs.ThroughScratch.{Grouped, Follows, Inside, Apart, GroupFits, stands, isStraight, Fits, Filled, Lifted, Past};
 
 // The sides m and n, their greatest common divisor c and their quotients a and b by it, what each side leaves modulo the other, the
 // inverse of a modulo b, and the columns of pass 1 that are left out.
@@ -229,7 +228,7 @@ fn scatter_group(buf: &[u32], scratch: &mut [u32], l: Line, w: Walk, from: usize
 
 // Each word of the line goes to the place of scratch that its own is paired with, by a walk that is two runs.
 pub(crate) fn scatter_runs(buf: &[u32], scratch: &mut [u32], s: GroupedSides, l: Line, w: Walk)
-    requires { ⌜ Follows w (l .count) (paired (s .m) (s .n) (l .pass) (l .index)) × Fits (s .m) (s .n) l (now buf) (now scratch) × ((eqb (w .step) 1 && eqb (w .groups) 1) ≡ true) ⌝ }
+    requires { ⌜ Follows w (l .count) (paired (s .m) (s .n) (l .pass) (l .index)) × Fits (s .m) (s .n) l (now buf) (now scratch) × (isStraight w ≡ true) ⌝ }
     ensures { λ _. ⌜ Lifted l (paired (s .m) (s .n) (l .pass) (l .index)) (λ k. k) (now (buf .entry)) (now (scratch .entry)) (now (scratch .exit)) ⌝ }
 {
     let rest = w.modulus - w.first;

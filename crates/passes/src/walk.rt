@@ -1,13 +1,13 @@
 // Walks: the places that a pass pairs with those of a line, group by group, with no division for a word or a group.
 use crate::line::GroupedSides;
 use crate::line::Line;
-ghost use mathlib.Core.Bool.{cond, _&&_};
+ghost use mathlib.Core.Bool.{cond};
 ghost use mathlib.Core.Path.{_≡_};
 ghost use Prim.Native.Nat.{ℕ, _+_, _/_, _%_, _<_, _≤_};
 ghost use lib.Dec.{eqb};
 ghost use Rattle.flat.specs.Passes.{column2, row3};
 ghost use Rattle.passes.specs.Lines.{paired};
-ghost use Rattle.passes.specs.ThroughScratch.{Grouped, OfPass, Follows, alone};
+ghost use Rattle.passes.specs.ThroughScratch.{Grouped, OfPass, Follows, alone, isStraight};
 
 // A walk over `groups` groups of `size` places. In a group the paired place goes up by `step` modulo `modulus`. The first group starts
 // at `first`, each further one `shift` on, and group `restart` at 0 (none where it is 0).
@@ -58,7 +58,7 @@ pub(crate) fn next_start(w: Walk, g: usize, place: usize) -> usize
 
 // Whether a walk goes through its places one by one in one group: it is then two runs, up to its modulus and from 0 on.
 pub(crate) fn straight(w: Walk) -> bool
-    ensures { λ r. ⌜ r ≡ (eqb (w .step) 1 && eqb (w .groups) 1) ⌝ }
+    ensures { λ r. ⌜ r ≡ isStraight w ⌝ }
 {
     if w.step != 1 {
         return false;
