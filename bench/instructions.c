@@ -16,10 +16,19 @@ static uint32_t halves(size_t m, size_t n) { return zib_turn_halves(block, m * n
 static uint32_t remove_camera(size_t m, size_t n) { return zib_remove_camera(block, m * n, m, n, n / 2); }
 static uint32_t add_camera(size_t m, size_t n) { return zib_add_camera(block, m * n, m, n - 1, n / 2, column, m); }
 
+/* one swap of an m by n block of chunks */
+static uint32_t swap(size_t m, size_t n, size_t chunk) {
+    static const size_t middle[1] = {1};
+    struct zib_shape shape = {{1, m, n, chunk, 0}};
+    return zib_chain(block, m * n * chunk, scratch, m > n ? m : n, shape, middle, 1).number;
+}
+static uint32_t swap_fours(size_t m, size_t n) { return swap(m, n, 4); }
+static uint32_t swap_sixteens(size_t m, size_t n) { return swap(m, n, 16); }
+
 static const struct {
     const char *name;
     uint32_t (*make)(size_t m, size_t n);
-} calls[] = {{"turn", turn}, {"back", back}, {"halves", halves}, {"remove", remove_camera}, {"add", add_camera}};
+} calls[] = {{"turn", turn}, {"back", back}, {"halves", halves}, {"remove", remove_camera}, {"add", add_camera}, {"swap4", swap_fours}, {"swap16", swap_sixteens}};
 
 int main(int count, char **words) {
     if (count != 5) return 2;
