@@ -2,10 +2,10 @@
 use mathlib.Core.Path.{_≡_, refl, _∙_}
 use mathlib.Core.List.{List}
 use Prim.Native.Nat.{ℕ, _+_, _*_, _-_, _<_, _≤_}
-use native.Mathlib.Nat.{mul-le-mul-right, add-mul, one-mul}
 use native.Mathlib.Omega.{arith}
 use lib.ListN.{length}
 use borrow.Rule.Slice.PartMut.{midOf, mid-len}
+use Rattle.halves.proofs.Blocks.{block-ends}
 use Rattle.cycles.specs.Private.{Filling, Lies, AllFill}
 use Rattle.cycles.specs.declared.tours.Grid.{Grid}
 
@@ -19,13 +19,8 @@ part-fills {g} {base} {end} {xs} y is = record {
 -- block e of the blocks that fill the words lies in them
 pub block-lies : {g : Grid} {outer : ℕ} {xs : List ℕ} → AllFill g outer xs → (e : ℕ) (ys : List ℕ) → length ys ≡ length xs → e < outer → Lies g (e * (g .m * g .n * g .chunk)) ys
 block-lies {g} {outer} y e ys same h =
-    let size = g .m * g .n * g .chunk in
-    let before : (e + 1) * size ≤ outer * size = mul-le-mul-right size (omega arith) in
-    record {
-      follows = y .follows;
-      inside = omega (arith, add-mul e 1 size, one-mul size, y .fill);
-      few = omega (arith, y .few);
-    }
+    let end = block-ends (g .m * g .n * g .chunk) h in
+    record { follows = y .follows; inside = omega (arith, y .fill); few = omega (arith, y .few) }
 
 -- and has no more words than they are
 pub words-few : {g : Grid} {outer : ℕ} {xs : List ℕ} → AllFill g outer xs → g .m * g .n * g .chunk ≤ 1048576

@@ -63,7 +63,7 @@ pub record TurnedTo (m n chunk e : ℕ) (before after : List ℕ) : Type 0 where
   pub stands : (p : ℕ) → e * (m * n * chunk) ≤ p → getD after p 0 ≡ getD before p 0
 
 -- a word of the swap, by its block, row, column and word: its place
-swap-at : (outer m n chunk e i j u : ℕ) → at (swapBlock outer m n chunk) (e ∷ i ∷ j ∷ u ∷ []) ≡ e * (m * n * chunk) + ((i * n + j) * chunk + u)
+pub swap-at : (outer m n chunk e i j u : ℕ) → at (swapBlock outer m n chunk) (e ∷ i ∷ j ∷ u ∷ []) ≡ e * (m * n * chunk) + ((i * n + j) * chunk + u)
 unfolding at volume
 swap-at outer m n chunk e i j u = omega arith
 
@@ -103,3 +103,9 @@ module _ {m n chunk : ℕ} where
           ap (λ (z : ℕ). getD ys z 0) (swap-at outer n m chunk e j i u ∙ ap (λ (z : ℕ). e * (z * chunk) + ((j * m + i) * chunk + u)) (mul-comm n m))
           ∙ a .placed e i j u he hi hj hu
           ∙ ap (λ (z : ℕ). getD xs z 0) (sym (swap-at outer m n chunk e i j u))
+
+-- block e of `outer` blocks of so many words ends where the last one does, or before
+pub block-ends : (size : ℕ) {e outer : ℕ} → e < outer → e * size + size ≤ outer * size
+block-ends size {e} {outer} h =
+    let k : (e + 1) * size ≤ outer * size = mul-le-mul-right size (omega arith) in
+    omega (arith, add-mul e 1 size, one-mul size)

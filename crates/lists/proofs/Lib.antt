@@ -8,3 +8,5 @@ pub mod Decide
 pub mod Via
 -- what is left of a list past its first entries
 pub mod Front
+-- a list filled from its front with the words of another
+pub mod Copied

@@ -4,7 +4,7 @@ use mathlib.Core.Path.{_≡_, refl, sym, ap, _∙_}
 use mathlib.Core.List.{List}
 use Prim.Native.Nat.{ℕ, _+_, _*_, _-_, _<_, _≤_}
 use native.Mathlib.Omega.{arith}
-use native.Mathlib.Nat.{mul-comm, mul-assoc, mul-le-mul-right, add-mul, one-mul}
+use native.Mathlib.Nat.{mul-comm}
 use lib.ListN.{length, getD}
 use borrow.Rule.Slice.PartMut.{midOf, putMid, mid-len}
 use Rattle.layout.specs.Layout.{Laid, Within, at, pick}
@@ -14,11 +14,11 @@ use Rattle.refusals.specs.Promise.{middle}
 use Rattle.halves.specs.LentSlices.{TurnedAt}
 use Rattle.halves.specs.Promise.{TurnChunksPromise}
 use Rattle.halves.proofs.Lent.{chunks-accept}
-use Rattle.halves.proofs.Blocks.{laid-turned, part-turned}
+use Rattle.halves.proofs.Blocks.{laid-turned, part-turned, block-ends}
 use Rattle.passes.specs.ThroughScratch.{Grouped, BlocksLie}
 use Rattle.passes.specs.Chunks.{PartLies}
 use Rattle.passes.specs.declared.line.GroupedSides.{GroupedSides}
-use Rattle.passes.proofs.Swaps.{swap-at}
+use Rattle.passes.proofs.Swaps.{swap-at, by-chunks}
 
 -- the part of the buffer that the block of chunks is comes back turned: it is one that the recursion accepts
 pub part-halved : {s : GroupedSides} {base chunk end r : ℕ} {xs ys : List ℕ} → Grouped s → PartLies (s .m) (s .n) base chunk xs → chunk ≤ 4096
@@ -34,14 +34,9 @@ part-halved {s} {base} {chunk} {end} {xs = xs} g y few is p =
 pub part-lies : {outer m n chunk : ℕ} {xs : List ℕ} → BlocksLie outer m n chunk xs → (e : ℕ) (ys : List ℕ) → e < outer → length ys ≡ length xs
     → PartLies m n (e * (m * n * chunk)) chunk ys
 part-lies {outer} {m} {n} {chunk} y e ys h same =
-    let size = m * n * chunk in
-    let k : (e + 1) * size ≤ outer * size = mul-le-mul-right size (omega arith) in
-    let all : outer * size ≡ outer * chunk * (m * n) = ap (λ (z : ℕ). outer * z) (mul-comm (m * n) chunk) ∙ sym (mul-assoc outer chunk (m * n)) in
-    record {
-      some = y .words;
-      inside = omega (arith, add-mul e 1 size, one-mul size, y .enough);
-      few = omega (arith, add-mul e 1 size, one-mul size, y .few);
-    }
+    let end = block-ends (m * n * chunk) h in
+    let all = by-chunks outer m n chunk in
+    record { some = y .words; inside = omega (arith, y .enough); few = omega (arith, y .few) }
 
 -- where a side is 1 nothing moves
 pub stands-still : (outer m n chunk : ℕ) (xs : List ℕ) → ((i j : ℕ) → i < m → j < n → j * m + i ≡ i * n + j) → Laid (swapBlock outer m n chunk) middle xs xs

@@ -4,12 +4,14 @@ use mathlib.Core.Path.{_≡_, sym, ap, ap₂, _∙_, subst}
 use mathlib.Core.List.{List, [], _∷_}
 use Prim.Native.Nat.{ℕ, _+_, _*_, _/_, _%_, _<_, _≤_}
 use native.Mathlib.Omega.{arith}
-use native.Mathlib.Nat.{mul-comm, mul-assoc, mul-add, add-mul, mul-one, one-mul, mod-lt, div-add-mod', div-lt-iff-lt-mul, le-trans, le-mul-of-pos-right, mul-pos}
+use native.Mathlib.Nat.{mul-comm, mul-assoc, add-mul, one-mul, mod-lt, div-add-mod', div-lt-iff-lt-mul, le-trans, le-mul-of-pos-right, mul-pos}
 use lib.ListN.{length, getD}
 use lib.Arith.{digits-div, digits-mod, digits-lt}
 use Rattle.refusals.specs.Calls.{swapBlock}
 use Rattle.refusals.specs.Promise.{middle}
 use Rattle.refusals.proofs.Swap.{Swappable}
+use Rattle.refusals.proofs.Swap as low
+use Rattle.halves.proofs.Blocks as chunked
 use Rattle.layout.specs.Layout.{volume, Within, at, pick, Laid}
 use Rattle.layout.specs.Layout.Within.{none, more}
 use Rattle.layout.proofs.Offsets.{at-lt}
@@ -19,21 +21,14 @@ use Rattle.passes.proofs.Family.{Family, Some, some-more}
 
 -- a word of the swap, by its block, row, column and word: its offset
 pub swap-at : (outer m n chunk e i j u : ℕ) → e * (m * n * chunk) + u + chunk * (i * n + j) ≡ at (swapBlock outer m n chunk) (e ∷ i ∷ j ∷ u ∷ [])
-unfolding at volume
-swap-at outer m n chunk e i j u =
-    let a : e * (m * n * chunk) ≡ e * (m * (n * (chunk * 1))) = ap (λ (z : ℕ). e * z) (mul-assoc m n chunk ∙ ap (λ (z : ℕ). m * (n * z)) (sym (mul-one chunk))) in
-    let b : chunk * (i * n + j) ≡ i * (n * (chunk * 1)) + j * (chunk * 1) =
-    mul-add chunk (i * n) j
-    ∙ ap₂ _+_ (mul-comm chunk (i * n) ∙ mul-assoc i n chunk ∙ ap (λ (z : ℕ). i * (n * z)) (sym (mul-one chunk))) (mul-comm chunk j ∙ ap (λ (z : ℕ). j * z) (sym (mul-one chunk))) in
-    let c : u * 1 ≡ u = mul-one u in
-    omega arith
+swap-at outer m n chunk e i j u = omega (arith, chunked.swap-at outer m n chunk e i j u)
+
+-- its words, block by block and word of the chunk by word of the chunk
+pub by-chunks : (outer m n chunk : ℕ) → outer * (m * n * chunk) ≡ outer * chunk * (m * n)
+by-chunks outer m n chunk = omega arith
 
 pub swap-volume : (outer m n chunk : ℕ) → volume (swapBlock outer m n chunk) ≡ outer * chunk * (m * n)
-unfolding volume
-swap-volume outer m n chunk =
-    ap (λ (z : ℕ). outer * (m * (n * z))) (mul-one chunk)
-    ∙ ap (λ (z : ℕ). outer * z) (sym (mul-assoc m n chunk) ∙ mul-comm (m * n) chunk)
-    ∙ sym (mul-assoc outer chunk (m * n))
+swap-volume outer m n chunk = low.swap-volume outer m n chunk ∙ by-chunks outer m n chunk
 
 -- where block t of an adjacent swap lies: t counts the words after the two axes within the blocks before them
 abbrev pub swapBase : ℕ → ℕ → ℕ → ℕ → ℕ
@@ -163,7 +158,7 @@ block-lies {outer} {m} {n} {chunk} hm hn y t ys held h e f =
 -- the blocks of an adjacent swap that is accepted lie in the buffer
 pub all-lie : {outer m n chunk : ℕ} {xs scratch : List ℕ} → Swappable outer m n chunk xs scratch → AllLie outer m n chunk xs scratch
 all-lie {outer} {m} {n} {chunk} a =
-    let all : outer * (m * n * chunk) ≡ outer * chunk * (m * n) = ap (λ (z : ℕ). outer * z) (mul-comm (m * n) chunk) ∙ sym (mul-assoc outer chunk (m * n)) in
+    let all = by-chunks outer m n chunk in
     record {
       lie = record { blocks = a .outer-pos; words = a .chunk-pos; few = omega (arith, a .few); enough = omega (arith, a .exact) };
       room = a .room;

@@ -1,12 +1,10 @@
 -- `held` meets its contract. The loop's invariant: the places passed hold the words that were read.
-use mathlib.Core.Path.{_≡_, refl, sym, ap, _∙_}
-use mathlib.Core.Logic.{⊎-elim}
+use mathlib.Core.Path.{_≡_, refl, _∙_}
 use Prim.Native.Nat.{ℕ, _+_, _-_, _<_, _≤_}
 use native.Mathlib.Omega.{arith}
-use lib.ListN.{length, getD, set, length-set}
-use lib.Seq.{getD-set-same, getD-set-other}
+use lib.ListN.{length, getD, length-set}
 use borrow.Author.Needs.{needs}
-use Rattle.lists.proofs.Decide.{eq-or-ne}
+use Rattle.lists.proofs.Copied.{copied-more}
 use Rattle.cameras.proofs.words.held.Statement.{statement}
 use Rattle.cameras.proofs.words.held.Tie as tie
 
@@ -22,17 +20,10 @@ Loop = tie.At-loop Inv-loop μ-loop
 loop-again : tie.Need-loop-again Inv-loop μ-loop
 loop-again c =
     let l : Loop = search in
-    let w = l .loop .words in
-    let p = l .loop .p in
-    let s : tie.Start Inv-loop μ-loop = search in
-    let v = getD (s .args .buf .now) (s .args .from + p) 0 in (
+    let x : tie.Start Inv-loop μ-loop = search in (
       omega arith,
-      length-set w p v ∙ l .loop .inv .1,
-      λ k h.
-          ⊎-elim
-          (λ (e : k ≡ p). ap (λ (z : ℕ). getD (set w p v) z 0) e ∙ getD-set-same w p v 0 (omega (arith, l .loop .inv .1)) ∙ ap (λ (z : ℕ). getD (s .args .buf .now) (s .args .from + z) 0) (sym e))
-          (λ (e : k ≡ p → ⊥). getD-set-other w p k v 0 e ∙ l .loop .inv .2 k (omega arith))
-          (eq-or-ne k p),
+      length-set (l .loop .words) (l .loop .p) _ ∙ l .loop .inv .1,
+      copied-more (x .args .from) (l .loop .p) (x .args .buf .now) (l .loop .words) (omega (arith, l .loop .inv .1)) (l .loop .inv .2),
     )
 
 returns : tie.Need-returns Inv-loop μ-loop

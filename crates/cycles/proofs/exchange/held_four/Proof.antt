@@ -3,9 +3,9 @@ use mathlib.Core.Path.{_≡_, refl, _∙_}
 use Prim.Native.Nat.{ℕ, _+_, _-_, _<_, _≤_}
 use native.Mathlib.Omega.{arith}
 use lib.ListN.{length, getD, length-set}
-use lib.Seq.{getD-set-same, getD-set-other}
-use borrow.Author.Count.{below-none, below-more}
+use borrow.Author.Count.{below-none}
 use borrow.Author.Needs.{needs}
+use Rattle.lists.proofs.Copied.{copied-more}
 use Rattle.cycles.proofs.exchange.held_four.Statement.{statement}
 use Rattle.cycles.proofs.exchange.held_four.Tie as tie
 
@@ -21,15 +21,10 @@ Loop = tie.At-loop Inv-loop μ-loop
 loop-again : tie.Need-loop-again Inv-loop μ-loop
 loop-again c =
     let l : Loop = search in
-    let w = l .loop .words in
-    let p = l .loop .p in
-    let b : tie.Start Inv-loop μ-loop = search in
-    let v = getD (b .args .s .now) (b .args .from + p) 0 in (
+    let x : tie.Start Inv-loop μ-loop = search in (
       omega arith,
-      length-set w p v ∙ l .loop .inv .1,
-      below-more _ p
-          (λ k h. getD-set-other w p k v 0 (λ e. omega arith) ∙ l .loop .inv .2 k h)
-          (getD-set-same w p v 0 (omega (arith, l .loop .inv .1))),
+      length-set (l .loop .words) (l .loop .p) _ ∙ l .loop .inv .1,
+      copied-more (x .args .from) (l .loop .p) (x .args .s .now) (l .loop .words) (omega (arith, l .loop .inv .1)) (l .loop .inv .2),
     )
 
 returns : tie.Need-returns Inv-loop μ-loop
