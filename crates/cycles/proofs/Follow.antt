@@ -12,7 +12,7 @@ use Rattle.lists.proofs.Decide.{eq-or-ne}
 use Rattle.orbits.specs.Orbit.{iter, first, period}
 use Rattle.orbits.specs.Cycles.{takes, isLeast}
 use Rattle.orbits.proofs.First.{first-holds, first-le}
-use Rattle.orbits.proofs.Orbit.{iter-add, iter-within, period-le, period-is, period-first}
+use Rattle.orbits.proofs.Orbit.{iter-add, iter-within, iter-apart, period-le, period-is, period-first}
 use Rattle.orbits.proofs.Takes.{takes-permutes}
 use Rattle.orbits.proofs.Least.{not-least, least-is}
 use Rattle.orbits.proofs.Along.{iter-shift}
@@ -61,6 +61,12 @@ module _ (m n x : ℕ) (small : x < m * n) where
       is = rw add-one (e ∙ ap (takes m n) (f .is));
       above = λ h a b. ⊎-elim (λ q. omega (arith, up, f .is, ap (λ (k : ℕ). iter (takes m n) k x) q)) (λ o. f .above h a (omega (arith, o))) (eq-or-ne h count);
     }
+
+    -- places of the way that are a few steps apart differ
+    pub apart : (j k : ℕ) → 0 < k → k < count → iter (takes m n) j x ≡ iter (takes m n) (j + k) x → ⊥
+    apart j k some short e =
+        let p = takes-permutes m n in
+        omega (arith, f .above k some short, iter-apart p j x (iter (takes m n) k x) small (iter-within p k x small) (e ∙ iter-add (takes m n) j k x))
 
     -- one step more is one step nearer home
     pub nearer : {next : ℕ} → x < at → next ≡ takes m n at → homeward m n x next < homeward m n x at

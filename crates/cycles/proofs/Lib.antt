@@ -12,8 +12,8 @@ pub mod OneOutcome
 pub mod Carrying
 -- marks, one bit a place
 pub mod Bits
--- two stretches exchanged, a part after the other
-pub mod Exchanging
+-- words of chunks stored and changed, a part after the other
+pub mod Changing
 -- what the marks tell of the places of a window
 pub mod Marking
 -- the words of one cycle moved by exchanges with its least place

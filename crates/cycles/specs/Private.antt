@@ -5,11 +5,11 @@ use mathlib.Core.List.{List}
 use mathlib.Core.Logic.{_⊎_}
 use Prim.Native.Nat.{ℕ, _+_, _*_, _-_, _/_, _%_, _^_, _<_, _≤_}
 use lib.Dec.{eqb}
-use lib.ListN.{length, getD}
+use lib.ListN.{length, getD, set}
 use Rattle.orbits.specs.Orbit.{iter, period}
 use Rattle.orbits.specs.Cycles.{takes, isLeast, cyclesFrom, cycles, FirstOther}
 use Rattle.orbits.specs.Along.{carried, alongCycles}
-use Rattle.halves.specs.LentSlices.{ofChunks}
+use Rattle.halves.specs.LentSlices.{swapped, ofChunks}
 use Rattle.cycles.specs.declared.Judged.{Judged}
 use Rattle.cycles.specs.declared.tours.Grid.{Grid}
 
@@ -49,6 +49,10 @@ pub record Noted (span lo at : ℕ) (before after : List ℕ) : Type 0 where
   pub kept : (q : ℕ) → bitAt before q ≡ true → bitAt after q ≡ true
   pub new : (q : ℕ) → bitAt after q ≡ true → (q ≡ at - lo) ⊎ (bitAt before q ≡ true)
 
+-- so many words are read from place `from` on
+pub record Held (from count : ℕ) (words xs : List ℕ) : Type 0 where
+  pub each : (p : ℕ) → p < count → getD words p 0 ≡ getD xs (from + p) 0
+
 -- so many words are stored from place `to` on; every other word stands
 pub record Stored (to count : ℕ) (words before after : List ℕ) : Type 0 where
   pub same : length after ≡ length before
@@ -65,6 +69,25 @@ pub record Filling (g : Grid) (xs : List ℕ) : Type 0 where
   pub follows : Follows g
   pub fill : length xs ≡ g .m * g .n * g .chunk
   pub few : g .m * g .n * g .chunk ≤ 1048576
+
+-- a place of the block, whose chunk lies in its words
+pub record Place (g : Grid) (x : ℕ) : Type 0 where
+  pub low : x < g .m * g .n
+  pub inside : x * g .chunk + g .chunk ≤ g .m * g .n * g .chunk
+
+-- words d to e of the chunks, word u of all of them taken together, are changed in one way; the other words of the chunks stand
+pub record Changed (count chunk d e : ℕ) (change : List ℕ → List ℕ) (before after : List ℕ) : Type 0 where
+  pub same : length after ≡ length before
+  pub done : (u : ℕ) → d ≤ u → u < e → ofChunks count chunk u after ≡ change (ofChunks count chunk u before)
+  pub stand : (u : ℕ) → u < chunk → (u < d) ⊎ (e ≤ u) → ofChunks count chunk u after ≡ ofChunks count chunk u before
+
+-- the words at two places are traded
+abbrev pub traded : ℕ → ℕ → List ℕ → List ℕ
+traded x y words = swapped words x y
+
+-- the word at each of four places is handed on to the next one, and that of the last to the first
+abbrev pub handed : ℕ → ℕ → ℕ → ℕ → List ℕ → List ℕ
+handed x a b c words = set (set (set (set words x (getD words c 0)) a (getD words x 0)) b (getD words a 0)) c (getD words b 0)
 
 -- what the marks of the window from lo on tell when place x is next: a marked place is not the least of its cycle; in the first window the
 -- cycle of a place from x on that is not marked has no place below x

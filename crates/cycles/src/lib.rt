@@ -1,7 +1,7 @@
 // The cycles of a flat turn: lists of them, bought from elsewhere, judged and run, start and length of every cycle in rising order; and the
 // adjacent swap, whose chunks move along them.
 mod along;
-mod exchange;
+mod carry;
 mod marks;
 mod steps;
 mod tours;

@@ -1,6 +1,6 @@
-// Chunks moved along the cycles of a turn, cycle by cycle, each chunk exchanged once into its place. Which places are done is marked, for a
+// Chunks moved along the cycles of a turn, cycle by cycle, each chunk moved once into its place. Which places are done is marked, for a
 // window of places at a time: as many as the marks have bits.
-use crate::exchange;
+use crate::carry;
 use crate::marks;
 use crate::steps;
 ghost use mathlib.Core.Bool.{true};
@@ -51,20 +51,6 @@ fn leads(marks: &mut [u32], g: Grid, lo: usize, x: usize) -> bool
     least(marks, g, lo, x)
 }
 
-// Moves the chunks of the cycle of x, its least place. The chunk at x is exchanged with the one at each next place in turn: so what was at x is
-// one place on, what was there is two places on, and what comes home stands at x.
-fn tour(buf: &mut [u32], marks: &mut [u32], g: Grid, lo: usize, x: usize)
-    requires { ⌜ Filling g (now buf) × Next (g .m) (g .n) lo x (now marks) × (isLeast (takes (g .m) (g .n)) (g .m * g .n) x ≡ true) ⌝ }
-    ensures { λ _. ⌜ Toured (g .m) (g .n) (g .chunk) lo x (now (buf .entry)) (now (marks .entry)) (now (buf .exit)) (now (marks .exit)) ⌝ }
-{
-    let mut at = steps::step(g.m, g.n, g.inverse, x);
-    while x < at {
-        exchange::exchange(buf, x * g.chunk, at * g.chunk, g.chunk);
-        marks::note(marks, lo, at);
-        at = steps::step(g.m, g.n, g.inverse, at);
-    }
-}
-
 // The lesser of two places.
 fn lesser(first: usize, second: usize) -> usize
     ensures { λ r. ⌜ r ≡ min first second ⌝ }
@@ -73,6 +59,30 @@ fn lesser(first: usize, second: usize) -> usize
         return first;
     }
     second
+}
+
+// Moves the chunks of the cycle of x, its least place. The chunk at x is traded with the one at each next place in turn: so what was at x is
+// one place on, what was there is two places on, and what comes home stands at x. Three places ahead go at once, for they lie far apart, and what
+// is read of one need not wait for what is read of another.
+fn tour(buf: &mut [u32], marks: &mut [u32], g: Grid, lo: usize, x: usize)
+    requires { ⌜ Filling g (now buf) × Next (g .m) (g .n) lo x (now marks) × (isLeast (takes (g .m) (g .n)) (g .m * g .n) x ≡ true) ⌝ }
+    ensures { λ _. ⌜ Toured (g .m) (g .n) (g .chunk) lo x (now (buf .entry)) (now (marks .entry)) (now (buf .exit)) (now (marks .exit)) ⌝ }
+{
+    let mut at = steps::step(g.m, g.n, g.inverse, x);
+    while x < at {
+        let second = steps::step(g.m, g.n, g.inverse, at);
+        let third = steps::step(g.m, g.n, g.inverse, second);
+        marks::note(marks, lo, at);
+        if lesser(second, third) <= x {
+            carry::trade(buf, g, x, at);
+            at = second;
+            continue;
+        }
+        marks::note(marks, lo, second);
+        marks::note(marks, lo, third);
+        carry::hand(buf, g, x, at, second, third);
+        at = steps::step(g.m, g.n, g.inverse, third);
+    }
 }
 
 // Moves the chunks of the cycles whose least places lie in the window that begins at place lo.

@@ -1,4 +1,4 @@
--- `exchange::held` meets its contract. The loop's invariant: the places passed hold the words that were read.
+-- `carry::held` meets its contract. The loop's invariant: the places passed hold the words that were read.
 use mathlib.Core.Path.{_≡_, refl, _∙_}
 use Prim.Native.Nat.{ℕ, _+_, _-_, _<_, _≤_}
 use native.Mathlib.Omega.{arith}
@@ -6,14 +6,14 @@ use lib.ListN.{length, getD, length-set}
 use borrow.Author.Count.{below-none}
 use borrow.Author.Needs.{needs}
 use Rattle.lists.proofs.Copied.{copied-more}
-use Rattle.cycles.proofs.exchange.held.Statement.{statement}
-use Rattle.cycles.proofs.exchange.held.Tie as tie
+use Rattle.cycles.proofs.carry.held.Statement.{statement}
+use Rattle.cycles.proofs.carry.held.Tie as tie
 
 abbrev Inv-loop : tie.InvT-loop
-Inv-loop s from words₀ p₀ words p = (p ≤ 16) × (length words ≡ 16) × ((k : ℕ) → k < p → getD words k 0 ≡ getD s (from + k) 0)
+Inv-loop s from words₀ p₀ words p = (p ≤ 4) × (length words ≡ 4) × ((k : ℕ) → k < p → getD words k 0 ≡ getD s (from + k) 0)
 
 abbrev μ-loop : tie.MeasureT-loop
-μ-loop s from words₀ p₀ words p = 16 - p
+μ-loop s from words₀ p₀ words p = 4 - p
 
 abbrev Loop : Type 0
 Loop = tie.At-loop Inv-loop μ-loop
@@ -28,7 +28,7 @@ loop-again c =
     )
 
 returns : tie.Need-returns Inv-loop μ-loop
-returns c = let l : Loop = search in λ k h. l .loop .inv .2 k (omega arith)
+returns c = let l : Loop = search in record { each = λ k h. l .loop .inv .2 k (omega arith) }
 
 pub held-spec : {M : Type 1} → statement M
 held-spec =

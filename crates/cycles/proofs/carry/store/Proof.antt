@@ -1,11 +1,11 @@
--- `exchange::store_four` meets its contract: after p stores the first p words stand.
+-- `carry::store` meets its contract: after p stores the first p words stand.
 use Prim.Native.Nat.{_-_, _≤_}
 use native.Mathlib.Omega.{arith}
 use borrow.Author.Needs.{needs}
 use Rattle.cycles.specs.Private.{Stored}
-use Rattle.cycles.proofs.Exchanging.{stored-none, stored-more, stored-all}
-use Rattle.cycles.proofs.exchange.store_four.Statement.{statement}
-use Rattle.cycles.proofs.exchange.store_four.Tie as tie
+use Rattle.cycles.proofs.Changing.{stored-none, stored-more, stored-all}
+use Rattle.cycles.proofs.carry.store.Statement.{statement}
+use Rattle.cycles.proofs.carry.store.Tie as tie
 
 abbrev Inv-loop : tie.InvT-loop
 Inv-loop s₀ to words p₀ s p = (p ≤ 4) × Stored to p words s₀ s
@@ -22,8 +22,8 @@ loop-again c = let l : Loop = search in (omega arith, stored-more (omega arith) 
 returns : tie.Need-returns Inv-loop μ-loop
 returns c = let l : Loop = search in stored-all (l .loop .inv .1) (omega arith)
 
-pub store-four-spec : {M : Type 1} → statement M
-store-four-spec =
+pub store-spec : {M : Type 1} → statement M
+store-spec =
     tie.close
     (tie.spec
     Inv-loop
