@@ -1,53 +1,87 @@
--- Sides that come of a side by doubling it: no smaller than it, and every one but the side itself comes of its double. So the test of a swap, which
--- doubles the shorter side until it is no shorter than the longer one, finds whether the longer one is among them.
-use mathlib.Core.Path.{_≡_, refl, sym, subst}
-use mathlib.Core.Logic.{_⊎_, inl, inr, ⊎-elim}
-use Prim.Native.Nat.{ℕ, _+_, _<_, _≤_}
-use native.Mathlib.Nat.{le-refl}
+-- A side doubled again and again: each time it is longer. So the test of a swap, which doubles the shorter side until it is no shorter than the longer
+-- one, finds whether the longer one comes of it, and after how many times, for there is one such number only.
+use mathlib.Core.Path.{_≡_, refl, sym, ap, ap₂, _∙_}
+use mathlib.Core.Logic.{_⊎_, ⊎-elim}
+use Prim.Native.Nat.{ℕ, zero, suc, _+_, _*_, _<_, _≤_}
+use native.Mathlib.Nat.{mul-le-mul-right, add-mul, one-mul}
+use native.Mathlib.Numerals.{add-one}
 use native.Mathlib.Omega.{arith}
-use Rattle.passes.specs.Chunks.{Doubled, EndsInSquares}
-use Rattle.passes.specs.Chunks.Doubled.{itself, twice}
+use Rattle.lists.proofs.Decide.{lt-or-ge}
+use Rattle.passes.specs.Chunks.{doubled, FewHalvings}
 
-pub doubled-above : {side t : ℕ} → Doubled side t → side ≤ t
-doubled-above {side} itself = le-refl side
-doubled-above (twice d) = let h = doubled-above d in omega arith
+doubled-some : (h side : ℕ) → 0 < side → 0 < doubled h side
+unfolding doubled
+doubled-some zero side some = some
+doubled-some (suc h) side some = omega (arith, doubled-some h side some)
 
-pub doubled-on : {side t : ℕ} → Doubled side t → (t ≡ side) ⊎ Doubled (side + side) t
-doubled-on itself = inl refl
-doubled-on {side} (twice {t} d) =
+doubled-grows : (h k side : ℕ) → 0 < side → h < k → doubled h side < doubled k side
+unfolding doubled
+doubled-grows h zero side some less = absurd (omega arith)
+doubled-grows h (suc k) side some less =
     ⊎-elim
-    (λ (e : t ≡ side). inr (subst (λ (z : ℕ). Doubled (side + side) (z + z)) (sym e) itself))
-    (λ (r : Doubled (side + side) t). inr (twice r))
-    (doubled-on d)
+    (λ (l : h < k). omega (arith, doubled-grows h k side some l))
+    (λ (l : k ≤ h). let e : h ≡ k = omega arith in rw e (omega (arith, doubled-some k side some)))
+    (lt-or-ge h k)
 
--- what is known on the way: the side comes of the shorter one, and what comes of the shorter one is below the longer one or comes of the side
-pub record Doubling (shorter longer side : ℕ) : Type 0 where
-  pub some : 0 < side
-  pub from : Doubled shorter side
-  pub left : (t : ℕ) → Doubled shorter t → (t < longer) ⊎ Doubled side t
+doubled-above : (h side : ℕ) → 0 < side → side ≤ doubled h side
+unfolding doubled
+doubled-above zero side some = omega arith
+doubled-above (suc h) side some = omega (arith, doubled-above h side some)
 
-pub doubling-none : {shorter longer : ℕ} → 0 < shorter → Doubling shorter longer shorter
-doubling-none h = record { some = h; from = itself; left = λ t d. inr d }
+-- what is known on the way: after h times the side is below the longer one or is the first that is not
+pub record Doubling (shorter longer chunk side again : ℕ) : Type 0 where
+  pub h : ℕ
+  pub is : doubled h shorter ≡ side
+  pub counted : again ≡ h * chunk
+  pub few : h < side
+  pub below : (k : ℕ) → k < h → doubled k shorter < longer
 
-pub doubling-more : {shorter longer side : ℕ} → side < longer → Doubling shorter longer side → Doubling shorter longer (side + side)
-doubling-more {longer = longer} {side} h d = record {
-  some = let k = d .some in omega arith;
-  from = twice (d .from);
-  left = λ t c. ⊎-elim
-      (λ (k : t < longer). inl k)
-      (λ (r : Doubled side t). ⊎-elim (λ (e : t ≡ side). let k : t < longer = omega arith in inl k) (λ (r′ : Doubled (side + side) t). inr r′) (doubled-on r))
-      (d .left t c);
-}
+module _ {shorter longer chunk : ℕ} where
+  pub doubling-none : 0 < shorter → Doubling shorter longer chunk shorter 0
+  unfolding doubled
+  doubling-none some = record { h = 0; is = refl; counted = omega arith; few = some; below = λ k l. absurd (omega arith) }
 
--- where the side has come to the longer one or past it, the longer one comes of the shorter one only if it is the side
-pub doubling-done : {shorter longer side : ℕ} → longer ≤ side → Doubling shorter longer side → Doubled shorter longer → side ≡ longer
-doubling-done {longer = longer} {side} h d c =
-    ⊎-elim (λ (k : longer < longer). omega arith) (λ (r : Doubled side longer). let k = doubled-above r in omega arith) (d .left longer c)
+  module _ {side again : ℕ} (d : Doubling shorter longer chunk side again) where
+    pub doubling-more : side < longer → Doubling shorter longer chunk (side + side) (again + chunk)
+    unfolding doubled
+    doubling-more under = record {
+      h = suc (d .h);
+      is = ap₂ _+_ (d .is) (d .is);
+      counted = omega (arith, d .counted, add-mul (d .h) 1 chunk, one-mul chunk, add-one (d .h));
+      few = omega (arith, d .few);
+      below = λ k l. ⊎-elim (λ (z : k < d .h). d .below k z) (λ (z : d .h ≤ k). let e : k ≡ d .h = omega arith in omega (arith, ap (λ (j : ℕ). doubled j shorter) e, d .is)) (lt-or-ge k (d .h));
+    }
 
--- the sides in either order
-pub ends-wide : {m n : ℕ} → m < n → EndsInSquares m n → Doubled m n
-ends-wide {m} {n} h e = ⊎-elim (λ (d : Doubled m n). d) (λ (d : Doubled n m). let k = doubled-above d in absurd (let z : ⊥ = omega arith in z)) e
+    -- the count stays small
+    pub doubling-fits : side < longer → longer ≤ 4096 → again ≤ 4096 * chunk
+    doubling-fits under most = omega (arith, d .counted, mul-le-mul-right {m = d .h} {n = 4096} chunk (omega (arith, d .few)))
 
-pub ends-tall : {m n : ℕ} → n ≤ m → EndsInSquares m n → Doubled n m
-ends-tall {m} {n} h e =
-    ⊎-elim (λ (d : Doubled m n). let k = doubled-above d in let q : n ≡ m = omega arith in subst (Doubled n) q itself) (λ (d : Doubled n m). d) e
+    -- how often, once the side is no shorter than the longer one
+    doubling-done : 0 < shorter → longer ≤ side → (k : ℕ) → doubled k shorter ≡ longer → k ≡ d .h
+    doubling-done some over k e =
+        ⊎-elim
+        (λ (l : k < d .h). omega (arith, d .below k l))
+        (λ (l : d .h ≤ k). ⊎-elim (λ (z : d .h < k). omega (arith, doubled-grows (d .h) k shorter some z, d .is)) (λ (z : k ≤ d .h). omega arith) (lt-or-ge (d .h) k))
+        (lt-or-ge k (d .h))
+
+    pub halvings-counted : 0 < shorter → side ≡ longer → (again ≤ 30 → FewHalvings shorter longer chunk) × (FewHalvings shorter longer chunk → again ≤ 30)
+    halvings-counted some e = (
+      λ l. (d .h, d .is ∙ e, omega (arith, d .counted)),
+      λ k. omega (arith, d .counted, k .2, ap (λ (j : ℕ). j * chunk) (doubling-done some (omega arith) (k .0) (k .1))),
+    )
+
+    pub never-halved : 0 < shorter → longer ≤ side → (side ≡ longer → ⊥) → FewHalvings shorter longer chunk → ⊥
+    never-halved some over away k =
+        away (sym (d .is) ∙ ap (λ (j : ℕ). doubled j shorter) (sym (doubling-done some over (k .0) (k .1))) ∙ k .1)
+
+-- the sides in either order: the shorter one is the one that is doubled
+longer-above : (side other chunk : ℕ) → 0 < side → FewHalvings side other chunk → side ≤ other
+longer-above side other chunk some k = omega (arith, doubled-above (k .0) side some, k .1)
+
+pub halved-wide : (m n chunk : ℕ) → 0 < n → m < n → FewHalvings m n chunk ⊎ FewHalvings n m chunk → FewHalvings m n chunk
+halved-wide m n chunk some less e = ⊎-elim (λ k. k) (λ k. let l = longer-above n m chunk some k in absurd (let z : ⊥ = omega arith in z)) e
+
+pub halved-tall : (m n chunk : ℕ) → 0 < m → n ≤ m → FewHalvings m n chunk ⊎ FewHalvings n m chunk → FewHalvings n m chunk
+unfolding doubled
+halved-tall m n chunk some less e =
+    ⊎-elim (λ k. let l = longer-above m n chunk some k in (0, omega arith, omega arith)) (λ k. k) e

@@ -3,7 +3,7 @@
 use mathlib.Core.Path.{_≡_}
 use mathlib.Core.List.{List}
 use mathlib.Core.Logic.{_⊎_}
-use Prim.Native.Nat.{ℕ, _+_, _*_, _<_, _≤_}
+use Prim.Native.Nat.{ℕ, zero, suc, _+_, _*_, _<_, _≤_}
 use lib.ListN.{length}
 
 -- an m by n block of chunks lies in the buffer at base
@@ -12,23 +12,23 @@ pub record PartLies (m n base chunk : ℕ) (xs : List ℕ) : Type 0 where
   pub inside : base + m * n * chunk ≤ length xs
   pub few : base + m * n * chunk ≤ 1048576
 
--- the sides that come of a side by doubling it again and again
-pub data Doubled (side : ℕ) : ℕ → Type 0 where
-  itself : Doubled side side
-  twice : {t : ℕ} → Doubled side t → Doubled side (t + t)
+-- a side doubled so many times
+unfoldable pub doubled : ℕ → ℕ → ℕ
+doubled zero side = side
+doubled (suc h) side = doubled h side + doubled h side
 
--- halving the longer side again and again ends in squares
-abbrev pub EndsInSquares : ℕ → ℕ → Type 0
-EndsInSquares m n = Doubled m n ⊎ Doubled n m
+-- the longer side is the shorter one doubled so few times that the words of a chunk, counted once each time, are at most 30
+abbrev pub FewHalvings : ℕ → ℕ → ℕ → Type 0
+FewHalvings shorter longer chunk = (h : ℕ) × (doubled h shorter ≡ longer) × (h * chunk ≤ 30)
 
--- the block is a square, or two of them side by side
-abbrev pub NearSquare : ℕ → ℕ → Type 0
-NearSquare m n = (m ≡ n) ⊎ (m ≡ n + n) ⊎ (n ≡ m + m)
-
--- the recursion turns the block: a square or two, or short chunks where halving ends in squares
+-- the recursion turns the block: halving its longer side ends in squares soon enough
 abbrev pub ByHalves : ℕ → ℕ → ℕ → Type 0
-ByHalves m n chunk = (chunk ≤ 4096) × (NearSquare m n ⊎ ((chunk ≤ 15) × EndsInSquares m n))
+ByHalves m n chunk = (chunk ≤ 4096) × (FewHalvings m n chunk ⊎ FewHalvings n m chunk)
 
--- the chunks move along the cycles of the turn: they are not short, there is something to move, and the recursion does not turn the block
+-- a chunk is worth a step along its cycle: it has 4 words, or 2 where a side has at most 32 places
+abbrev pub LongEnough : ℕ → ℕ → ℕ → Type 0
+LongEnough m n chunk = (4 ≤ chunk) ⊎ ((2 ≤ chunk) × ((m ≤ 32) ⊎ (n ≤ 32)))
+
+-- the chunks move along the cycles of the turn: they are long enough, there is something to move, and the recursion does not turn the block
 abbrev pub AlongCycles : ℕ → ℕ → ℕ → Type 0
-AlongCycles m n chunk = (4 ≤ chunk) × (m ≡ 1 → ⊥) × (n ≡ 1 → ⊥) × (ByHalves m n chunk → ⊥)
+AlongCycles m n chunk = LongEnough m n chunk × (m ≡ 1 → ⊥) × (n ≡ 1 → ⊥) × (ByHalves m n chunk → ⊥)

@@ -12,7 +12,7 @@ ghost use Rattle.refusals.specs.Calls.{swapBlock};
 ghost use Rattle.refusals.specs.Promise.{middle};
 ghost use Rattle.halves.specs.LentSlices.{TurnedAt};
 ghost use Rattle.passes.specs.ThroughScratch.{Grouped, BlocksLie, AllLie, Past};
-ghost use Rattle.passes.specs.Chunks.{PartLies, Doubled, NearSquare, ByHalves, AlongCycles};
+ghost use Rattle.passes.specs.Chunks.{PartLies, FewHalvings, ByHalves, LongEnough, AlongCycles};
 
 // The block of chunks is turned by recursion: its part of the buffer is lent.
 fn turn_part(buf: &mut [u32], s: GroupedSides, base: usize, chunk: usize)
@@ -36,34 +36,26 @@ fn turn_blocks(buf: &mut [u32], s: GroupedSides, outer: usize, chunk: usize)
     }
 }
 
-// Whether the shorter side, doubled again and again, comes to the longer one.
-fn doubles(shorter: usize, longer: usize) -> bool
-    requires { ⌜ (0 < shorter) × (longer ≤ 4096) ⌝ }
-    ensures { λ r. ⌜ (r ≡ true) ↔ Doubled shorter longer ⌝ }
+// Whether the shorter side, doubled again and again, comes to the longer one, in so few times that the words of a chunk, counted once each time, are
+// at most 30.
+fn few_halvings(shorter: usize, longer: usize, chunk: usize) -> bool
+    requires { ⌜ (0 < shorter) × (longer ≤ 4096) × (chunk ≤ 4096) ⌝ }
+    ensures { λ r. ⌜ (r ≡ true) ↔ FewHalvings shorter longer chunk ⌝ }
 {
     let mut side = shorter;
+    let mut again = 0;
     while side < longer {
         side += side;
+        again += chunk;
     }
-    side == longer
+    if side != longer {
+        return false;
+    }
+    again <= 30
 }
 
-// Whether a block is a square or two of them side by side.
-fn near_square(m: usize, n: usize) -> bool
-    requires { ⌜ (m ≤ 4096) × (n ≤ 4096) ⌝ }
-    ensures { λ r. ⌜ (r ≡ true) ↔ NearSquare m n ⌝ }
-{
-    if m == n {
-        return true;
-    }
-    if m == n + n {
-        return true;
-    }
-    n == m + m
-}
-
-// Whether the recursion turns a block: a square always, since it is exchanged across its diagonal, and two of them; short chunks also where halving the
-// longer side again and again ends in squares. Chunks have as many words as an axis may have, or fewer.
+// Whether the recursion turns a block: a square always, since it is exchanged across its diagonal; other sides where halving the longer one ends in squares,
+// the fewer times the longer the chunks, since each halving moves half of the words once more. Chunks have as many words as an axis may have, or fewer.
 fn by_halves(m: usize, n: usize, chunk: usize) -> bool
     requires { ⌜ (0 < m) × (0 < n) × (m ≤ 4096) × (n ≤ 4096) ⌝ }
     ensures { λ r. ⌜ (r ≡ true) ↔ ByHalves m n chunk ⌝ }
@@ -71,25 +63,36 @@ fn by_halves(m: usize, n: usize, chunk: usize) -> bool
     if 4096 < chunk {
         return false;
     }
-    if near_square(m, n) {
-        return true;
-    }
-    if 15 < chunk {
-        return false;
-    }
     if m < n {
-        return doubles(m, n);
+        return few_halvings(m, n, chunk);
     }
-    doubles(n, m)
+    few_halvings(n, m, chunk)
 }
 
-// Whether chunks move along the cycles of the turn: not where nothing moves, nor where the recursion is faster, nor chunks so short that an exchange
-// of two costs more than their words lifted through scratch.
+// Whether chunks are long enough to be moved one by one, each by a step along its cycle: from 4 words on; from 2 on where the shorter side has at most
+// 32 places, for then one bit a place marks all places at once.
+fn long_enough(m: usize, n: usize, chunk: usize) -> bool
+    ensures { λ r. ⌜ (r ≡ true) ↔ LongEnough m n chunk ⌝ }
+{
+    if 4 <= chunk {
+        return true;
+    }
+    if chunk < 2 {
+        return false;
+    }
+    if m <= 32 {
+        return true;
+    }
+    n <= 32
+}
+
+// Whether chunks move along the cycles of the turn: not where nothing moves, nor where the recursion is faster, nor where their words are lifted through
+// scratch sooner.
 pub(crate) fn along_cycles(m: usize, n: usize, chunk: usize) -> bool
     requires { ⌜ (0 < m) × (0 < n) × (m ≤ 4096) × (n ≤ 4096) ⌝ }
     ensures { λ r. ⌜ (r ≡ true) ↔ AlongCycles m n chunk ⌝ }
 {
-    if chunk < 4 {
+    if !long_enough(m, n, chunk) {
         return false;
     }
     if m == 1 {
