@@ -23,7 +23,8 @@ use Rattle.orbits.proofs.Along.{along-turns}
 use Rattle.orbits.proofs.Pairs.{none-other}
 use Rattle.cycles.specs.declared.Judged.{Judged}
 use Rattle.cycles.specs.Promise.{wrongCycles, Answers, JudgedAs, RunAs}
-use Rattle.cycles.specs.Private.{Small, Compared}
+use Rattle.orbits.specs.Steps.{Small}
+use Rattle.cycles.specs.Private.{Compared}
 use Rattle.cycles.proofs.Comparing.{answer}
 
 -- the test of 22, either way

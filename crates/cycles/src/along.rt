@@ -5,7 +5,7 @@ ghost use Prim.Native.Nat.{_*_, _<_};
 ghost use lib.ListN.{length, getD};
 ghost use Rattle.orbits.specs.Cycles.{takes, cycles};
 ghost use Rattle.orbits.specs.Along.{carried, alongCycles};
-ghost use Rattle.cycles.specs.Private.{Small, Inverse};
+ghost use Rattle.orbits.specs.Steps.{Small, Inverse};
 
 // Along one cycle: a word is put where the turn takes its offset, and the word that stood there goes on.
 fn one(buf: &mut [u32], m: usize, n: usize, inverse: usize, start: usize, count: usize)

@@ -1,20 +1,15 @@
-// The cycles of a flat turn: lists of them, bought from elsewhere, judged and run, start and length of every cycle in rising order; and the
-// adjacent swap, whose chunks move along them.
+// The cycles of a flat turn: lists of them, bought from elsewhere, judged and run, start and length of every cycle in rising order.
 mod along;
-mod carry;
-mod marks;
 mod steps;
-mod tours;
 
-use tours::Grid;
 ghost use mathlib.Core.Path.{_≡_};
 ghost use mathlib.Core.List.{[], _∷_};
 ghost use Prim.Native.Nat.{_*_, _<_, _≤_};
 ghost use Rattle.lists.specs.Same.{same};
-ghost use Rattle.refusals.specs.Promise.{SwapPromise};
 ghost use Rattle.orbits.specs.Cycles.{takes, pairAt};
 ghost use Rattle.cycles.specs.Promise.{JudgedAs, RunAs};
-ghost use Rattle.cycles.specs.Private.{Small, Inverse, lengthOf, Compared};
+ghost use Rattle.orbits.specs.Steps.{Small, Inverse};
+ghost use Rattle.cycles.specs.Private.{lengthOf, Compared};
 
 // The number that the call answers, and for 22 the place of the first pair that differs.
 pub struct Judged {
@@ -107,33 +102,4 @@ pub fn run(list: &[u32], buf: &mut [u32], m: usize, n: usize) -> Judged
     }
     along::all(list, buf, m, n);
     judged
-}
-
-// Exchanges the two axes in the middle: outer blocks of m by n chunks become as many of n by m, where they lie. The chunks move along the
-// cycles of the turn, and scratch of max(m, n) words marks the places that are done: 0, or 1, 2, 3, 13, 4.
-pub fn swap(
-    buf: &mut [u32],
-    scratch: &mut [u32],
-    outer: usize,
-    m: usize,
-    n: usize,
-    chunk: usize,
-) -> u32
-    ensures { λ r. ⌜ SwapPromise outer m n chunk (now (buf .entry)) (now (scratch .entry)) r (now (buf .exit)) (now (scratch .exit)) ⌝ }
-{
-    let number = checks::swaps::swap_number(buf, scratch, outer, m, n, chunk);
-    if number != 0 {
-        return number;
-    }
-    let sides = [m, n];
-    let need = checks::longest_of(&sides);
-    let inverse = steps::inverse_of(n);
-    let g = Grid {
-        m,
-        n,
-        inverse,
-        chunk,
-    };
-    tours::blocks(buf, &mut scratch[..need], g, outer);
-    0
 }

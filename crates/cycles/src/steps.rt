@@ -2,7 +2,7 @@
 ghost use mathlib.Core.Path.{_≡_};
 ghost use Prim.Native.Nat.{_*_, _<_};
 ghost use Rattle.orbits.specs.Cycles.{takes};
-ghost use Rattle.cycles.specs.Private.{Small, Inverse};
+ghost use Rattle.orbits.specs.Steps.{Small, Inverse};
 
 // The inverse of n that a step multiplies by: 2 to the 40th by n, rounded down, and one more.
 pub(crate) fn inverse_of(n: usize) -> usize

@@ -36,3 +36,7 @@ pub mod Along
 pub mod RightList
 -- a quotient by multiplication with a rounded inverse
 pub mod Inverse
+-- the loop that follows a cycle: where it starts, one step more, where it ends
+pub mod Follow
+-- one step along a cycle, without a division
+pub mod Stepping

@@ -13,8 +13,8 @@ use Rattle.passes.proofs.turn_back.Kinds as turn-back-kinds
 use Rattle.passes.proofs.turn_back.Reads as turn-back
 use Rattle.passes.proofs.swap.Kinds as swap-kinds
 use Rattle.passes.proofs.swap.Reads as swap
-use Rattle.cycles.proofs.swap.Kinds as along-kinds
-use Rattle.cycles.proofs.swap.Reads as along
+use Rattle.tours.proofs.swap.Kinds as along-kinds
+use Rattle.tours.proofs.swap.Reads as along
 use Rattle.passes.proofs.clear.Kinds as clear-kinds
 use Rattle.passes.proofs.clear.Reads as clear
 use Rattle.halves.proofs.turn.Kinds as halves-kinds

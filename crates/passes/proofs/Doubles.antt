@@ -64,7 +64,7 @@ module _ {shorter longer chunk : ℕ} where
         (λ (l : d .h ≤ k). ⊎-elim (λ (z : d .h < k). omega (arith, doubled-grows (d .h) k shorter some z, d .is)) (λ (z : k ≤ d .h). omega arith) (lt-or-ge (d .h) k))
         (lt-or-ge k (d .h))
 
-    pub halvings-counted : 0 < shorter → side ≡ longer → (again ≤ 30 → FewHalvings shorter longer chunk) × (FewHalvings shorter longer chunk → again ≤ 30)
+    pub halvings-counted : 0 < shorter → side ≡ longer → (again ≤ 20 → FewHalvings shorter longer chunk) × (FewHalvings shorter longer chunk → again ≤ 20)
     halvings-counted some e = (
       λ l. (d .h, d .is ∙ e, omega (arith, d .counted)),
       λ k. omega (arith, d .counted, k .2, ap (λ (j : ℕ). j * chunk) (doubling-done some (omega arith) (k .0) (k .1))),

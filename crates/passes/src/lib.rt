@@ -139,7 +139,7 @@ pub fn swap(
         return number;
     }
     if swapping::along_cycles(m, n, chunk) {
-        return cycles::swap(buf, scratch, outer, m, n, chunk);
+        return tours::swap(buf, scratch, outer, m, n, chunk);
     }
     let s = turning::group_sides(m, n);
     swapping::turn_every(buf, scratch, s, outer, chunk);

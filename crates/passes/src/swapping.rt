@@ -37,7 +37,7 @@ fn turn_blocks(buf: &mut [u32], s: GroupedSides, outer: usize, chunk: usize)
 }
 
 // Whether the shorter side, doubled again and again, comes to the longer one, in so few times that the words of a chunk, counted once each time, are
-// at most 30.
+// at most 20.
 fn few_halvings(shorter: usize, longer: usize, chunk: usize) -> bool
     requires { ⌜ (0 < shorter) × (longer ≤ 4096) × (chunk ≤ 4096) ⌝ }
     ensures { λ r. ⌜ (r ≡ true) ↔ FewHalvings shorter longer chunk ⌝ }
@@ -51,7 +51,7 @@ fn few_halvings(shorter: usize, longer: usize, chunk: usize) -> bool
     if side != longer {
         return false;
     }
-    again <= 30
+    again <= 20
 }
 
 // Whether the recursion turns a block: a square always, since it is exchanged across its diagonal; other sides where halving the longer one ends in squares,
@@ -70,7 +70,7 @@ fn by_halves(m: usize, n: usize, chunk: usize) -> bool
 }
 
 // Whether chunks are long enough to be moved one by one, each by a step along its cycle: from 4 words on; from 2 on where the shorter side has at most
-// 32 places, for then one bit a place marks all places at once.
+// 64 places, for then one bit a pair marks all pairs of places at once.
 fn long_enough(m: usize, n: usize, chunk: usize) -> bool
     ensures { λ r. ⌜ (r ≡ true) ↔ LongEnough m n chunk ⌝ }
 {
@@ -80,10 +80,10 @@ fn long_enough(m: usize, n: usize, chunk: usize) -> bool
     if chunk < 2 {
         return false;
     }
-    if m <= 32 {
+    if m <= 64 {
         return true;
     }
-    n <= 32
+    n <= 64
 }
 
 // Whether chunks move along the cycles of the turn: not where nothing moves, nor where the recursion is faster, nor where their words are lifted through

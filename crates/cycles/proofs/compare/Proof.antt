@@ -4,7 +4,7 @@ use native.Mathlib.Omega.{arith}
 use borrow.Author.Needs.{needs}
 use borrow.Author.Tests.{not-true, not-false}
 use Rattle.lists.proofs.Via.{via}
-use Rattle.cycles.proofs.Stepping.{columns}
+use Rattle.orbits.proofs.Stepping.{columns}
 use Rattle.cycles.proofs.Comparing.{Comparing, starts, passed-over, found, another, surplus, whole}
 use Rattle.cycles.proofs.compare.Statement.{statement}
 use Rattle.cycles.proofs.compare.Tie as tie

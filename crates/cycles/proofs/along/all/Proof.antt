@@ -4,7 +4,7 @@ use mathlib.Core.Path.{sym, _∙_}
 use Prim.Native.Nat.{_-_}
 use native.Mathlib.Omega.{arith}
 use borrow.Author.Needs.{needs}
-use Rattle.cycles.proofs.Stepping.{columns}
+use Rattle.orbits.proofs.Stepping.{columns}
 use Rattle.cycles.proofs.Carrying.{Runs, runs-none, start-low, runs-more, runs-all}
 use Rattle.cycles.proofs.along.all.Statement.{statement}
 use Rattle.cycles.proofs.along.all.Tie as tie

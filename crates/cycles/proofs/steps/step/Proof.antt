@@ -1,6 +1,6 @@
 -- `steps::step` meets its contract: the product with the inverse gives the row, what is left the column.
 use native.Mathlib.Omega.{arith}
-use Rattle.cycles.proofs.Stepping.{product, rows-below, stepped, stepped-low}
+use Rattle.orbits.proofs.Stepping.{product, rows-below, stepped, stepped-low}
 use Rattle.cycles.proofs.steps.step.Statement.{statement}
 use Rattle.cycles.proofs.steps.step.Tie as tie
 

@@ -2,7 +2,6 @@
 use mathlib.Core.Bool.{Bool, true, false, not, true≢false}
 use mathlib.Core.Logic.{_↔_}
 use mathlib.Core.Path.{_≡_, refl, sym}
-use native.Mathlib.Omega.{arith}
 use borrow.Author.Needs.{needs}
 use Rattle.passes.proofs.swapping.along_cycles.Statement.{statement}
 use Rattle.passes.proofs.swapping.along_cycles.Tie as tie

@@ -2,9 +2,7 @@
 use mathlib.Core.Bool.{true≢false}
 use mathlib.Core.Logic.{inl, inr, ⊎-elim}
 use mathlib.Core.Path.{refl, sym}
-use Prim.Native.Nat.{_≤_}
 use native.Mathlib.Omega.{arith}
-use borrow.Author.Needs.{needs}
 use borrow.Author.Tests.{leb-true, le-leb}
 use Rattle.passes.proofs.swapping.long_enough.Statement.{statement}
 use Rattle.passes.proofs.swapping.long_enough.Tie as tie
