@@ -172,11 +172,14 @@ fn chunks(t: &mut Bench, r: &mut Random) {
     for &chunk in &[1, 2, 3, 4, 7, 8, 16, 31] {
         larger.extend([[2, 15, 16, chunk], [2, 12, 18, chunk], [1, 64, 15, chunk], [2, 32, 8, chunk], [1, 17, 1, chunk], [3, 1, 17, chunk], [1, 100, 90, chunk]]);
     }
-    // as many places as scratch has bits, a row or a column fewer or more, and several times as many
+    // as many places as scratch has bits, or twice as many, a row or a column fewer or more, and several times as many, odd counts too
     for side in 31..=33 {
         larger.extend([[1, 48, side, 8], [1, side, 48, 8]]);
     }
-    larger.extend([[1, 37, 41, 8], [2, 70, 36, 9], [1, 66, 65, 7], [1, 65, 130, 17]]);
+    for side in 63..=65 {
+        larger.extend([[1, 80, side, 5], [1, side, 80, 2], [1, 81, side, 4], [1, side, 81, 3]]);
+    }
+    larger.extend([[1, 37, 41, 8], [2, 70, 36, 9], [1, 66, 65, 7], [1, 65, 130, 17], [1, 129, 135, 5], [1, 131, 130, 4]]);
     if !t.short {
         for &chunk in &[2, 4, 7, 8, 16] {
             larger.extend([[1, 500, 52, chunk], [1, 4096, 2, chunk], [1, 2, 4096, chunk], [2, 256, 64, chunk], [1, 97, 211, chunk]]);
