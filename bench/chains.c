@@ -20,7 +20,7 @@
 
 #include "zibsnarda.h"
 
-enum { AXES = 4, MOST_WORDS = 1 << 20, LONGEST = 4096, ROUNDS = 21, STRETCH = 200000 /* words in a timed stretch, at least */, CASES = 24 };
+enum { AXES = 4, MOST_WORDS = 1 << 20, LONGEST = 4096, ROUNDS = 21, STRETCH = 200000 /* words in a timed stretch, at least */, CASES = 28 };
 
 /* a case: the lengths, and the swap, or the order by its number where there is none */
 struct task {
@@ -30,6 +30,8 @@ struct task {
 };
 
 static const size_t blocks[6][AXES] = {{64, 16, 16, 16}, {64, 15, 16, 16}, {16, 64, 256, 4}, {3, 100, 90, 37}, {4096, 4, 64, 1}, {2, 2, 2, 4096}};
+/* of these swap 1 alone: sides that do not halve to squares, with few and with many places */
+static const size_t odd[4][AXES] = {{1, 64, 15, 4}, {1, 500, 523, 4}, {1, 1000, 131, 8}, {1, 100, 90, 16}};
 static struct task tasks[CASES];
 static struct task now_at; /* the case of this round */
 
@@ -47,6 +49,10 @@ static void make_tasks(void) {
             memcpy(tasks[at].lengths, blocks[b], sizeof blocks[b]);
             tasks[at++].swap = k;
         }
+    for (size_t b = 0; b < 4; b++) {
+        memcpy(tasks[at].lengths, odd[b], sizeof odd[b]);
+        tasks[at++].swap = 1;
+    }
     for (size_t b = 0; b < 6; b += 3)
         for (size_t k = 0; k < 3; k++) {
             memcpy(tasks[at].lengths, blocks[b], sizeof blocks[b]);
