@@ -12,14 +12,14 @@ pub(crate) fn inverse_of(n: usize) -> usize
     1099511627776 / n + 1
 }
 
-// Where the turn takes offset x: its row and its column exchanged. The row is found by multiplication, so that no step divides.
+// Where the turn takes offset x: m times x modulo mn - 1, which is counted off once for each row. The row is found by multiplication, so that no step
+// divides, and only one product waits for another.
 pub(crate) fn step(m: usize, n: usize, inverse: usize, x: usize) -> usize
     requires { ⌜ Small m n × Inverse n inverse × (x < m * n) ⌝ }
     ensures { λ r. ⌜ r ≡ takes m n x ⌝ }
 {
     let row = (x * inverse) >> 40;
-    let column = x - row * n;
-    column * m + row
+    x * m - row * (m * n - 1)
 }
 
 // A word as a count.

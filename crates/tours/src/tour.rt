@@ -31,14 +31,14 @@ pub(crate) fn inverse_of(n: usize) -> usize
     1099511627776 / n + 1
 }
 
-// Where the turn takes place x: its row and its column exchanged. The row is found by multiplication, so that no step divides.
+// Where the turn takes place x: m times x modulo mn - 1, which is counted off once for each row. The row is found by multiplication, so that no step
+// divides, and only one product waits for another.
 fn step(g: Grid, x: usize) -> usize
     requires { ⌜ Follows g × (x < g .m * g .n) ⌝ }
     ensures { λ r. ⌜ r ≡ takes (g .m) (g .n) x ⌝ }
 {
     let row = (x * g.inverse) >> 40;
-    let column = x - row * g.n;
-    column * g.m + row
+    x * g.m - row * (g.m * g.n - 1)
 }
 
 // The lesser of two places.
