@@ -5,7 +5,7 @@ use mathlib.Core.Path.{_≡_, refl, sym, ap, ap₂, _∙_, subst}
 use mathlib.Core.Bool.{true}
 use mathlib.Core.List.{List}
 use mathlib.Core.Logic.{_⊎_, ⊎-elim}
-use Prim.Native.Nat.{ℕ, suc, _+_, _*_, _-_, _%_, _<_, _≤_}
+use Prim.Native.Nat.{ℕ, suc, _*_, _-_, _%_, _<_, _≤_}
 use native.Mathlib.Nat.{mod-lt}
 use native.Mathlib.Numerals.{add-one}
 use native.Mathlib.Omega.{arith}
@@ -14,9 +14,10 @@ use Rattle.lists.proofs.Decide.{lt-or-ge}
 use Rattle.lists.proofs.Tab.{length-tab}
 use Rattle.orbits.specs.Orbit.{iter, period}
 use Rattle.orbits.specs.Cycles.{takes, isLeast}
-use Rattle.orbits.proofs.Orbit.{iter-add, iter-within, iter-apart, period-is}
+use Rattle.orbits.proofs.Orbit.{iter-within, iter-apart, period-is}
 use Rattle.orbits.proofs.Takes.{takes-permutes}
 use Rattle.orbits.proofs.Least.{iter-mod, least-all}
+use Rattle.orbits.proofs.Visits.{apart}
 use Rattle.halves.specs.LentSlices.{swapped, ofChunks}
 use Rattle.tours.specs.Private.{mirror, fold, half, pairs, Noted, Next, Gone, Toured, Changed, traded, handed, tradedBoth, handedBoth}
 use Rattle.tours.proofs.Mirror.{pair-goes, one-pair, pairs-permute, iter-mirror, pair-told, pair-told′}
@@ -24,35 +25,30 @@ use Rattle.tours.proofs.Chains.{Different, Carrying, carrying-none, car
 use Rattle.orbits.proofs.Follow.{Followed, homeward, low, starts, goes-on, nearer, home-whole}
 use Rattle.tours.proofs.Marking.{Marking, marking-none, marking-more, tour-known}
 
+-- the places from x on, one after the other
+abbrev chain : ℕ → ℕ → ℕ → ℕ → ℕ
+chain m n x h = iter (takes m n) h x
+
 module _ (m n x : ℕ) (small : x < half (m * n)) where
   abbrev N : ℕ
   N = m * n
 
   -- the two chains, and how long they are
   abbrev along : ℕ → ℕ
-  along h = iter (takes m n) h x
+  along = chain m n x
 
   abbrev across : ℕ → ℕ
-  across h = iter (takes m n) h (mirror N x)
+  across = chain m n (mirror N x)
 
   abbrev whole : ℕ
   whole = period (pairs m n) (half N) x
 
   -- within the period the pairs are different
-  steps-differ : (h k : ℕ) → h < k → k < whole → iter (pairs m n) h x ≡ iter (pairs m n) k x → ⊥
-  steps-differ h k less short e =
-      let p = pairs-permute m n in
-      let d = k - h in
-      let sum : h + d ≡ k = omega arith in
-      let on : iter (pairs m n) h x ≡ iter (pairs m n) h (iter (pairs m n) d x) =
-      e ∙ ap (λ (z : ℕ). iter (pairs m n) z x) (sym sum) ∙ iter-add (pairs m n) h d x in
-      period-is p x small .least d (omega arith) (omega arith) (sym (iter-apart p h x (iter (pairs m n) d x) small (iter-within p d x small) on))
-
   same-step : (h k : ℕ) → h < whole → k < whole → iter (pairs m n) h x ≡ iter (pairs m n) k x → h ≡ k
   same-step h k hh hk e =
       ⊎-elim
-      (λ (l : h < k). absurd (steps-differ h k l hk e))
-      (λ (l : k ≤ h). ⊎-elim (λ (g : k < h). absurd (steps-differ k h g hh (sym e))) (λ (g : h ≤ k). omega arith) (lt-or-ge k h))
+      (λ (l : h < k). absurd (apart (pairs-permute m n) x small h k l (omega arith) e))
+      (λ (l : k ≤ h). ⊎-elim (λ (g : k < h). absurd (apart (pairs-permute m n) x small k h g (omega arith) (sym e))) (λ (g : h ≤ k). omega arith) (lt-or-ge k h))
       (lt-or-ge h k)
 
   pub chains-differ : (x ≡ mirror N x → ⊥) → Different along across whole N
@@ -110,7 +106,7 @@ pub record Tour (m n chunk lo x at : ℕ) (before marks words marked : List ℕ)
   pub marking : Marking m n lo x (suc trades) marks marked
   pub same : length words ≡ length before
   pub carrying : (u : ℕ) → u < chunk
-      → Carrying (λ h. iter (takes m n) h x) (λ h. iter (takes m n) h (mirror (m * n) x)) trades trades (ofChunks (m * n) chunk u before) (ofChunks (m * n) chunk u words)
+      → Carrying (chain m n x) (chain m n (mirror (m * n) x)) trades trades (ofChunks (m * n) chunk u before) (ofChunks (m * n) chunk u words)
 
 module _ {m n chunk lo x : ℕ} {before marks : List ℕ} (nx : Next m n lo x marks) where
   pub tour-none : {at : ℕ} → at ≡ takes m n x → Tour m n chunk lo x at before marks before marks
@@ -136,7 +132,7 @@ module _ {m n chunk lo x : ℕ} {before marks : List ℕ} (nx : Next m n lo x ma
     third-low {second} e e₂ = omega (arith, e₂, takes-permutes m n .within second (second-low e))
 
     -- below the period the chains differ
-    differ : x < fold (m * n) at → Different (λ h. iter (takes m n) h x) (λ h. iter (takes m n) h (mirror (m * n) x)) (period (pairs m n) (half (m * n)) x) (m * n)
+    differ : x < fold (m * n) at → Different (chain m n x) (chain m n (mirror (m * n) x)) (period (pairs m n) (half (m * n)) x) (m * n)
     differ up = let low = nx .low in let far = at-low in chains-differ m n x (nx .low) (λ e. omega arith)
 
     across-at : mirror (m * n) at ≡ iter (takes m n) (suc (t .trades)) (mirror (m * n) x)
@@ -161,7 +157,7 @@ module _ {m n chunk lo x : ℕ} {before marks : List ℕ} (nx : Next m n lo x ma
               let one = carrying-more (differ up) long (omega (arith, f .before)) (omega (arith, f .before)) (t .carrying u h) in
               let two = carrying-more′ (differ up) long (omega (arith, f .before)) (omega (arith, f .before)) one in
               let y = mirror (m * n) x in
-              subst (Carrying (λ h. iter (takes m n) h x) (λ h. iter (takes m n) h y) (suc T) (suc T) (ofChunks (m * n) chunk u before))
+              subst (Carrying (chain m n x) (chain m n y) (suc T) (suc T) (ofChunks (m * n) chunk u before))
               (sym (moved .done u (omega arith) h ∙ ap₂ (λ (a b : ℕ). swapped (swapped ws x a) y b) (t .is) across-at)) two;
         }
 
@@ -188,7 +184,7 @@ module _ {m n chunk lo x : ℕ} {before marks : List ℕ} (nx : Next m n lo x ma
               let long = length-tab (m * n) _ in
               let one = carrying-three (differ up) long (omega (arith, f₄ .before)) (omega (arith, f₄ .before)) (t .carrying u h) in
               let two = carrying-three′ (differ up) long (omega (arith, f₄ .before)) (omega (arith, f₄ .before)) one in
-              subst (Carrying (λ h. iter (takes m n) h x) (λ h. iter (takes m n) h (mirror (m * n) x)) (suc (suc (suc T))) (suc (suc (suc T))) (ofChunks (m * n) chunk u before))
+              subst (Carrying (chain m n x) (chain m n (mirror (m * n) x)) (suc (suc (suc T))) (suc (suc (suc T))) (ofChunks (m * n) chunk u before))
               (sym (moved .done u (omega arith) h ∙ placed (ofChunks (m * n) chunk u words) is₂ is₃)) two;
         }
       where
@@ -221,13 +217,13 @@ module _ {m n chunk lo x : ℕ} {before marks : List ℕ} (nx : Next m n lo x ma
       all = home-whole (pairs-permute m n) x (nx .low) (t .followed) pair-home
 
       toured : {after : List ℕ} → length after ≡ length words
-          → ((u : ℕ) → u < chunk → Carried (λ h. iter (takes m n) h x) (λ h. iter (takes m n) h (mirror (m * n) x)) (suc (t .trades)) (ofChunks (m * n) chunk u before) (ofChunks (m * n) chunk u after))
+          → ((u : ℕ) → u < chunk → Carried (chain m n x) (chain m n (mirror (m * n) x)) (suc (t .trades)) (ofChunks (m * n) chunk u before) (ofChunks (m * n) chunk u after))
           → Toured m n chunk lo x before marks after marked
       toured {after} same carried = record {
         same = same ∙ t .same;
         each = λ u h.
             pairs-gone m n x (nx .low)
-            (subst (λ (c : ℕ). Carried (λ h. iter (takes m n) h x) (λ h. iter (takes m n) h (mirror (m * n) x)) c (ofChunks (m * n) chunk u before) (ofChunks (m * n) chunk u after)) all (carried u h));
+            (subst (λ (c : ℕ). Carried (chain m n x) (chain m n (mirror (m * n) x)) c (ofChunks (m * n) chunk u before) (ofChunks (m * n) chunk u after)) all (carried u h));
         same-marks = t .marking .same;
         known = tour-known nx (t .followed) (t .marking) all;
       }
@@ -245,8 +241,8 @@ module _ {m n chunk lo x : ℕ} {before marks : List ℕ} (nx : Next m n lo x ma
           let far = at-low in
           let told = pair-home in
           let cross : at ≡ mirror (m * n) x = omega arith in
-          let diff = subst (λ (c : ℕ). Different (λ h. iter (takes m n) h x) (λ h. iter (takes m n) h (mirror (m * n) x)) c (m * n)) (sym all)
+          let diff = subst (λ (c : ℕ). Different (chain m n x) (chain m n (mirror (m * n) x)) c (m * n)) (sym all)
           (chains-differ m n x (nx .low) (λ e. away (cross ∙ sym e))) in
           toured (moved .same) (λ u h.
-          subst (Carried (λ h. iter (takes m n) h x) (λ h. iter (takes m n) h (mirror (m * n) x)) (suc (t .trades)) (ofChunks (m * n) chunk u before)) (sym (moved .done u (omega arith) h))
+          subst (Carried (chain m n x) (chain m n (mirror (m * n) x)) (suc (t .trades)) (ofChunks (m * n) chunk u before)) (sym (moved .done u (omega arith) h))
           (carried-crossed diff (length-tab (m * n) _) (sym (t .is) ∙ cross) (sym across-at ∙ omega arith) (t .carrying u h)))
