@@ -17,7 +17,7 @@ use Rattle.lists.proofs.Decide.{eq-or-ne}
 use Rattle.layout.specs.Layout.{pick, Laid}
 use Rattle.orders.specs.Chains.{follow, named}
 use Rattle.orders.specs.Numbers.{orderCount, orderOf, numberOf}
-use Rattle.orders.specs.Releases.{orderBy, numberBy}
+use Rattle.orders.specs.Releases.{orderBy, numberBy, LaidBy}
 use Rattle.orders.specs.Plans.{planPlaces}
 use Rattle.orders.specs.Needs.{chainNeed, planNeed}
 use Rattle.orders.proofs.Chains.{pick-named, follow-append, follow-home, joined, length-follow}
@@ -26,6 +26,7 @@ use Rattle.orders.proofs.Numbers.{number-below, order-number}
 use Rattle.orders.proofs.Needs.{need-append, need-back}
 use Rattle.orders.proofs.PlanNeeds.{plan-least}
 use Rattle.orders.proofs.Releases.{by-order, by-first}
+use Rattle.orders.proofs.Goes.{laid-by}
 use Rattle.refusals.specs.FirstOf.{Check, check, firstOf}
 use Rattle.refusals.specs.Conditions.{shortScratch, badSwap, noRelease}
 use Rattle.refusals.specs.Calls.{chainChecks, requestChecks, namedChecks}
@@ -40,7 +41,7 @@ use Rattle.axes.specs.Answers.{fiveLengths}
 use Rattle.axes.specs.Private.{askedFor}
 use Rattle.axes.specs.Promises.{ChainPromise, RequestPromise}
 use Rattle.axes.proofs.Five.{first-of-five}
-use Rattle.axes.proofs.Accepted.{ChainAccepted, accepts-chain, block-zero, chain-zero, next-accepted, joined-accepted, back-accepted, by-last, no-order-false}
+use Rattle.axes.proofs.Accepted.{ChainAccepted, accepts-chain, block-zero, chain-zero, next-accepted, joined-accepted, back-accepted, by-last, no-order-false, request-order}
 use Rattle.axes.proofs.Calls.{request-of-chain, request-by}
 use Rattle.axes.proofs.OneOutcome.{request-once}
 
@@ -292,6 +293,12 @@ module _ {r : ℕ} {ds xs ss : List ℕ} {k : ℕ} {plan : Planned} {a a′ : An
   pub plan-leaves-words : {ss′ : List ℕ} → ChainPromise r ds (take (plan .len) (plan .swaps)) xs ss′ a′ zs us → planNeed r ds 1 k ≤ length ss
       → planNeed r ds 1 k ≤ length ss′ → (a ≡ a′) × (ys ≡ zs)
   plan-leaves-words c h h′ = request-words axes q (request-of-chain few p z c) h h′
+
+-- the words of a request are what its number says by its release: in release 2 each axis has gone where the order of the number says
+pub said : {r : ℕ} {ds xs ss : List ℕ} {release k : ℕ} {a : Answer} {ys ts : List ℕ} → length ds ≡ r → RequestPromise r ds release k xs ss a ys ts
+    → a .number ≡ 0 → LaidBy r release k ds xs ys
+said {r} {ds} {xs} {ss} {release} {k} axes q e =
+    laid-by r k (request-order r ds xs ss release k (sym (q .block .number-is) ∙ e)) release axes .1 (q .block .words e)
 
 -- either release: a request leaves what the request for the release 1 number of its order leaves, and what the chain of that order's plan leaves;
 -- all but the number in the answer, which is the one that was asked for

@@ -14,6 +14,8 @@ pub mod Listed
 pub mod Distinct
 -- orders by number, either way
 pub mod Numbers
+-- the orders by number are in dictionary order
+pub mod Dictionary
 -- two neighbouring labels exchanged, and a swap at the front of a chain
 pub mod Relabels
 -- what exchanging two labels does to the count of falling pairs
@@ -28,3 +30,5 @@ pub mod Needs
 pub mod PlanNeeds
 -- the order that a number names by its release: both releases describe the same words, the numbers determine each other, needs and plans are alike
 pub mod Releases
+-- release 2 as it is said, by where each axis goes: its words are those of one release 1 number
+pub mod Goes

@@ -47,7 +47,7 @@ pub order-number : (r : ℕ) (c : List ℕ) → orderOf r (numberOf r (named r c
 unfolding numberOf orderOf Ranked
 order-number r c = named-ranked r c .1
 
-at-place : (ps : List (List ℕ)) (k : ℕ) → k < length ps → List·Memᴰ (getD ps k []) ps
+pub at-place : (ps : List (List ℕ)) (k : ℕ) → k < length ps → List·Memᴰ (getD ps k []) ps
 at-place [] k h = absurd (not-suc-le-zero h)
 at-place (p ∷ ps) zero h = List·Memᴰ·head refl
 at-place (p ∷ ps) (suc k) h = List·Memᴰ·tail (at-place ps k (le-of-suc-le-suc h))
