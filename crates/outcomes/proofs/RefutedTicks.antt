@@ -9,10 +9,10 @@ use Rattle.layout.specs.Layout.{volume}
 use Rattle.numbers.specs.Gcd.{gcdOf, euclid}
 use Rattle.refusals.specs.FirstOf.{firstOf}
 use Rattle.refusals.specs.Conditions.{longest}
-use Rattle.flat.specs.Passes.{row1, column2, row3}
+use Rattle.flat.specs.Passes.{row1}
 use Rattle.passes.specs.declared.Ticked.{Ticked}
 use Rattle.passes.specs.declared.LineCount.{LineCount}
-use Rattle.passes.specs.Lines.{lineAt, skipped}
+use Rattle.passes.specs.Lines.{skipped}
 use Rattle.passes.specs.Ticks.{tickChecks, TickPromise, LinesPromise}
 use Rattle.outcomes.proofs.Wrong.{other-number, other-list, refuses, Broken, broken}
 
@@ -33,13 +33,13 @@ refuses-always p = refuses (p .block)
 
 -- one that moves nothing: column 1 of pass 1 stays
 pub moves-nothing : Leaves 1 (0 ∷ 1 ∷ 2 ∷ 3 ∷ []) (ticked 0 2) (0 ∷ 1 ∷ 2 ∷ 3 ∷ []) → ⊥
-unfolding lineAt skipped gcdOf euclid row1 column2 row3
-moves-nothing p = other-number (p .block .words refl .moved (lit< tt) .placed 0 (lit< tt)) tt
+unfolding gcdOf euclid row1
+moves-nothing p = other-number (p .block .words refl .pass-1 (lit< tt) .receives 0 (lit< tt)) tt
 
 -- two lines a call: both columns of pass 3 at line 4, and the record two further
 pub two-lines-a-call : Leaves 4 (0 ∷ 3 ∷ 1 ∷ 2 ∷ []) (ticked 0 5) (0 ∷ 2 ∷ 1 ∷ 3 ∷ []) → ⊥
-unfolding lineAt skipped gcdOf euclid row1 column2 row3
-two-lines-a-call p = other-number (p .block .words refl .moved (lit< tt) .others 1 (λ k h e. omega arith)) tt
+unfolding gcdOf euclid
+two-lines-a-call p = other-number (p .block .words refl .pass-3 0 (lit< tt) refl .stands 0 1 (lit< tt) (lit< tt) (λ e. omega arith)) tt
 
 pub two-lines-counted : {b : List ℕ} → Leaves 1 (0 ∷ 1 ∷ 2 ∷ 3 ∷ []) (ticked 0 3) b → ⊥
 unfolding skipped gcdOf euclid
@@ -47,13 +47,13 @@ two-lines-counted p = other-number (p .given refl) tt
 
 -- pass 3 before pass 2: line 3 is row 1, and not column 1
 pub pass-3-before-pass-2 : Leaves 3 (0 ∷ 3 ∷ 2 ∷ 1 ∷ []) (ticked 0 4) (0 ∷ 1 ∷ 2 ∷ 3 ∷ []) → ⊥
-unfolding lineAt skipped gcdOf euclid row1 column2 row3
-pass-3-before-pass-2 p = other-number (p .block .words refl .moved (lit< tt) .others 1 (λ k h e. omega arith)) tt
+unfolding gcdOf euclid
+pass-3-before-pass-2 p = other-number (p .block .words refl .pass-2 1 (lit< tt) refl .stands 0 1 (lit< tt) (lit< tt) (λ e. omega arith)) tt
 
 -- a line moved where none is left, and the record advanced past the count
 pub moved-at-the-count : Leaves 6 (0 ∷ 2 ∷ 1 ∷ 3 ∷ []) (ticked 0 6) (0 ∷ 3 ∷ 1 ∷ 2 ∷ []) → ⊥
-unfolding skipped gcdOf euclid
-moved-at-the-count p = other-list (p .block .words refl .still (lit< tt)) tt
+unfolding gcdOf euclid
+moved-at-the-count p = other-list (p .block .words refl .none-left (lit< tt)) tt
 
 pub counted-past-the-count : {b : List ℕ} → Leaves 6 (0 ∷ 2 ∷ 1 ∷ 3 ∷ []) (ticked 0 7) b → ⊥
 unfolding skipped gcdOf euclid

@@ -20,6 +20,8 @@ pub mod Fits
 pub mod Going
 -- what the checks of the flat calls tell, and what the turn and the cleared scratch are then
 pub mod Accepted
+-- the line of a tick in the words of documents 01 and 02
+pub mod Plain
 -- one line a tick: refused, a line moved, none left
 pub mod Ticks
 -- what the functions of a mapped turn store is what its stages say

@@ -20,11 +20,12 @@ use Rattle.refusals.proofs.Promise.{one-outcome}
 use Rattle.flat.specs.Turn.{sides}
 use Rattle.passes.specs.Lines.{Moved, lineCount, paired, toPlace}
 use Rattle.passes.specs.ThroughScratch.{Fits}
-use Rattle.passes.specs.Ticks.{LineTicked, TickPromise, LinesPromise}
+use Rattle.passes.specs.Plain.{LineTicked}
+use Rattle.passes.specs.Ticks.{TickPromise, LinesPromise}
 use Rattle.passes.specs.declared.line.Line.{Line}
 use Rattle.passes.specs.declared.Ticked.{Ticked}
 use Rattle.passes.specs.declared.LineCount.{LineCount}
-use Rattle.passes.proofs.Ticks.{flat-passed, line-there}
+use Rattle.passes.proofs.Ticks.{flat-passed, line-there, stepped}
 
 -- a map that permutes the places of a line leaves none out
 pub reached : {N : ℕ} {f : ℕ → ℕ} → Permutes N f → (x : ℕ) → x < N → (k : ℕ) × (k < N) × (f k ≡ x)
@@ -65,7 +66,9 @@ line-permutes {m} {n} {l} f = go (eqb (l .pass) 2)
 
 module _ {m n done : ℕ} {b₀ : List ℕ} where
   pub one-line : (s₀ : List ℕ) → firstOf (passesChecks (sides m n) b₀ s₀) ≡ 0 → (ys zs : List ℕ) → LineTicked m n done b₀ ys → LineTicked m n done b₀ zs → ys ≡ zs
-  one-line s₀ good ys zs f g =
+  one-line s₀ good ys zs p q =
+      let f = stepped m n done b₀ s₀ good p in
+      let g = stepped m n done b₀ s₀ good q in
       ⊎-elim
       (λ (h : done < lineCount m n). one-move (line-permutes (line-there m n done b₀ s₀ good h)) (f .moved h) (g .moved h))
       (λ (h : lineCount m n ≤ done). f .still h ∙ sym (g .still h))

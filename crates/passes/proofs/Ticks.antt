@@ -16,12 +16,14 @@ use Rattle.refusals.proofs.Promise as promise
 use Rattle.flat.specs.Turn.{sides}
 use Rattle.passes.specs.Lines.{skipped, lineCount, lineOf, LineMoved}
 use Rattle.passes.specs.ThroughScratch.{Grouped, Lies, Past, Fits}
+use Rattle.passes.specs.Plain.{LineTicked}
 use Rattle.passes.specs.Ticks.{pastCount, tickChecks, TickPromise}
 use Rattle.passes.specs.declared.line.GroupedSides.{GroupedSides}
 use Rattle.passes.proofs.Accepted.{flat-accepted, flat-lies, flat-asked, past-cleared}
 use Rattle.passes.proofs.Fits.{line-fits, past-none, past-more}
 use Rattle.passes.proofs.Strided.{skipped-few}
 use Rattle.passes.proofs.Going.{going-fits, going-short}
+use Rattle.passes.proofs.Plain.{Stepped, plain-ticked}
 
 -- sides that pass the checks of a block's size
 pub sized-sides : (m n : ℕ) → firstOf (sizeChecks (sides m n)) ≡ 0 → (0 < m) × (0 < n) × (m ≤ 4096) × (n ≤ 4096)
@@ -55,11 +57,15 @@ module _ (m n done : ℕ) (b sc : List ℕ) where
     pub in-time : done ≤ lineCount m n → firstOf (tickChecks m n done b sc) ≡ 0
     in-time h = decided ∙ rw (le-ltb (lineCount m n) done h)
 
+    -- what a tick leaves, in plain words
+    plainly : {b′ : List ℕ} → Stepped m n done b b′ → LineTicked m n done b b′
+    plainly {b′} s = let a = flat-accepted m n b sc good in plain-ticked m n done b b′ (a .n-pos) (a .exact) .1 s
+
     -- no line is left: nothing has moved, and scratch is cleared
     pub none-left : {sc′ : List ℕ} → done ≡ lineCount m n → sc′ ≡ cleared (need (sides m n)) sc
         → TickPromise m n done b sc (record { number = 0; done = done }) b sc′
     none-left e z = record {
-      block = promise.accepted (in-time (omega arith)) (record { moved = λ h. absurd (omega arith); still = λ _. refl }) z;
+      block = promise.accepted (in-time (omega arith)) (plainly (record { moved = λ h. absurd (omega arith); still = λ _. refl })) z;
       given = λ _. rw (le-ltb done (lineCount m n) (omega arith));
       refusal = λ k. absurd (k refl);
     }
@@ -68,7 +74,7 @@ module _ (m n done : ℕ) (b sc : List ℕ) where
     pub one-moved : {b′ sc₁ sc′ : List ℕ} → done < lineCount m n → LineMoved m n (lineOf m n 0 1 done) b b′ → Past (need (sides m n)) sc sc₁
         → sc′ ≡ cleared (need (sides m n)) sc₁ → TickPromise m n done b sc (record { number = 0; done = done + 1 }) b′ sc′
     one-moved h l p z = record {
-      block = promise.accepted (in-time (omega arith)) (record { moved = λ _. l; still = λ k. absurd (omega arith) }) (z ∙ past-cleared p);
+      block = promise.accepted (in-time (omega arith)) (plainly (record { moved = λ _. l; still = λ k. absurd (omega arith) })) (z ∙ past-cleared p);
       given = λ _. rw (lt-ltb done (lineCount m n) h);
       refusal = λ k. absurd (k refl);
     }
@@ -99,3 +105,7 @@ module _ (m n done : ℕ) (b sc : List ℕ) where
   line-there good h =
       let a = flat-accepted m n b sc good in
       line-fits (a .m-pos) (a .n-pos) (flat-lies a) (skipped m n + done) (omega (arith, skipped-few m n (a .m-pos) (a .n-pos)))
+
+  -- and what it leaves, as the functions have it
+  pub stepped : {b′ : List ℕ} → firstOf (passesChecks (sides m n) b sc) ≡ 0 → LineTicked m n done b b′ → Stepped m n done b b′
+  stepped {b′} good t = let a = flat-accepted m n b sc good in plain-ticked m n done b b′ (a .n-pos) (a .exact) .0 t

@@ -4,3 +4,4 @@ pub mod Promises
 pub mod Ticks
 pub mod Restart
 pub mod Chunks
+pub mod Plain

@@ -2,14 +2,15 @@
 use mathlib.Core.Bool.{Bool, cond}
 use mathlib.Core.Path.{_≡_}
 use mathlib.Core.List.{List, [], _∷_, _++_}
-use Prim.Native.Nat.{ℕ, _+_, _<_, _≤_}
+use Prim.Native.Nat.{ℕ, _+_}
 use lib.Dec.{ltb}
 use Rattle.refusals.specs.FirstOf.{Check, check, firstOf}
 use Rattle.refusals.specs.Calls.{sizeChecks, passesChecks}
 use Rattle.refusals.specs.Scratch.{need}
 use Rattle.refusals.specs.Promise.{Rearranged}
 use Rattle.flat.specs.Turn.{sides}
-use Rattle.passes.specs.Lines.{lineCount, lineOf, LineMoved}
+use Rattle.passes.specs.Lines.{lineCount}
+use Rattle.passes.specs.Plain.{LineTicked}
 use Rattle.passes.specs.declared.LineCount.{LineCount}
 use Rattle.passes.specs.declared.Ticked.{Ticked}
 
@@ -26,11 +27,6 @@ pastCount m n done = ltb (lineCount m n) done
 -- one line a tick: 1, 2, 3, 13, 4, 12
 abbrev pub tickChecks : ℕ → ℕ → ℕ → List ℕ → List ℕ → List Check
 tickChecks m n done buffer scratch = passesChecks (sides m n) buffer scratch ++ (check 12 (pastCount m n done) ∷ [])
-
--- the line that the lines done name has moved as its pass says, and every other word stands; where none is left, every word stands
-pub record LineTicked (m n done : ℕ) (xs ys : List ℕ) : Type 0 where
-  pub moved : done < lineCount m n → LineMoved m n (lineOf m n 0 1 done) xs ys
-  pub still : lineCount m n ≤ done → ys ≡ xs
 
 -- the lines done afterwards: one more, if one was left
 abbrev pub doneAfter : ℕ → ℕ → ℕ → ℕ

@@ -17,7 +17,8 @@ use Rattle.passes.proofs.Ran.{Ran, ran-more}
 use Rattle.passes.proofs.Ran.Ran.{done}
 use Rattle.passes.proofs.Strided.{LineStep, skipped-le, skipped-few, lines-turn}
 use Rattle.passes.proofs.Accepted.{Accepted, flat-accepted, flat-turned}
-use Rattle.passes.proofs.Ticks.{flat-passed, in-time}
+use Rattle.passes.proofs.Plain.{plain-count, Stepped}
+use Rattle.passes.proofs.Ticks.{flat-passed, in-time, stepped}
 use Rattle.ticks.specs.Steps.{StepPromise}
 use Rattle.ticks.specs.Runs.{Run}
 use Rattle.ticks.specs.Runs.Run.{begun, accepted, refused}
@@ -31,6 +32,10 @@ module _ {m n : ℕ} where
   -- what an accepted call found
   sound : {before after : LineRecord} {ys ss zs ts : List ℕ} → StepPromise m n before ys ss 0 after zs ts → Accepted m n ys ss
   sound {before} {ys = ys} {ss} p = flat-accepted m n ys ss (flat-passed m n (before .done) ys ss (sym (p .block .number-is)))
+
+  -- and what it left
+  left : {before after : LineRecord} {ys ss zs ts : List ℕ} → StepPromise m n before ys ss 0 after zs ts → Stepped m n (before .done) ys zs
+  left {before} {ys = ys} {ss} p = stepped m n (before .done) ys ss (flat-passed m n (before .done) ys ss (sym (p .block .number-is))) (p .block .words refl)
 
   -- after one more accepted call one more line is done, if one was left
   counted : {before after : LineRecord} {ys ss zs ts : List ℕ} (k : ℕ) → StepPromise m n before ys ss 0 after zs ts → before .done ≡ min k (lineCount m n)
@@ -64,10 +69,10 @@ module _ {m n : ℕ} where
       (λ (h : before .done < lineCount m n).
       let next : after .done ≡ before .done + 1 = p .given refl ∙ rw (lt-ltb (before .done) (lineCount m n) h) in
       let e : suc (skipped m n + before .done) ≡ skipped m n + after .done = omega arith in
-      subst (λ (d : ℕ). Ran (LineStep m n 0 1) d (skipped m n) xs zs) e (ran-more r (p .block .words refl .moved h)))
+      subst (λ (d : ℕ). Ran (LineStep m n 0 1) d (skipped m n) xs zs) e (ran-more r (left p .moved h)))
       (λ (h : lineCount m n ≤ before .done).
       let e : before .done ≡ after .done = sym (p .given refl ∙ rw (le-ltb (before .done) (lineCount m n) h)) in
-      rw (← e, p .block .words refl .still h) r)
+      rw (← e, left p .still h) r)
       (lt-or-ge (before .done) (lineCount m n))
 
   run-through : {xs : List ℕ} {k : ℕ} {r : LineRecord} {ys : List ℕ} → Run m n xs k r ys → Through m n xs (r .done) ys
@@ -92,7 +97,7 @@ module _ {m n : ℕ} where
   run-over {r = r} run h {number} p =
       let full : lineCount m n ≤ r .done = omega (arith, run-record run) in
       ⊎-elim
-      (λ (z : number ≡ 0). (p .block .words z .still full, p .given z ∙ rw (le-ltb (r .done) (lineCount m n) full)))
+      (λ (z : number ≡ 0). (p .block .words z .none-left (rw (plain-count m n) at full), p .given z ∙ rw (le-ltb (r .done) (lineCount m n) full)))
       (λ (z : number ≡ 0 → ⊥). (p .block .kept z .0, p .refusal z))
       (eq-or-ne number 0)
 
