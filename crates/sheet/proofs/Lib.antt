@@ -16,3 +16,5 @@ pub mod OneOutcome
 pub mod RightSheets
 -- a result sheet is accepted exactly when it is right; where it is refused, the place is the first line at fault
 pub mod RightResults
+-- exactly when each reader answers a number other than 0, and with which place
+pub mod Refused

@@ -14,7 +14,7 @@ use Rattle.text.specs.Sheet.{orderNumbers}
 use Rattle.text.specs.Meaning.{Outcome, lineRelease, lineOrder, resultMeaning}
 use Rattle.text.proofs.SecondLines.{RightResult, result-exactly}
 use Rattle.text.proofs.Bounds.{Within, result-within}
-use Rattle.text.proofs.Faults.{ResultFault, result-fault}
+use Rattle.text.proofs.Refused.{RefusedResult, refused-result-exactly}
 use Rattle.sheet.specs.declared.ResultSheet.{ResultSheet}
 use Rattle.sheet.specs.Reader.{kept}
 use Rattle.sheet.specs.ResultReader.{resultAnswer, ResultReadAs}
@@ -73,11 +73,11 @@ read-is-right {buffer} {bytes} {r} {w} p z = by (resultMeaning buffer bytes) ref
     by (Outcome.accepted ds ns words) m Within.accepted =
         accepted-right (result-exactly buffer bytes ds ns words .0 m) (answered p m) (stored p m)
 
--- one that is refused: its place is the first line at fault in the reading order, and no word is stored
+-- one that is refused: the condition of its number holds at its place, every step before it in the reading order having gone on, and no word is stored
 pub refused-at : {buffer bytes : List ℕ} {r : ResultSheet} {w : List ℕ} → ResultReadAs buffer bytes r w → (r .number ≡ 0 → ⊥)
-    → ResultFault buffer bytes (r .number) (r .place) × (w ≡ buffer)
+    → RefusedResult buffer bytes (r .number) (r .place) × (w ≡ buffer)
 refused-at {buffer} {bytes} {r} {w} p n = by (resultMeaning buffer bytes) refl
   where
-    by : (o : Outcome) → resultMeaning buffer bytes ≡ o → ResultFault buffer bytes (r .number) (r .place) × (w ≡ buffer)
-    by (Outcome.refused number place) m = rw (answered p m) (result-fault buffer bytes m, stored p m)
+    by : (o : Outcome) → resultMeaning buffer bytes ≡ o → RefusedResult buffer bytes (r .number) (r .place) × (w ≡ buffer)
+    by (Outcome.refused number place) m = rw (answered p m) (refused-result-exactly buffer bytes number place .0 m, stored p m)
     by (Outcome.accepted ds ns words) m = absurd (n (ap (λ (s : ResultSheet). s .number) (answered p m)))

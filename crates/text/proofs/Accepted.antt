@@ -62,7 +62,7 @@ shape-read buffer bytes {ds} {rest} e =
       room = ltb-false (length buffer) (volume es) (f₃ .0);
     }))
 
-read-shape : {buffer bytes ds rest : List ℕ} → ShapeRead buffer bytes ds rest → shapeLine buffer bytes ≡ Verdict.go ds rest
+pub read-shape : {buffer bytes ds rest : List ℕ} → ShapeRead buffer bytes ds rest → shapeLine buffer bytes ≡ Verdict.go ds rest
 unfolding shapeLine
 read-shape {buffer} {bytes} {ds} {rest} h =
     rw (

@@ -14,8 +14,8 @@ pub mod Rows
 pub mod Accepted
 -- the second lines of a sheet and of a result sheet, and which of the two are accepted
 pub mod SecondLines
--- the place of a refusal of a result sheet is the first line at fault
-pub mod Faults
+-- exactly when a sheet is refused, with which number and at which place
+pub mod Refused
 -- the result sheet of 1,024 words has at most 16,384 bytes
 pub mod Length
 -- a refusal's number and place fit a line of a sheet

@@ -45,7 +45,7 @@ chain-stands bytes {chain} {rest} e =
     ))
 
 -- the tabs before the LF of line 2 are its numbers
-chain-tabs : (chain rest : List ℕ) → length chain ≡ tabs (line chainWord chain ++ rest)
+pub chain-tabs : (chain rest : List ℕ) → length chain ≡ tabs (line chainWord chain ++ rest)
 unfolding tabs
 chain-tabs chain rest = rw (line-then chainWord chain rest) (sym (tabs-fields chain rest))
 
@@ -114,7 +114,7 @@ order-stands bytes {ns} {rest} e =
     rw (← a, ← b) (h .bytes, one-or-two (eqb (tabs bytes) 2) c (h .long) (f₁ .0) (ltb-false 23 (lineOrder c) (f₂ .0))))
 
 -- the tabs before the LF of that line are its numbers too
-order-tabs : (ns rest : List ℕ) → length ns ≡ tabs (line orderWord ns ++ rest)
+pub order-tabs : (ns rest : List ℕ) → length ns ≡ tabs (line orderWord ns ++ rest)
 unfolding tabs
 order-tabs ns rest = rw (line-then orderWord ns rest) (sym (tabs-fields ns rest))
 
