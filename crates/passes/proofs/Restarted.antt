@@ -1,12 +1,14 @@
--- Restart: a mapped turn begun at progress 0, stopped by any run of budgets and gone on with, leaves the flat turn once a budget is enough.
--- Every call of the run is accepted, so it leaves what `run` of crate stages leaves; its stages can be begun again; and uncut they
--- move the lines of the turn one after the other. A budget of 10,000,000 is enough from every stage on.
+-- Restart: a mapped turn begun at progress 0, stopped in any way that keeps the order of stages and gone on with, leaves the flat turn once a budget is
+-- enough. Its stages can be begun again, and uncut they move the lines of the turn one after the other. A call with any budget is such a stop, and a
+-- budget of 10,000,000 is enough from every stage on.
 use mathlib.Core.Path.{_≡_, refl, sym, ap, _∙_, subst}
 use mathlib.Core.List.{List}
+use mathlib.Core.Logic.{⊎-elim}
 use Prim.Native.Nat.{ℕ, suc, _+_, _*_, _<_, _≤_}
 use native.Mathlib.Omega.{arith}
 use native.Mathlib.Nat.{eq-of-mul-eq-mul-left}
-use lib.ListN.{length, take}
+use lib.ListN.{length}
+use Rattle.lists.proofs.Decide.{eq-or-ne}
 use Rattle.refusals.specs.FirstOf.{firstOf}
 use Rattle.refusals.specs.Calls.{blockChecks, passesChecks}
 use Rattle.refusals.specs.Scratch.{cleared}
@@ -14,14 +16,14 @@ use Rattle.refusals.proofs.Calls.{block-good, room-passed}
 use Rattle.flat.specs.Turn.{sides}
 use Rattle.flat.proofs.Turn.{one-turn}
 use Rattle.flat.proofs.Sides.{Sides, sides-are}
-use Rattle.stages.specs.Stages.{Memory, remaining, call, finish, run}
+use Rattle.stages.specs.Stages.{Memory, remaining, finish}
 use Rattle.stages.specs.Lines.{stagesOf}
-use Rattle.stages.specs.Stops.{Stops}
-use Rattle.stages.proofs.Stores.{after-long}
+use Rattle.stages.specs.Stops.{Stop, Stops}
+use Rattle.stages.specs.Stops.Stop.{still}
+use Rattle.stages.specs.Stops.Stops.{never, again}
 use Rattle.stages.proofs.Calls.{call-done, call-enough, finish-counts}
 use Rattle.stages.proofs.Lines.{steady}
-use Rattle.stages.proofs.Restart.{call-within, restart}
-use Rattle.stages.proofs.Stops.{loose, stops-resumed, stops-within, stops-long}
+use Rattle.stages.proofs.Stops.{restart-from, stops-within, stops-long, call-stop}
 use Rattle.stages.proofs.Moves as moves
 use Rattle.passes.specs.Lines.{Moved, lineCount, lineOf, skipped, posOn, received, LineMoved}
 use Rattle.passes.specs.ThroughScratch.{Fits}
@@ -36,11 +38,6 @@ use Rattle.passes.proofs.Ran.{Ran, ran-more}
 use Rattle.passes.proofs.Ran.Ran.{done}
 use Rattle.passes.proofs.Stores.{at-most}
 use Rattle.passes.proofs.Resumed.{flat-passed, in-range, within-range}
-
--- a memory that a call of the turn of m by n accepts
-record Good (m n : ℕ) (x : Memory) : Type 0 where
-  pub flat : firstOf (passesChecks (sides m n) (x .buffer) (x .scratch)) ≡ 0
-  pub few : x .progress ≤ lineCount m n * 2 + 1
 
 -- from every stage on 10,000,000 stores are enough
 pub enough : (m n : ℕ) (x : Memory) → firstOf (resumeChecks m n x) ≡ 0 → length (remaining (turnStages m n) x) ≤ 10000000
@@ -57,29 +54,17 @@ same-lengths m n x y e f good =
     sym (room-passed (sides m n) (y .buffer) (y .scratch) block (rw f (a .room)))
 
 module _ {m n : ℕ} where
-  good-accepted : {x : Memory} → Good m n x → firstOf (resumeChecks m n x) ≡ 0
-  good-accepted {x} g = in-range m n x (g .flat) (g .few)
+  -- a call is a stop of which the order of stages is kept, whether it is refused, stopped by its budget or neither
+  pub resume-stop : {b r : ℕ} {x y : Memory} → ResumePromise m n b x r y → Stop (turnStages m n) x y
+  resume-stop {b} {r} {x} p =
+      ⊎-elim
+      (λ (z : r ≡ 0). subst (Stop (turnStages m n) x) (sym (p .stored z)) (call-stop (steady (turnLines m n)) x b))
+      (λ (z : r ≡ 0 → ⊥). subst (Stop (turnStages m n) x) (sym (p .kept z)) still)
+      (eq-or-ne r 0)
 
-  accepted-good : (x : Memory) → firstOf (resumeChecks m n x) ≡ 0 → Good m n x
-  accepted-good x e = record { flat = flat-passed m n x e; few = within-range m n x e }
-
-  -- stores change no length
-  good-call : (b : ℕ) {x : Memory} → Good m n x → Good m n (call (turnStages m n) b x)
-  unfolding stagesOf
-  good-call b {x} g =
-      let long = after-long (take b (remaining (turnStages m n) x)) x in
-      record {
-        flat = same-lengths m n x (call (turnStages m n) b x) (long .0) (long .1) (g .flat);
-        few = call-within (steady (turnLines m n)) x b (g .few);
-      }
-
-  -- every call of a run is accepted
-  restarts-run : {bs : List ℕ} {x y : Memory} → Good m n x → Restarts m n bs x y → (y ≡ run (turnStages m n) bs x) × Good m n y
-  restarts-run g none = (refl, g)
-  restarts-run {x = x} g (more {b = b} {bs = bs} {y = y} {z = z} p r) =
-      let e : y ≡ call (turnStages m n) b x = p .stored (p .number-is ∙ good-accepted g) in
-      let i = restarts-run (subst (Good m n) (sym e) (good-call b g)) r in
-      (i .0 ∙ ap (run (turnStages m n) bs) e, i .1)
+  restarts-stops : {bs : List ℕ} {x y : Memory} → Restarts m n bs x y → Stops (turnStages m n) x y
+  restarts-stops none = never
+  restarts-stops (more p r) = again (resume-stop p) (restarts-stops r)
 
   module _ {b₀ sc₀ : List ℕ} (a : Accepted m n b₀ sc₀) where
     flat-sides : Sides m n
@@ -125,31 +110,25 @@ module _ {m n : ℕ} where
           counted = e .counted;
         }
 
-  -- after any run of budgets from progress 0, one that is enough for what then remains finishes the turn, with the very words of an uncut one
-  pub restarted : {bs : List ℕ} {b r : ℕ} {b₀ sc₀ : List ℕ} {x y : Memory} → firstOf (passesChecks (sides m n) b₀ sc₀) ≡ 0
-      → Restarts m n bs (memory b₀ sc₀ 0) x → ResumePromise m n b x r y → length (remaining (turnStages m n) x) ≤ b
-      → (r ≡ 0) × (y ≡ finish (turnStages m n) (memory b₀ sc₀ 0)) × Finished m n b₀ sc₀ y
-  restarted {bs} {b} {r} {b₀} {sc₀} {x} {y} good rs p enough =
-      let i = restarts-run (record { flat = good; few = omega arith }) rs in
-      let z : r ≡ 0 = p .number-is ∙ good-accepted (i .1) in
-      let h : length (remaining (turnStages m n) (run (turnStages m n) bs (memory b₀ sc₀ 0))) ≤ b = rw (i .0) at enough in
-      let e : y ≡ finish (turnStages m n) (memory b₀ sc₀ 0) =
-      p .stored z ∙ ap (call (turnStages m n) b) (i .0) ∙ restart (steady (turnLines m n)) bs b (memory b₀ sc₀ 0) h in
-      (z, e, subst (Finished m n b₀ sc₀) (sym e) (uncut (flat-accepted m n b₀ sc₀ good)))
-
-  -- the same where the stops kept no order within a stage, as a machine may
+  -- after any stops of which the machine kept the order of stages alone, whatever stands at the places of the stage that was begun, a call whose budget is
+  -- enough for what then remains finishes the turn, with the very words of an uncut one
   pub restarted-from : {b r : ℕ} {b₀ sc₀ : List ℕ} {x y : Memory} → firstOf (passesChecks (sides m n) b₀ sc₀) ≡ 0
-      → Stops (turnStages m n) (memory b₀ sc₀ 0) x → ResumePromise m n b x r y → 10000000 ≤ b
+      → Stops (turnStages m n) (memory b₀ sc₀ 0) x → ResumePromise m n b x r y → length (remaining (turnStages m n) x) ≤ b
       → (r ≡ 0) × (y ≡ finish (turnStages m n) (memory b₀ sc₀ 0)) × Finished m n b₀ sc₀ y
   unfolding stagesOf
   restarted-from {b} {r} {b₀} {sc₀} {x} {y} good stops p h =
       let long = stops-long stops in
       let flat = same-lengths m n (memory b₀ sc₀ 0) x (long .0) (long .1) good in
-      let few : x .progress ≤ lineCount m n * 2 + 1 = stops-within (loose (turnLines m n)) stops (omega arith) in
+      let few : x .progress ≤ lineCount m n * 2 + 1 = stops-within stops (omega arith) in
       let z : r ≡ 0 = p .number-is ∙ in-range m n x flat few in
-      let e : y ≡ finish (turnStages m n) (memory b₀ sc₀ 0) =
-      p .stored z ∙ call-enough (turnStages m n) b x (omega (arith, enough m n x (in-range m n x flat few))) ∙ stops-resumed (loose (turnLines m n)) stops .ends in
+      let e : y ≡ finish (turnStages m n) (memory b₀ sc₀ 0) = p .stored z ∙ restart-from (steady (turnLines m n)) b stops h in
       (z, e, subst (Finished m n b₀ sc₀) (sym e) (uncut (flat-accepted m n b₀ sc₀ good)))
+
+  -- so it does after any run of budgets from progress 0
+  pub restarted : {bs : List ℕ} {b r : ℕ} {b₀ sc₀ : List ℕ} {x y : Memory} → firstOf (passesChecks (sides m n) b₀ sc₀) ≡ 0
+      → Restarts m n bs (memory b₀ sc₀ 0) x → ResumePromise m n b x r y → length (remaining (turnStages m n) x) ≤ b
+      → (r ≡ 0) × (y ≡ finish (turnStages m n) (memory b₀ sc₀ 0)) × Finished m n b₀ sc₀ y
+  restarted good rs p enough = restarted-from good (restarts-stops rs) p enough
 
   -- which are the words that the flat turn leaves, in the buffer and in scratch
   pub as-the-turn : {b₀ sc₀ b sc : List ℕ} {y : Memory} → Finished m n b₀ sc₀ y → TurnPromise m n b₀ sc₀ 0 b sc → (y .buffer ≡ b) × (y .scratch ≡ sc)
@@ -161,7 +140,7 @@ module _ {m n : ℕ} where
   always-finishes {b} {x} {y} h p =
       let good = sym (p .number-is) in
       let e : y ≡ finish (turnStages m n) x = p .stored refl ∙ call-enough (turnStages m n) b x (omega (arith, enough m n x good)) in
-      (e, ap (λ (z : Memory). z .progress) e ∙ finish-counts (turnStages m n) x (accepted-good x good .few))
+      (e, ap (λ (z : Memory). z .progress) e ∙ finish-counts (turnStages m n) x (within-range m n x good))
 
   -- a budget of 0 changes nothing; where every stage is counted nothing is stored, and scratch is not cleared again
   pub no-budget : {x y : Memory} → ResumePromise m n 0 x 0 y → y ≡ x

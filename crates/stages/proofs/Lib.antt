@@ -1,7 +1,11 @@
--- stores one after the other, and stores made again from the first
+-- stores one after the other
 pub mod Stores
+-- a memory torn at the places of some stores
+pub mod Torn
 -- what a call leaves, stage by stage, and how many stores are enough
 pub mod Calls
+-- stops of which the order of stages alone is kept are made good
+pub mod Stops
 -- calls stopped anywhere whose last is not leave what one uncut call leaves
 pub mod Restart
 -- stores in rising place into one list, and what it then holds
@@ -10,8 +14,6 @@ pub mod Filled
 pub mod Lines
 -- the stages of lines, uncut: every line has moved, and scratch is cleared
 pub mod Moves
--- stops that keep no order within a stage are made good too
-pub mod Stops
 -- how many stores are enough where stages come in blocks of one size
 pub mod Blocks
 -- one line of two words that change places, stopped at each kind of store

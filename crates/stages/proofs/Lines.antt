@@ -1,15 +1,22 @@
 -- The stages of lines can be begun again: a stage that lifts or clears reads the buffer alone and stores into scratch alone,
 -- one that returns the other way round.
-use mathlib.Core.Path.{_≡_, refl, ap}
+use mathlib.Core.Path.{_≡_, refl, ap, _∙_}
 use mathlib.Core.Bool.{Bool, true, false, cond}
-use mathlib.Core.List.{List}
-use Prim.Native.Nat.{ℕ, _*_, _/_, _%_, _<_, _≤_, min}
+use mathlib.Core.List.{List, [], _∷_, _++_}
+use mathlib.Core.Logic.{⊎-elim}
+use Prim.Native.Nat.{ℕ, zero, suc, _*_, _/_, _%_, _<_, _≤_, min}
+use native.Mathlib.Omega.{arith}
+use native.Mathlib.Nat.{not-suc-le-zero}
 use lib.Dec.{ltb, eqb}
-use lib.ListN.{length, getD, take}
+use lib.ListN.{length, getD, take, List·getD-append}
+use lib.Seq.{getD-append-seam}
 use borrow.Author.Tests.{lt-ltb, le-ltb, eq-eqb, ne-eqb}
-use Rattle.stages.specs.Stages.{Memory, Store, withBuffer, withScratch, after, Steady}
-use Rattle.stages.specs.Stages.Store.{toBuffer, toScratch}
+use Rattle.lists.proofs.Decide.{lt-or-ge}
+use Rattle.stages.specs.Stages.{Memory, Store, withBuffer, withScratch, after}
+use Rattle.stages.specs.Stages.Store.{toBuffer, toScratch, toProgress}
+use Rattle.stages.specs.Stops.{intoBuffer, intoScratch, Without, Torn, Steady}
 use Rattle.stages.specs.Lines.{each, Lines, lifting, returning, clearing, stagesOf}
+use Rattle.stages.proofs.Torn.{whole-buffer, whole-scratch}
 use Rattle.stages.proofs.Filled.{filled, length-each, take-each, cut-each, into-scratch, into-buffer}
 
 -- the memory after some first stores of a stage
@@ -25,11 +32,28 @@ cut-buffer n j p v m = rw (cut-each n j (λ k. toBuffer (p k) (v k))) (into-buff
 abbrev pub picked : Lines → Bool → Bool → ℕ → Memory → List Store
 picked l a b t m = cond a (cond b (lifting l t m) (returning l t m)) (clearing l)
 
+-- an entry of stores made one by one
+getD-each : (n : ℕ) (f : ℕ → Store) (j : ℕ) (d : Store) → j < n → getD (each n f) j d ≡ f j
+getD-each zero f j d h = absurd (not-suc-le-zero h)
+getD-each (suc n) f j d h =
+    ⊎-elim
+    (λ (k : j < n). List·getD-append (each n f) (f n ∷ []) d j (omega (arith, length-each n f)) ∙ getD-each n f j d k)
+    (λ (k : n ≤ j). let e : j ≡ length (each n f) = omega (arith, length-each n f) in
+    ap (λ (z : ℕ). getD (each n f ++ f n ∷ []) z d) e ∙ getD-append-seam (each n f) (f n) [] d ∙ ap f (omega arith))
+    (lt-or-ge j n)
+
+without-each : (test : Store → Bool) (n : ℕ) (f : ℕ → Store) → ((k : ℕ) → test (f k) ≡ false) → Without test (each n f)
+without-each test n f e j h = ap test (getD-each n f j (toProgress 0) (omega (arith, length-each n f))) ∙ e j
+
 module _ (l : Lines) where
-  same : (a b : Bool) (t : ℕ) (m : Memory) (j : ℕ) → picked l a b t (after (take j (picked l a b t m)) m) ≡ picked l a b t m
-  same true true t m j = ap (lifting l t) (cut-scratch (l .count t) j (λ k. k) (λ k. getD (m .buffer) (l .pos t (l .src t k)) 0) m)
-  same true false t m j = ap (returning l t) (cut-buffer (l .count t) j (l .pos t) (λ k. getD (m .scratch) k 0) m)
-  same false b t m j = refl
+  same : (a b : Bool) (t : ℕ) (m x : Memory) → Torn (picked l a b t m) m x → picked l a b t x ≡ picked l a b t m
+  same true true t m x r =
+      ap (λ (xs : List ℕ). each (l .count t) (λ k. toScratch k (getD xs (l .pos t (l .src t k)) 0)))
+      (whole-buffer r (λ p. without-each (intoBuffer p) (l .count t) (λ k. toScratch k (getD (m .buffer) (l .pos t (l .src t k)) 0)) (λ k. refl)))
+  same true false t m x r =
+      ap (λ (xs : List ℕ). each (l .count t) (λ k. toBuffer (l .pos t k) (getD xs k 0)))
+      (whole-scratch r (λ p. without-each (intoScratch p) (l .count t) (λ k. toBuffer (l .pos t k) (getD (m .scratch) k 0)) (λ k. refl)))
+  same false b t m x r = refl
 
   keeps : (a b : Bool) (t : ℕ) (m : Memory) (j : ℕ) → after (take j (picked l a b t m)) m .progress ≡ m .progress
   keeps true true t m j = ap (λ (x : Memory). x .progress) (cut-scratch (l .count t) j (λ k. k) (λ k. getD (m .buffer) (l .pos t (l .src t k)) 0) m)
@@ -39,7 +63,7 @@ module _ (l : Lines) where
   pub steady : Steady (stagesOf l)
   unfolding stagesOf
   steady = record {
-    same = λ k m j. same (ltb k (l .lines * 2)) (eqb (k % 2) 0) (k / 2) m j;
+    same = λ k m x r. same (ltb k (l .lines * 2)) (eqb (k % 2) 0) (k / 2) m x r;
     keeps = λ k m j. keeps (ltb k (l .lines * 2)) (eqb (k % 2) 0) (k / 2) m j;
   }
 

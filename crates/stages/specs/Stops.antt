@@ -1,19 +1,46 @@
--- Stops that keep no order within a stage: all that the machine must keep for a restart. Assumes nothing: these are definitions.
-use mathlib.Core.List.{List, [], _∷_}
+-- Stops of which the machine keeps the order of stages alone: what a restart may find. Assumes nothing: these are definitions.
+use mathlib.Core.Bool.{Bool, false}
+use mathlib.Core.Path.{_≡_}
+use mathlib.Core.List.{List}
 use Prim.Native.Nat.{ℕ, _<_}
-use lib.ListN.{length, getD}
+use lib.Dec.{eqb}
+use lib.ListN.{length, getD, take}
 use Rattle.stages.specs.Stages.{Memory, Store, after, Stages, wordsNow, stage}
-use Rattle.stages.specs.Stages.Store.{toProgress}
+use Rattle.stages.specs.Stages.Store.{toBuffer, toScratch, toProgress}
 
--- some of these stores, in any order and any of them more than once
-pub data Some (ss : List Store) : List Store → Type 0 where
-  none : Some ss []
-  more : {ts : List Store} (j : ℕ) → j < length ss → Some ss ts → Some ss (getD ss j (toProgress 0) ∷ ts)
+-- whether a store goes to place p of the buffer
+abbrev pub intoBuffer : ℕ → Store → Bool
+intoBuffer p (toBuffer q v) = eqb q p
+intoBuffer p (toScratch q v) = false
+intoBuffer p (toProgress v) = false
 
--- what a stop leaves that keeps the order of stages alone: whole stages, one after the other, then some words of the next
+-- whether a store goes to place p of scratch
+abbrev pub intoScratch : ℕ → Store → Bool
+intoScratch p (toBuffer q v) = false
+intoScratch p (toScratch q v) = eqb q p
+intoScratch p (toProgress v) = false
+
+-- the test finds none of these stores
+abbrev pub Without : (Store → Bool) → List Store → Type 0
+Without f ss = (j : ℕ) → j < length ss → f (getD ss j (toProgress 0)) ≡ false
+
+-- x is m but for the places to which these stores go, which hold anything at all, torn words too; the progress word is m's
+pub record Torn (ss : List Store) (m x : Memory) : Type 0 where
+  pub uncounted : x .progress ≡ m .progress
+  pub buffer-long : length (x .buffer) ≡ length (m .buffer)
+  pub scratch-long : length (x .scratch) ≡ length (m .scratch)
+  pub buffer-kept : (p : ℕ) → Without (intoBuffer p) ss → getD (x .buffer) p 0 ≡ getD (m .buffer) p 0
+  pub scratch-kept : (p : ℕ) → Without (intoScratch p) ss → getD (x .scratch) p 0 ≡ getD (m .scratch) p 0
+
+-- every stage can be begun again: it would store the same words whatever stands at the places to which they go, and none is the progress word
+pub record Steady (s : Stages) : Type 0 where
+  pub same : (k : ℕ) (m x : Memory) → Torn (s .words k m) m x → s .words k x ≡ s .words k m
+  pub keeps : (k : ℕ) (m : Memory) (j : ℕ) → after (take j (s .words k m)) m .progress ≡ m .progress
+
+-- what a stop leaves: some number of whole stages is done, and the places that the next one writes hold anything
 pub data Stop (s : Stages) : Memory → Memory → Type 0 where
   still : {m : Memory} → Stop s m m
-  within : {m : Memory} {ts : List Store} → m .progress < s .total → Some (wordsNow s m) ts → Stop s m (after ts m)
+  within : {m x : Memory} → m .progress < s .total → Torn (wordsNow s m) m x → Stop s m x
   whole : {m x : Memory} → m .progress < s .total → Stop s (after (stage s m) m) x → Stop s m x
 
 -- stops one after the other, each restart going on from what the one before left
