@@ -8,7 +8,7 @@ use Prim.Native.Nat.{ℕ, suc, _+_, _*_, _-_, _<_, _≤_}
 use native.Mathlib.Omega.{arith}
 use lib.ListN.{length, getD}
 use lib.Seq.{ext-getD}
-use borrow.Author.Tests.{le-ltb}
+use borrow.Author.Tests.{le-ltb, eq-eqb}
 use Rattle.lists.proofs.Decide.{lt-or-ge, eq-or-ne}
 use Rattle.layout.specs.Layout.{volume}
 use Rattle.refusals.specs.FirstOf.{Check, firstOf}
@@ -17,7 +17,7 @@ use Rattle.flat.proofs.Turn.{volume-two}
 use Rattle.cameras.specs.Columns.{Removed, Added}
 use Rattle.cameras.specs.Promises.{removeChecks, addChecks, noColumn, otherLength, Changed, RemovePromise, AddPromise}
 use Rattle.cameras.proofs.Runs.{at}
-use Rattle.cameras.proofs.Back.{by-cells, column-is, Other}
+use Rattle.cameras.proofs.Back.{by-cells, column-is, Other, restored}
 use Rattle.cameras.proofs.Accepted.{removes, lengths-left, adds}
 
 one-removed : {frames n k : ℕ} {xs ys zs : List ℕ} → Removed frames n k xs ys → Removed frames n k xs zs → ys ≡ zs
@@ -91,3 +91,27 @@ room-enough f c k place column xs ys e same =
       le-ltb (length ys) (volume (sides f (c - 1 + 1))) (omega (arith, r .fits)),
     )
     (place-or-length (noColumn (c - 1) place) (otherLength f column))
+
+-- a column removed, then the same words added at the same place: accepted, and every word of the buffer is what it was
+pub there-and-back : (frames cameras k : ℕ) {r : ℕ} {column xs ys zs : List ℕ} → length column ≡ frames
+    → ((i : ℕ) → i < frames → getD column i 0 ≡ getD xs (i * cameras + k) 0) → RemovePromise frames cameras k xs 0 ys
+    → AddPromise frames (cameras - 1) k column ys r zs → (r ≡ 0) × (zs ≡ xs)
+there-and-back f c k {column = column} {xs = xs} {ys = ys} long words p q =
+    let e = sym (p .number-is) in
+    let m = removes f c k xs e in
+    let same = p .words refl .same in
+    let before = volume-two f (c - 1) in
+    let after = volume-two f (c - 1 + 1) in
+    let less : f * (c - 1) ≤ f * suc (c - 1) = omega arith in
+    let z : firstOf (addChecks f (c - 1) k column ys) ≡ 0 =
+    rw (
+      lengths-left f c k xs e,
+      le-ltb 1048576 (volume (sides f (c - 1))) (omega (arith, m .few)),
+      le-ltb 1048576 (volume (sides f (c - 1 + 1))) (omega (arith, m .few)),
+      le-ltb (length ys) (volume (sides f (c - 1))) (omega (arith, m .fits)),
+      le-ltb (length ys) (volume (sides f (c - 1 + 1))) (omega (arith, m .fits)),
+      le-ltb (c - 1) k (m .low),
+      eq-eqb (length column) f long,
+    ) in
+    let y = q .number-is ∙ z in
+    (y, restored (m .low) (p .words refl) (λ i h. words i h ∙ at xs (ap (λ (w : ℕ). i * w + k) (m .left))) (q .words y))

@@ -4,7 +4,7 @@ use mathlib.Core.Path.{_≡_, refl, sym, ap, ap₂, subst, _∙_}
 use mathlib.Core.Bool.{false}
 use mathlib.Core.List.{List, [], _∷_, _++_}
 use mathlib.Core.Logic.{_↔_, ⊎-elim}
-use Prim.Native.Nat.{ℕ}
+use Prim.Native.Nat.{ℕ, _*_}
 use lib.Dec.{T, lit<}
 use borrow.Author.Tests.{not-false}
 use Rattle.lists.specs.Same.{same}
@@ -17,7 +17,8 @@ use Rattle.refusals.proofs.FirstOf.{Refusing, passed-first}
 use Rattle.refusals.proofs.Calls.{size-refusing}
 use Rattle.flat.specs.Turn.{sides}
 use Rattle.flat.proofs.Turn.{one-turn}
-use Rattle.orbits.specs.Cycles.{cycles}
+use Rattle.orbits.specs.Cycles.{cycles, takes, EveryCycleOnce}
+use Rattle.orbits.proofs.RightList.{every-cycle-once}
 use Rattle.orbits.proofs.Pairs.{one-other, none-other}
 use Rattle.cycles.specs.declared.Judged.{Judged}
 use Rattle.cycles.specs.Promise.{wrongCycles, Answers, JudgedAs, RunAs}
@@ -65,3 +66,11 @@ run-once {a = a} {b} p q =
     (λ (z : a .number ≡ 0 → ⊥). p .kept z ∙ sym (q .kept (λ y. z (sym number ∙ y))))
     (eq-or-ne (a .number) 0) in
     (one, words)
+
+-- a list is judged 0 exactly when the size is accepted and it has every cycle once, in the words of the request
+pub judged-every-cycle : {m n : ℕ} {list : List ℕ} {a : Judged} → JudgedAs m n list a
+    → (a .number ≡ 0) ↔ ((firstOf (sizeChecks (sides m n)) ≡ 0) × EveryCycleOnce (takes m n) (m * n) list)
+judged-every-cycle {m} {n} {list} p =
+    let j = judged-exactly p in
+    let c = every-cycle-once m n list in
+    (λ z. (j .0 z .0, c .1 (j .0 z .1)), λ q. j .1 (q .0, c .0 (q .1)))
