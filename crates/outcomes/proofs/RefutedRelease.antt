@@ -80,7 +80,7 @@ abbrev one : List ℕ
 one = 1 ∷ 1 ∷ 1 ∷ 1 ∷ []
 
 abbrev Writes : Written → List ℕ → Type 0
-Writes w out′ = ReleaseWrittenAs one 2 9 (7 ∷ []) (replicate 30 1) w out′
+Writes w out′ = ReleaseWrittenAs one 2 9 (7 ∷ []) (replicate 31 1) w out′
 
 -- the release left out, the number of the inverse written, the numbers written the other way about
 pub release-left-out : {w : Written} → Writes w (resultBy one 0 9 (7 ∷ []) ++ replicate 3 1) → ⊥

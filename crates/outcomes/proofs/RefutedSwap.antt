@@ -74,8 +74,8 @@ unfolding longest
 scratch-too-far p = other-list (p .zeroed refl) tt
 
 -- the order of checks: of two conditions that hold the later is answered
-pub two-before-one : (b s : List ℕ) → Broken (swapChecks 1048577 0 1 1048577 b s) 2
-two-before-one b s = broken (swapChecks 1048577 0 1 1048577 b s) 2 tt
+pub two-before-one : (b s : List ℕ) → Broken (swapChecks 1 4097 4096 1 b s) 2
+two-before-one b s = broken (swapChecks 1 4097 4096 1 b s) 2 tt
 
 pub three-before-two : (s : List ℕ) → Broken (swapChecks 4096 257 1 1 [] s) 3
 unfolding volume

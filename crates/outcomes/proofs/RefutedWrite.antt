@@ -56,7 +56,7 @@ pub order-number-always-0 : {a : Written} → Writes a (resultText lengths 0 wor
 unfolding volume resultBy rowsText rowCount rowWidth line fields field decimal digits
 order-number-always-0 p = other-list (p .bytes) tt
 
-pub other-lengths : {a : Written} → Writes a (resultText (1 ∷ 1 ∷ 2 ∷ 1 ∷ []) 1 words) → ⊥
+pub other-lengths : {a : Written} → WrittenAs lengths 1 words (replicate 34 1) a (resultText (1 ∷ 1 ∷ 2 ∷ 1 ∷ []) 1 words) → ⊥
 unfolding volume resultBy rowsText rowCount rowWidth line fields field decimal digits
 other-lengths p = other-list (p .bytes) tt
 
