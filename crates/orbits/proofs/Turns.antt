@@ -2,18 +2,18 @@
 use mathlib.Core.Path.{_≡_, refl, sym, ap, _∙_, subst}
 use mathlib.Core.List.{List}
 use mathlib.Core.Logic.{_↔_, ⊎-elim}
-use Prim.Native.Nat.{ℕ, zero, suc, _*_, _-_, _%_, _^_, _<_, _≤_, _∣_}
+use Prim.Native.Nat.{ℕ, zero, suc, _*_, _-_, _%_, _^_, _<_, _≤_, _∣_, min}
 use native.Mathlib.Nat.{mod-one, mul-one, pow-zero, pow-suc, dvd-mul-right, eq-one-of-dvd-one, eq-zero-or-pos}
 use native.Mathlib.Omega.{arith}
 use lib.ListN.{length, getD}
-use Rattle.lists.specs.Tab.{upto}
+use Rattle.lists.specs.Tab.{tab}
 use Rattle.lists.proofs.Decide.{lt-or-ge}
 use Rattle.lists.proofs.Tab.{length-tab, getD-tab}
 use Rattle.flat.specs.Turn.{turned}
 use Rattle.flat.proofs.Turn.{turned-is}
 use Rattle.orbits.specs.Orbit.{iter}
 use Rattle.orbits.specs.Sent.{Carried, goes}
-use Rattle.orbits.specs.Turns.{Turns, BringBack, LeavesOne}
+use Rattle.orbits.specs.Turns.{Turns, BlockOf, BringBack, LeavesOne}
 use Rattle.orbits.specs.Turns.Turns.{none, more}
 use Rattle.orbits.proofs.Orbit.{iter-within}
 use Rattle.orbits.proofs.Goes.{goes-permutes}
@@ -40,19 +40,22 @@ turns-are (suc h) m n xs fits =
     let (ys, ts) = turns-are h m n xs fits in
     (turned m n ys, more ts (turned-is m n ys (omega (arith, turns-carry ts .same))))
 
--- the block whose words are their own offsets is back only if offset 1 is home
+-- the block in which offset k holds the lesser of k and 2 is back only if offset 1, the only one with a 1, is home
 offset-home : (h m n : ℕ) → 3 ≤ m * n → BringBack h m n → iter (goes m n) h 1 ≡ 1
 offset-home h m n b back =
-    let xs = upto (m * n) in
-    let fits : m * n ≤ length xs = omega (arith, length-tab (m * n) (λ k. k)) in
-    let ts = turns-are h m n xs fits in
+    let xs = tab (m * n) (λ k. min k 2) in
+    let at : (k : ℕ) → k < m * n → getD xs k 0 ≡ min k 2 = λ k g. getD-tab (m * n) (λ k. min k 2) k 0 g in
+    let block : BlockOf m n xs = record { exact = length-tab (m * n) (λ k. min k 2); words = λ k g. rw (at k g) (omega arith) } in
+    let ts = turns-are h m n xs (omega (arith, block .exact)) in
     let l : 1 < m * n - 1 = omega arith in
     let x = iter (goes m n) h 1 in
-    let at : (k : ℕ) → k < m * n - 1 → getD xs k 0 ≡ k = λ k g. getD-tab (m * n) (λ k. k) k 0 (omega arith) in
-    sym (at x (iter-within (goes-permutes m n) h 1 l))
-    ∙ ap (λ (zs : List ℕ). getD zs x 0) (sym (back xs (ts .0) fits (ts .1)))
+    let home : min x 2 ≡ 1 =
+    sym (at x (omega (arith, iter-within (goes-permutes m n) h 1 l)))
+    ∙ ap (λ (zs : List ℕ). getD zs x 0) (sym (back xs (ts .0) block (ts .1)))
     ∙ turns-carry (ts .1) .sent 1 l
-    ∙ at 1 l
+    ∙ at 1 (omega arith)
+    in
+    omega arith
 
 one-pow : (h : ℕ) → 1 ^ h ≡ 1
 one-pow zero = pow-zero 1
@@ -70,7 +73,7 @@ small-leaves h m n p b =
 
 -- h turns bring every block of m by n words back exactly when m to the power h leaves 1 modulo mn − 1
 pub back-iff : (h m n : ℕ) → 0 < m * n → BringBack h m n ↔ LeavesOne h m n
-back-iff h m n p = (there, λ e xs ys fits ts. carried-home (turns-carry ts) (all-home h m n e))
+back-iff h m n p = (there, λ e xs ys block ts. carried-home (turns-carry ts) (all-home h m n e))
   where
     there : BringBack h m n → LeavesOne h m n
     there back =

@@ -1,8 +1,8 @@
 -- Turns of one shape, one after the other. Assumes nothing: these are definitions.
 use mathlib.Core.Path.{_≡_}
 use mathlib.Core.List.{List}
-use Prim.Native.Nat.{ℕ, suc, _*_, _-_, _%_, _^_, _<_, _≤_}
-use lib.ListN.{length}
+use Prim.Native.Nat.{ℕ, suc, _*_, _-_, _%_, _^_, _<_}
+use lib.ListN.{length, getD}
 use Rattle.flat.specs.Turn.{Turn}
 
 -- ys is xs after h turns of m by n, one after the other
@@ -10,9 +10,14 @@ pub data Turns : ℕ → ℕ → ℕ → List ℕ → List ℕ → Type 0 where
   none : {m n : ℕ} {xs : List ℕ} → Turns 0 m n xs xs
   more : {h m n : ℕ} {xs ys zs : List ℕ} → Turns h m n xs ys → Turn m n ys zs → Turns (suc h) m n xs zs
 
+-- xs is a block of m by n words of 32 bits
+pub record BlockOf (m n : ℕ) (xs : List ℕ) : Type 0 where
+  pub exact : length xs ≡ m * n
+  pub words : (k : ℕ) → k < m * n → getD xs k 0 < 4294967296
+
 -- h turns of m by n bring every block of that shape back
 abbrev pub BringBack : ℕ → ℕ → ℕ → Type 0
-BringBack h m n = (xs ys : List ℕ) → m * n ≤ length xs → Turns h m n xs ys → ys ≡ xs
+BringBack h m n = (xs ys : List ℕ) → BlockOf m n xs → Turns h m n xs ys → ys ≡ xs
 
 -- m to the power h leaves 1 modulo mn − 1
 abbrev pub LeavesOne : ℕ → ℕ → ℕ → Type 0
