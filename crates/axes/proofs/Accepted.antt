@@ -14,7 +14,6 @@ use Rattle.orders.specs.Chains.{exchange, follow}
 use Rattle.orders.specs.Numbers.{orderCount}
 use Rattle.orders.specs.Needs.{chainNeed}
 use Rattle.orders.proofs.Chains.{volume-follow}
-use Rattle.orders.proofs.Distinct.{count-pos}
 use Rattle.orders.proofs.Needs.{need-back}
 use Rattle.refusals.specs.FirstOf.{Check, check, firstOf}
 use Rattle.refusals.specs.Conditions.{some, outOfRange, badLength, tooManyWords, shortBuffer, longBuffer, shortScratch, longChain, noSwap, badSwap, noOrder}
@@ -23,7 +22,7 @@ use Rattle.refusals.proofs.FirstOf.{Silent, refused-by, accepted-so-far}
 use Rattle.refusals.proofs.FirstOf.Silent.{none, more}
 use Rattle.refusals.proofs.Calls.{recursion-accepted, chain-accepted, request-accepted}
 use Rattle.refusals.proofs.Some.{either-false, none-at}
-use Rattle.refusals.proofs.Conditions.{as-long, not-short, not-long}
+use Rattle.refusals.proofs.Conditions.{as-long, not-short, not-long, is-order}
 
 either-swap : (a b c : Bool) → (a || (b || c)) ≡ (b || (a || c))
 either-swap true true c = refl
@@ -149,14 +148,6 @@ module _ {r : ℕ} {ds xs ss s : List ℕ} (p : ChainAccepted r ds xs ss s) wher
       (omega (arith, length-reverse s, ltb-false 32 (length s) (p .short)))
       e
       (rw (need-back ds s) h)
-
--- an order number that is not refused is one of the orders'
-pub is-order : (r order : ℕ) → noOrder r order ≡ false → order < orderCount r
-is-order r order e = omega (arith, ltb-false (orderCount r - 1) order e, count-pos r)
-
--- and one of the orders' is not refused
-pub no-order-false : (r order : ℕ) → order < orderCount r → noOrder r order ≡ false
-no-order-false r order h = le-ltb (orderCount r - 1) order (omega (arith, h))
 
 -- a request that is accepted asks for one of the orders
 pub request-order : (r : ℕ) (ds xs ss : List ℕ) (release order : ℕ) → firstOf (requestChecks r ds xs ss release order) ≡ 0 → order < orderCount r

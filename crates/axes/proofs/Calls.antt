@@ -24,15 +24,17 @@ use Rattle.refusals.specs.Conditions.{shortScratch, badSwap, longChain, noRelea
 use Rattle.refusals.specs.Calls.{blockChecks, chainChecks, requestChecks, planChecks, namedChecks}
 use Rattle.refusals.specs.Scratch.{cleared}
 use Rattle.refusals.proofs.FirstOf.{Silent, silent-zero, same-after, accepted-so-far}
+use Rattle.refusals.proofs.Conditions.{is-order, no-order-false}
 use Rattle.refusals.proofs.Calls as calls
 use Rattle.refusals.proofs.Promise as promise
 use Rattle.axes.specs.declared.Answer.{Answer}
 use Rattle.plans.specs.declared.Planned.{Planned}
 use Rattle.plans.specs.Promise.{PlanPromise}
+use Rattle.plans.proofs.Given.{is-one, the-plan}
 use Rattle.axes.specs.Answers.{accepted, refused, refusedPlace}
 use Rattle.axes.specs.Private.{askedFor}
 use Rattle.axes.specs.Promises.{ChainPromise, RequestPromise}
-use Rattle.axes.proofs.Accepted.{never-six, is-order, no-order-false}
+use Rattle.axes.proofs.Accepted.{never-six}
 
 -- a call that is refused and leaves the lent words as they were
 module _ (r : ℕ) {a : Answer} {number place : ℕ} (e : a ≡ refused number place) (n : number ≡ 0 → ⊥) where
@@ -68,26 +70,23 @@ module _ {r order : ℕ} {q : Planned} (few : planPlaces r ≤ 32) (p : PlanProm
   o = orderOf r order
 
   low : order < orderCount r
-  low = go (calls.plan-accepted r order .0 (sym (p .number-is) ∙ z))
-    where
-      go : Silent (planChecks r order) → order < orderCount r
-      go (Silent.more h s) = is-order r order h
+  low = is-one p z
 
   plan-length : q .len ≡ length (planOf (orderOf r order))
-  plan-length = ap (λ (t : Planned). t .len) (p .given z)
+  plan-length = ap (λ (t : Planned). t .len) (the-plan p z)
 
   -- its first swaps are the plan
   pub plan-swaps : take (q .len) (q .swaps) ≡ planOf (orderOf r order)
   unfolding o
   plan-swaps =
-      ap₂ take plan-length (ap (λ (t : Planned). t .swaps) (p .given z))
+      ap₂ take plan-length (ap (λ (t : Planned). t .swaps) (the-plan p z))
       ∙ take-at (planOf o) (replicate (10 - length (planOf o)) 0) (length (planOf o)) refl
 
   pub plan-holds : q .len ≤ length (q .swaps)
   unfolding o
   plan-holds =
       omega
-      (arith, plan-length, ap (λ (t : Planned). length (t .swaps)) (p .given z), length-append (planOf o) (replicate (10 - length (planOf o)) 0))
+      (arith, plan-length, ap (λ (t : Planned). length (t .swaps)) (the-plan p z), length-append (planOf o) (replicate (10 - length (planOf o)) 0))
 
   pub plan-count : q .len ≡ length (take (q .len) (q .swaps))
   plan-count = plan-length ∙ ap length (sym plan-swaps)

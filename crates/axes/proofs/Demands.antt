@@ -33,6 +33,7 @@ use Rattle.refusals.specs.Calls.{chainChecks, requestChecks, namedChecks}
 use Rattle.refusals.specs.Scratch.{cleared}
 use Rattle.refusals.specs.Promise.{Rearranged}
 use Rattle.refusals.proofs.FirstOf.{Silent, silent-zero}
+use Rattle.refusals.proofs.Conditions.{no-order-false}
 use Rattle.refusals.proofs.Scratch.{cleared-length, cleared-twice}
 use Rattle.axes.specs.declared.Answer.{Answer}
 use Rattle.plans.specs.declared.Planned.{Planned}
@@ -41,7 +42,7 @@ use Rattle.axes.specs.Answers.{fiveLengths}
 use Rattle.axes.specs.Private.{askedFor}
 use Rattle.axes.specs.Promises.{ChainPromise, RequestPromise}
 use Rattle.axes.proofs.Five.{first-of-five}
-use Rattle.axes.proofs.Accepted.{ChainAccepted, accepts-chain, block-zero, chain-zero, next-accepted, joined-accepted, back-accepted, by-last, no-order-false, request-order}
+use Rattle.axes.proofs.Accepted.{ChainAccepted, accepts-chain, block-zero, chain-zero, next-accepted, joined-accepted, back-accepted, by-last, request-order}
 use Rattle.axes.proofs.Calls.{request-of-chain, request-by}
 use Rattle.axes.proofs.OneOutcome.{request-once}
 

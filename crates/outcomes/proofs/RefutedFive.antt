@@ -15,6 +15,7 @@ use Rattle.orders.specs.Needs.{exchanged, chainNeed}
 use Rattle.refusals.specs.Calls.{chainChecks, requestChecks}
 use Rattle.plans.specs.declared.Planned.{Planned}
 use Rattle.plans.specs.Promise.{PlanPromise}
+use Rattle.plans.proofs.Given.{the-plan}
 use Rattle.axes.specs.declared.Answer.{Answer}
 use Rattle.axes.specs.Answers.{fiveLengths}
 use Rattle.axes.specs.Promises.{ChainPromise, RequestPromise}
@@ -110,7 +111,7 @@ five-first-swap-moves-the-rest-relabel p = misplaced (p .block .words (p .block 
 -- orders of five axes by another list: 1 is 01243, and not 01324, four's order 1 before axis 4; 24 is 10234, and not 02134; in release 2 9 names 04123, and not 02341
 pub five-order-1-of-four : {p : Planned} → PlanPromise 5 1 p → p .swaps ≡ 2 ∷ 0 ∷ 0 ∷ 0 ∷ 0 ∷ 0 ∷ 0 ∷ 0 ∷ 0 ∷ 0 ∷ [] → ⊥
 unfolding arrangements orders orderOf under falling relabelled firstBack planned planOf placeOf
-five-order-1-of-four q e = other-list (sym e ∙ ap (λ (p : Planned). p .swaps) (q .given (q .number-is))) tt
+five-order-1-of-four q e = other-list (sym e ∙ ap (λ (p : Planned). p .swaps) (the-plan q (q .number-is))) tt
 
 abbrev Asked : ℕ → ℕ → Answer → List ℕ → Type 0
 Asked release order a b = RequestPromise 5 (2 ∷ 3 ∷ 1 ∷ 1 ∷ 1 ∷ []) release order block scratch a b (0 ∷ 0 ∷ 0 ∷ 9 ∷ [])
@@ -143,11 +144,11 @@ Longest p = PlanPromise 5 119 p
 
 pub plan-cut-at-six : {p : Planned} → Longest p → p .swaps ≡ 0 ∷ 1 ∷ 0 ∷ 2 ∷ 1 ∷ 0 ∷ 0 ∷ 0 ∷ 0 ∷ 0 ∷ [] → ⊥
 unfolding arrangements orders orderOf under falling relabelled firstBack planned planOf placeOf
-plan-cut-at-six q e = other-list (sym e ∙ ap (λ (p : Planned). p .swaps) (q .given (q .number-is))) tt
+plan-cut-at-six q e = other-list (sym e ∙ ap (λ (p : Planned). p .swaps) (the-plan q (q .number-is))) tt
 
 pub plan-counted-to-six : {p : Planned} → Longest p → p .len ≡ 6 → ⊥
 unfolding arrangements orders orderOf under falling relabelled firstBack planned planOf placeOf
-plan-counted-to-six q e = other-number (sym e ∙ ap (λ (p : Planned). p .len) (q .given (q .number-is))) tt
+plan-counted-to-six q e = other-number (sym e ∙ ap (λ (p : Planned). p .len) (the-plan q (q .number-is))) tt
 
 pub bound-of-nine : ((k : ℕ) → k < orderCount 5 → length (planOf (orderOf 5 k)) ≤ 9) → ⊥
 unfolding arrangements orders orderOf under falling relabelled firstBack planned planOf placeOf
@@ -159,7 +160,7 @@ ten-swaps-refused q e = other-number (sym e ∙ q .number-is) tt
 -- a plan of four axes in six places only: the other four hold something
 pub seventh-place-filled : {p : Planned} → PlanPromise 4 23 p → p .swaps ≡ 0 ∷ 1 ∷ 0 ∷ 2 ∷ 1 ∷ 0 ∷ 3 ∷ 0 ∷ 0 ∷ 0 ∷ [] → ⊥
 unfolding arrangements orders orderOf under falling relabelled firstBack planned planOf placeOf
-seventh-place-filled q e = other-list (sym e ∙ ap (λ (p : Planned). p .swaps) (q .given (q .number-is))) tt
+seventh-place-filled q e = other-list (sym e ∙ ap (λ (p : Planned). p .swaps) (the-plan q (q .number-is))) tt
 
 -- a shape of four axes whose swap 3 exchanges the fifth length, or that hands it back; one of five whose swap 3 does nothing
 pub fourth-and-fifth-exchanged : {lengths : List ℕ} → lengths ≡ fiveLengths (exchange 3 (take 4 (1 ∷ 2 ∷ 3 ∷ 4 ∷ 5 ∷ []))) → lengths ≡ 1 ∷ 2 ∷ 3 ∷ 5 ∷ 4 ∷ [] → ⊥

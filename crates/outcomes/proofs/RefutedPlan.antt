@@ -12,6 +12,7 @@ use Rattle.refusals.specs.FirstOf.{firstOf}
 use Rattle.refusals.specs.Calls.{planChecks}
 use Rattle.plans.specs.declared.Planned.{Planned}
 use Rattle.plans.specs.Promise.{PlanPromise}
+use Rattle.plans.proofs.Given.{the-plan}
 use Rattle.outcomes.proofs.Wrong.{other-number, other-list}
 
 -- one that refuses always: wherever no condition holds
@@ -27,19 +28,19 @@ fixed-answer p q = other-number (sym (p .number-is) ∙ q .number-is) tt
 -- shortest; by the rising pairs
 pub later-chain : {p : Planned} → PlanPromise 4 16 p → p .swaps ≡ 1 ∷ 2 ∷ 0 ∷ 1 ∷ 0 ∷ 0 ∷ 0 ∷ 0 ∷ 0 ∷ 0 ∷ [] → ⊥
 unfolding arrangements orders orderOf under falling relabelled firstBack planned planOf placeOf
-later-chain q e = other-list (sym e ∙ ap (λ (p : Planned). p .swaps) (q .given (q .number-is))) tt
+later-chain q e = other-list (sym e ∙ ap (λ (p : Planned). p .swaps) (the-plan q (q .number-is))) tt
 
 pub plan-of-the-inverse : {p : Planned} → PlanPromise 4 9 p → p .swaps ≡ 2 ∷ 1 ∷ 0 ∷ 0 ∷ 0 ∷ 0 ∷ 0 ∷ 0 ∷ 0 ∷ 0 ∷ [] → ⊥
 unfolding arrangements orders orderOf under falling relabelled firstBack planned planOf placeOf
-plan-of-the-inverse q e = other-list (sym e ∙ ap (λ (p : Planned). p .swaps) (q .given (q .number-is))) tt
+plan-of-the-inverse q e = other-list (sym e ∙ ap (λ (p : Planned). p .swaps) (the-plan q (q .number-is))) tt
 
 pub longer-chain : {p : Planned} → PlanPromise 4 0 p → p .len ≡ 2 → ⊥
 unfolding arrangements orders orderOf under falling relabelled firstBack planned planOf placeOf
-longer-chain q e = other-number (sym e ∙ ap (λ (p : Planned). p .len) (q .given (q .number-is))) tt
+longer-chain q e = other-number (sym e ∙ ap (λ (p : Planned). p .len) (the-plan q (q .number-is))) tt
 
 pub plan-of-rising-pairs : {p : Planned} → PlanPromise 4 23 p → p .len ≡ 0 → ⊥
 unfolding arrangements orders orderOf under falling relabelled firstBack planned planOf placeOf
-plan-of-rising-pairs q e = other-number (sym e ∙ ap (λ (p : Planned). p .len) (q .given (q .number-is))) tt
+plan-of-rising-pairs q e = other-number (sym e ∙ ap (λ (p : Planned). p .len) (the-plan q (q .number-is))) tt
 
 -- five places for every plan, and a plan refused because it is as long as a plan can be: order 23 has six swaps
 pub bound-of-five : ((k : ℕ) → k < orderCount 4 → length (planOf (orderOf 4 k)) ≤ 5) → ⊥
@@ -52,7 +53,7 @@ longest-plan-refused q e = other-number (sym e ∙ q .number-is) tt
 -- an unused place that is not 0; order 23 accepted, order 24 refused, and a refusal with a length
 pub unused-place-filled : {p : Planned} → PlanPromise 4 9 p → p .swaps ≡ 0 ∷ 1 ∷ 2 ∷ 3 ∷ 0 ∷ 0 ∷ 0 ∷ 0 ∷ 0 ∷ 0 ∷ [] → ⊥
 unfolding arrangements orders orderOf under falling relabelled firstBack planned planOf placeOf
-unused-place-filled q e = other-list (sym e ∙ ap (λ (p : Planned). p .swaps) (q .given (q .number-is))) tt
+unused-place-filled q e = other-list (sym e ∙ ap (λ (p : Planned). p .swaps) (the-plan q (q .number-is))) tt
 
 pub order-23-refused : {p : Planned} → PlanPromise 4 23 p → p .number ≡ 7 → ⊥
 unfolding arrangements orders orderOf under falling relabelled firstBack planned planOf placeOf

@@ -1,19 +1,21 @@
 -- What makes the promise of a plan, over r axes: an order number above the last is refused, and of any other the falling pairs are counted and that many swaps computed, which
--- fit into the ten places.
+-- fit into the ten places; and what it tells: the number is one of the orders', and the plan is the computed one, since an order has one plan.
 use mathlib.Core.Path.{_≡_, refl, sym, ap, ap₂, _∙_}
 use mathlib.Core.List.{List, _++_}
 use Prim.Native.Nat.{ℕ, _-_, _<_, _≤_}
 use native.Mathlib.Omega.{arith}
 use lib.ListN.{length, replicate}
-use borrow.Author.Tests.{lt-ltb, le-ltb}
+use borrow.Author.Tests.{lt-ltb}
 use Rattle.orders.specs.Numbers.{orderCount, orderOf}
 use Rattle.orders.specs.Plans.{falling, planned, planOf, planPlaces}
 use Rattle.orders.proofs.Chains.{length-named}
 use Rattle.orders.proofs.Numbers.{order-named}
 use Rattle.orders.proofs.Distinct.{count-pos}
-use Rattle.orders.proofs.Plans.{length-plan, falling-places}
+use Rattle.orders.proofs.Plans.{length-plan, falling-places, plan-of-number, one-plan}
 use Rattle.refusals.specs.Calls.{planChecks}
 use Rattle.refusals.proofs.FirstOf.{First, Silent, first-is, silent-zero}
+use Rattle.refusals.proofs.Conditions.{is-order, no-order-false}
+use Rattle.refusals.proofs.Calls.{plan-accepted}
 use Rattle.plans.specs.declared.Planned.{Planned}
 use Rattle.plans.specs.Promise.{plannedAs, noPlan, PlanPromise}
 
@@ -43,9 +45,23 @@ module _ (r order : ℕ) (low : order < orderCount r) {o : List ℕ} (e : o ≡ 
   pub given : {p : Planned} → p ≡ plannedAs (planOf o) → PlanPromise r order p
   given {p} f =
       let number : p .number ≡ 0 = ap (λ (q : Planned). q .number) f in
-      let silent : Silent (planChecks r order) = Silent.more (le-ltb (orderCount r - 1) order (omega arith)) Silent.none in
+      let silent : Silent (planChecks r order) = Silent.more (no-order-false r order low) Silent.none in
       record {
         number-is = number ∙ sym (silent-zero silent);
-        given = λ _. f ∙ ap (λ (t : List ℕ). plannedAs (planOf t)) e;
+        given = λ _. record {
+          chain = planOf (orderOf r order);
+          plan = plan-of-number r order low;
+          answered = f ∙ ap (λ (t : List ℕ). plannedAs (planOf t)) e;
+        };
         refusal = λ n. absurd (n number);
       }
+
+module _ {r order : ℕ} {p : Planned} (q : PlanPromise r order p) (z : p .number ≡ 0) where
+  pub is-one : order < orderCount r
+  is-one = go (plan-accepted r order .0 (sym (q .number-is) ∙ z))
+    where
+      go : Silent (planChecks r order) → order < orderCount r
+      go (Silent.more h s) = is-order r order h
+
+  pub the-plan : p ≡ plannedAs (planOf (orderOf r order))
+  the-plan = let g = q .given z in g .answered ∙ ap plannedAs (one-plan (g .plan) (plan-of-number r order is-one))

@@ -5,6 +5,7 @@ use Prim.Native.Nat.{ℕ}
 use Rattle.lists.proofs.Decide.{eq-or-ne}
 use Rattle.plans.specs.declared.Planned.{Planned}
 use Rattle.plans.specs.Promise.{noPlan, PlanPromise}
+use Rattle.plans.proofs.Given.{the-plan}
 
 -- what is equal where a number is 0 and where it is not
 pub either-way : {A : Type 0} {x y : A} {n m : ℕ} → n ≡ m → (n ≡ 0 → m ≡ 0 → x ≡ y) → ((n ≡ 0 → ⊥) → (m ≡ 0 → ⊥) → x ≡ y) → x ≡ y
@@ -15,5 +16,5 @@ pub plan-once : {r order : ℕ} {p p′ : Planned} → PlanPromise r order p →
 plan-once p q =
     let same = p .number-is ∙ sym (q .number-is) in
     either-way same
-    (λ e e′. p .given e ∙ sym (q .given e′))
+    (λ e e′. the-plan p e ∙ sym (the-plan q e′))
     (λ n n′. p .refusal n ∙ ap noPlan same ∙ sym (q .refusal n′))

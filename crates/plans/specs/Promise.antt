@@ -3,8 +3,8 @@ use mathlib.Core.Path.{_≡_}
 use mathlib.Core.List.{List, _++_}
 use Prim.Native.Nat.{ℕ, _-_}
 use lib.ListN.{length, replicate}
-use Rattle.orders.specs.Releases.{orderBy}
-use Rattle.orders.specs.Plans.{planOf}
+use Rattle.orders.specs.Numbers.{orderOf}
+use Rattle.orders.specs.Plans.{Plan}
 use Rattle.refusals.specs.FirstOf.{firstOf}
 use Rattle.refusals.specs.Calls.{planChecks}
 use Rattle.plans.specs.declared.Planned.{Planned}
@@ -17,8 +17,14 @@ plannedAs chain = record { number = 0; swaps = chain ++ replicate (10 - length c
 abbrev pub noPlan : ℕ → Planned
 noPlan number = record { number = number; swaps = replicate 10 0; len = 0 }
 
--- the plan for an order, whose number is read in release 1
+-- what is given for an order o of r axes: its plan
+pub record PlanGiven (r : ℕ) (o : List ℕ) (p : Planned) : Type 0 where
+  pub chain : List ℕ
+  pub plan : Plan r o chain
+  pub answered : p ≡ plannedAs chain
+
+-- the plan for an order of r axes by its number
 pub record PlanPromise (r order : ℕ) (p : Planned) : Type 0 where
   pub number-is : p .number ≡ firstOf (planChecks r order)
-  pub given : p .number ≡ 0 → p ≡ plannedAs (planOf (orderBy r 1 order))
+  pub given : p .number ≡ 0 → PlanGiven r (orderOf r order) p
   pub refusal : (p .number ≡ 0 → ⊥) → p ≡ noPlan (p .number)

@@ -1,16 +1,18 @@
--- What a condition that does not hold tells: lengths in range, enough words, enough scratch.
+-- What a condition that does not hold tells: lengths in range, enough words, enough scratch, one of the orders.
 use mathlib.Core.Path.{_≡_, refl}
 use mathlib.Core.Bool.{Bool, true, false, cond}
 use mathlib.Core.List.{List, [], _∷_, _++_}
-use Prim.Native.Nat.{ℕ, _*_, _<_, _≤_}
+use Prim.Native.Nat.{ℕ, _*_, _-_, _<_, _≤_}
 use native.Mathlib.Nat.{pos-of-ne-zero, le-antisymm, mul-pos}
 use native.Mathlib.Omega.{arith}
 use lib.Dec.{ltb, eqb, lit<}
 use lib.ListN.{length, getD}
 use borrow.Author.Tests.{ltb-false, eqb-false, ne-eqb, lt-ltb, le-ltb}
 use Rattle.layout.specs.Layout.{volume}
+use Rattle.orders.specs.Numbers.{orderCount}
+use Rattle.orders.proofs.Distinct.{count-pos}
 use Rattle.refusals.specs.FirstOf.{Check, check, firstOf}
-use Rattle.refusals.specs.Conditions.{outOfRange, badLength, tooManyWords, shortBuffer, longBuffer, shortScratch}
+use Rattle.refusals.specs.Conditions.{outOfRange, badLength, tooManyWords, shortBuffer, longBuffer, shortScratch, noOrder}
 use Rattle.refusals.specs.Calls.{sizeChecks, exactChecks, blockChecks}
 use Rattle.refusals.proofs.Some.{either-false, none-at}
 
@@ -108,3 +110,11 @@ sized-two m n e = go (s .lengths)
 
     go : InRange (m ∷ n ∷ []) → (0 < m * n) × (m * n ≤ 1048576) × (m ≤ 4096)
     go (more pm fm (more pn fn none)) = (mul-pos pm pn, omega (arith, s .few), fm)
+
+-- an order number that is not refused is one of the orders'
+pub is-order : (r order : ℕ) → noOrder r order ≡ false → order < orderCount r
+is-order r order e = omega (arith, ltb-false (orderCount r - 1) order e, count-pos r)
+
+-- and one of the orders' is not refused
+pub no-order-false : (r order : ℕ) → order < orderCount r → noOrder r order ≡ false
+no-order-false r order h = le-ltb (orderCount r - 1) order (omega (arith, h))
