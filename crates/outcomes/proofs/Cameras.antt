@@ -1,31 +1,15 @@
--- Removing and adding a camera: any two outcomes that a contract allows coincide. And wrong outcomes, each of which breaks the promise: the
--- case is two frames of three cameras, 0 to 5, with two words behind the block; without column 1 it is 0 2 3 5 0 0 and the two words.
+-- Wrong outcomes of removing and adding a camera, each of which breaks the promise: the case
+-- is two frames of three cameras, 0 to 5, with two words behind the block; without column 1 it is 0 2 3 5 0 0 and the two words.
 use mathlib.Core.Path.{_≡_, refl, _∙_}
 use mathlib.Core.List.{List, [], _∷_}
 use Prim.Native.Nat.{ℕ}
 use native.Mathlib.Omega.{arith}
 use lib.Dec.{lit<}
 use lib.ListN.{replicate}
-use contract.Lifetimes.{Lfts}
-use denote.Triple.Clauses.{AtExit}
-use borrow.Fn.Kinds.{endedOf, Dens}
 use Rattle.layout.specs.Layout.{volume}
 use Rattle.refusals.specs.FirstOf.{firstOf}
 use Rattle.cameras.specs.Promises.{removeChecks, addChecks, RemovePromise, AddPromise}
-use Rattle.cameras.proofs.OneOutcome as cameras
-use Rattle.cameras.proofs.remove.Kinds as remove-kinds
-use Rattle.cameras.proofs.remove.Reads as remove
-use Rattle.cameras.proofs.add.Kinds as add-kinds
-use Rattle.cameras.proofs.add.Reads as add
 use Rattle.outcomes.proofs.Wrong.{other-number, other-list}
-
-pub remove-once : (κs : Lfts 1) (a : Dens κs remove-kinds.ps) (r r′ : ℕ) (s s′ : AtExit (endedOf 1 remove-kinds.ps remove-kinds.r) κs)
-    → remove.Post κs a r s → remove.Post κs a r′ s′ → (r ≡ r′) × (s .0 .now ≡ s′ .0 .now)
-remove-once κs a r r′ s s′ p q = cameras.remove-once (a .1 .0) (a .1 .1 .0) (a .1 .1 .1 .0) p q
-
-pub add-once : (κs : Lfts 2) (a : Dens κs add-kinds.ps) (r r′ : ℕ) (s s′ : AtExit (endedOf 2 add-kinds.ps add-kinds.r) κs)
-    → add.Post κs a r s → add.Post κs a r′ s′ → (r ≡ r′) × (s .0 .now ≡ s′ .0 .now)
-add-once κs a r r′ s s′ p q = cameras.add-once (a .1 .0) (a .1 .1 .0) (a .1 .1 .1 .0) p q
 
 abbrev block : List ℕ
 block = 0 ∷ 1 ∷ 2 ∷ 3 ∷ 4 ∷ 5 ∷ 8 ∷ 9 ∷ []

@@ -1,10 +1,11 @@
--- one outcome: any two outcomes that a contract allows from one entry coincide
+-- one outcome: what that is, and that every public function has it, floor by floor
+pub mod Once
+pub mod Checks
 pub mod Flat
 pub mod Axes
 pub mod Sheets
+pub mod Desk
 pub mod Exports
--- the checks, and the shape with two axes exchanged: one answer, and wrong ones refuted
-pub mod Checks
 -- demand 2: passes and recursion leave the same words
 pub mod Methods
 -- demand 3 about the contracts of the chains, on four and on five axes, as the checker reads them
@@ -33,23 +34,17 @@ pub mod RefutedWrite
 pub mod RefutedJob
 -- the release of an order number: wrong outcomes of the direct request and of the writer
 pub mod RefutedRelease
--- the count of repeats: one outcome, and wrong ones refuted
+-- the count of repeats: wrong outcomes refuted
 pub mod Repeats
--- one line a tick and the count of lines: one outcome, and wrong ones refuted
-pub mod Ticks
-pub mod Steps
+-- one line a tick and the count of lines
 pub mod RefutedTicks
--- the mapped turn: one outcome, and wrong ones refuted
-pub mod Restarts
+-- the mapped turn
 pub mod RefutedRestart
--- removing and adding a camera: one outcome, and wrong ones refuted
+-- removing and adding a camera
 pub mod Cameras
--- the conversions to tiles and back: one outcome, and wrong ones refuted
-pub mod Tiles
+-- the conversions to tiles and back
 pub mod RefutedTiles
--- the join desk: one outcome, and wrong ones refuted
-pub mod Desk
+-- the join desk
 pub mod RefutedDesk
--- judging and running a list of cycles: one outcome; and wrong outcomes refuted
-pub mod Cycles
+-- judging and running a list of cycles
 pub mod RefutedCycles

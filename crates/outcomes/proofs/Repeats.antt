@@ -1,25 +1,15 @@
--- The count of repeats: any two outcomes that its contract allows coincide. And wrong outcomes, each of which breaks the promise: 2 by 2 is
--- home after two turns, because 2 to the 2 leaves 1 modulo 3.
+-- Wrong outcomes of the count of repeats, each of which breaks the promise: 2 by 2 is home after two
+-- turns, because 2 to the 2 leaves 1 modulo 3.
 use mathlib.Core.Path.{_≡_, refl, _∙_}
 use Prim.Native.Nat.{ℕ, _*_, _<_, _≤_}
 use native.Mathlib.Omega.{arith}
 use lib.Dec.{lit<}
-use contract.Lifetimes.{Lfts}
-use denote.Triple.Clauses.{AtExit}
-use borrow.Fn.Kinds.{endedOf, Dens}
 use Rattle.refusals.specs.FirstOf.{firstOf}
 use Rattle.refusals.specs.Calls.{sizeChecks}
 use Rattle.flat.specs.Turn.{sides}
 use Rattle.home.specs.declared.Home.{Home}
 use Rattle.home.specs.Promise.{RepeatsPromise}
-use Rattle.home.proofs.OneOutcome as homes
-use Rattle.home.proofs.repeats.Kinds as repeats-kinds
-use Rattle.home.proofs.repeats.Reads as repeats
 use Rattle.outcomes.proofs.Wrong.{other-number}
-
-pub repeats-once : (κs : Lfts 0) (a : Dens κs repeats-kinds.ps) (r r′ : Home) (s s′ : AtExit (endedOf 0 repeats-kinds.ps repeats-kinds.r) κs)
-    → repeats.Post κs a r s → repeats.Post κs a r′ s′ → r ≡ r′
-repeats-once κs a r r′ s s′ p q = homes.repeats-once p q
 
 abbrev answer : ℕ → ℕ → Home
 answer number count = record { number = number; count = count }
