@@ -14,37 +14,16 @@ pub mod Demand3
 pub mod Releases
 -- result sheets come back: what is written reads back the same, and what is read is what would be written
 pub mod ResultSheets
--- what a wrong outcome runs into
+-- wrong versions as tables, whose rows a computed test refutes; facts that such a test sees; the shapes that promises have
 pub mod Wrong
--- the wrong outcomes of each call, refuted
-pub mod RefutedTurn
-pub mod RefutedTurnBack
-pub mod RefutedSwap
-pub mod RefutedRecursion
--- and of the turn of chunks by recursion
-pub mod RefutedChunks
-pub mod RefutedChain
-pub mod RefutedRequest
-pub mod RefutedPlan
--- five axes, and a fifth length lent to the calls on four
-pub mod RefutedFive
-pub mod RefutedRead
-pub mod RefutedResult
-pub mod RefutedWrite
-pub mod RefutedJob
--- the release of an order number: wrong outcomes of the direct request and of the writer
-pub mod RefutedRelease
--- the count of repeats: wrong outcomes refuted
-pub mod Repeats
--- one line a tick and the count of lines
-pub mod RefutedTicks
--- the mapped turn
-pub mod RefutedRestart
--- removing and adding a camera
-pub mod Cameras
--- the conversions to tiles and back
-pub mod RefutedTiles
--- the join desk
-pub mod RefutedDesk
--- judging and running a list of cycles
+pub mod Tested
+pub mod Shapes
+-- the wrong versions of each call: a block laid out afresh; words moved by a rule; stores in a mapped file; lists of cycles; answers alone; the join desk;
+-- sheets, their writers and the whole job
+pub mod RefutedBlocks
+pub mod RefutedMoves
+pub mod RefutedMapped
 pub mod RefutedCycles
+pub mod RefutedAnswers
+pub mod RefutedDesk
+pub mod RefutedSheets

@@ -1,165 +1,182 @@
--- Wrong judgements of a list of cycles, and wrong runs of one, each of which breaks the promise. The case is two rows of three words, whose right list is
--- 0 1, 1 4, 5 1: the first and the last offset stay, and 1, 2, 4, 3 are one cycle.
-use mathlib.Core.Path.{_≡_, refl, _∙_}
+-- Wrong versions of judging a list of cycles and of running one, as tables. The place of the first pair that differs stands in the entry of a wrong list, and the
+-- test sees that it is that. Blocks too large to list their cycles stand in tables of their own, in which the right list is not computed; that a list of none
+-- is wrong there too is a theorem.
+use mathlib.Core.Path.{_≡_, refl, sym, ap, subst, _∙_}
+use mathlib.Core.Bool.{Bool, true, false, cond, not, _&&_}
 use mathlib.Core.List.{List, [], _∷_}
-use Prim.Native.Nat.{ℕ}
+use Prim.Native.Nat.{ℕ, _*_, _<_}
 use native.Mathlib.Omega.{arith}
-use lib.Dec.{lit<}
-use Rattle.layout.specs.Layout.{volume, at, pick}
-use Rattle.refusals.specs.FirstOf.{firstOf}
+use lib.Dec.{T, eqb}
+use lib.ListN.{length, take}
+use borrow.Author.Tests.{eqb-true, eqb-false}
+use Rattle.lists.specs.Same.{same}
+use Rattle.lists.specs.Tab.{upto}
+use Rattle.lists.proofs.Test.{both-left, both-right, same→eq}
+use Rattle.lists.proofs.Decide.{decided}
+use Rattle.lists.proofs.Front.{drop-end}
+use Rattle.layout.specs.Layout.{volume, at, pick, placeOf, places, coords, laid}
+use Rattle.orders.specs.Chains.{exchange, follow, named}
+use Rattle.refusals.specs.FirstOf.{Check, firstOf}
+use Rattle.flat.specs.Turn.{sides, across}
 use Rattle.orbits.specs.Orbit.{iter, first, period}
 use Rattle.orbits.specs.Sent.{goes}
-use Rattle.orbits.specs.Cycles.{takes, isLeast, cyclesFrom, cycles}
+use Rattle.orbits.specs.Cycles.{takes, isLeast, cyclesFrom, cycles, pairAt, Pair, FirstOther}
+use Rattle.orbits.proofs.RightList.{every-cycle-once}
 use Rattle.cycles.specs.declared.Judged.{Judged}
-use Rattle.cycles.specs.Promise.{cycleChecks, runChecks, JudgedAs, RunAs}
-use Rattle.outcomes.proofs.Wrong.{other-number, other-list, misplaced}
+use Rattle.cycles.specs.Promise.{wrongCycles, cycleChecks, runChecks, Answers, JudgedAs, RunAs}
+use Rattle.cycles.proofs.OneOutcome.{judge-once}
+use Rattle.outcomes.proofs.Wrong.{Case, Row, Refuted, refuted}
+use Rattle.outcomes.proofs.Wrong.Row.{wrong, gives, late, refuses}
+use Rattle.outcomes.proofs.Tested.{Tested, alike, unlike, also, hence, at-each}
+use Rattle.outcomes.proofs.Shapes.{Slice, words, Target, laid-out, passing, left, words-only}
+
+-- the pair at a place is the first that differs
+abbrev differs-at : (list right : List ℕ) (p : ℕ) → Tested (FirstOther list right p)
+differs-at list right p =
+    hence (also (at-each p (λ k. alike (pairAt k list) (pairAt k right))) (unlike (pairAt p list) (pairAt p right))) (λ f. record { before = f .0; here = f .1 })
 
 abbrev answer : ℕ → ℕ → Judged
 answer number place = record { number = number; place = place }
 
-abbrev Says : List ℕ → ℕ → ℕ → Type 0
-Says list number place = JudgedAs 2 3 list (answer number place)
+-- what is looked at only where a test holds
+abbrev pub only-where : Bool → (Unit {0} → Bool) → Bool
+only-where true f = f tt
+only-where false f = true
 
--- one that refuses always: wherever no condition holds
-pub refuses-always : {m n : ℕ} {list : List ℕ} {a : Judged} → JudgedAs m n list a → firstOf (cycleChecks m n list) ≡ 0 → (a .number ≡ 0 → ⊥) → ⊥
-refuses-always p e n = n (p .number-is ∙ e)
+-- what is answered, by the number and the place of the first pair that differs
+module _ (checks : List Check) (m n : ℕ) (list : List ℕ) (p : ℕ) where
+  abbrev pub judged : ℕ → Judged
+  judged k = answer k (cond (eqb k 22) p 0)
 
-pub run-refuses-always : {m n : ℕ} {list before after : List ℕ} {a : Judged} → RunAs m n list before a after
-    → firstOf (runChecks m n list before) ≡ 0 → (a .number ≡ 0 → ⊥) → ⊥
-run-refuses-always p e n = n (p .answers .number-is ∙ e)
+  abbrev pub placed : ℕ → Bool
+  placed k = only-where (eqb k 22) (λ _. differs-at list (cycles m n) p .passes)
 
--- the right list refused
-pub right-list-refused : {place : ℕ} → Says (0 ∷ 1 ∷ 1 ∷ 4 ∷ 5 ∷ 1 ∷ []) 22 place → ⊥
+  pub judges : (k : ℕ) → k ≡ firstOf checks → T (placed k) → Answers checks m n list (judged k)
+  judges k e t = go (eqb k 22) refl t
+    where
+      go : (b : Bool) → eqb k 22 ≡ b → T (only-where b (λ _. differs-at list (cycles m n) p .passes)) → Answers checks m n list (answer k (cond b p 0))
+      go true z t = record { number-is = e; differs = λ _. differs-at list (cycles m n) p .sound t; otherwise = λ o. absurd (o (eqb-true k 22 z)) }
+      go false z t = record { number-is = e; differs = λ d. absurd (eqb-false k 22 z d); otherwise = λ _. refl }
+
+abbrev pub judge : ℕ → ℕ → List ℕ → ℕ → Case Judged
+judge m n list p =
+    let k = firstOf (cycleChecks m n list) in
+    record {
+      Promise = JudgedAs m n list;
+      checks = cycleChecks m n list;
+      number = λ a. a .number;
+      right = judged (cycleChecks m n list) m n list p k;
+      seen = placed (cycleChecks m n list) m n list p k;
+      only = λ t a q. judge-once q (judges (cycleChecks m n list) m n list p k refl t);
+    }
+
+abbrev pub run : ℕ → ℕ → List ℕ → ℕ → List ℕ → Case (Slice Judged)
+run m n list p b =
+    let checks = runChecks m n list b in
+    let k = firstOf checks in
+    let turned : Target checks = laid-out (sides m n) across (0 ∷ []) b in
+    record {
+      Promise = λ o. RunAs m n list b (o .answer) (o .words);
+      checks = checks;
+      number = λ o. o .answer .number;
+      right = record { answer = judged checks m n list p k; words = left turned b k };
+      seen = placed checks m n list p k && passing turned b k;
+      only = λ t o q.
+          let a = judge-once (q .answers) (judges checks m n list p k refl (both-left (placed checks m n list p k) _ t)) in
+          let ys = words-only turned b (q .answers .number-is) (q .words) (q .kept) (both-right (placed checks m n list p k) _ t) in
+          λ i. record { answer = a i; words = ys i };
+    }
+
+abbrev place : Judged → List ℕ
+place a = a .place ∷ []
+
+-- two rows of three words, whose right list is 0 1, 1 4, 5 1: the first and the last offset stay, and 1, 2, 4, 3 are one cycle
+abbrev list : List ℕ
+list = 0 ∷ 1 ∷ 1 ∷ 4 ∷ 5 ∷ 1 ∷ []
+
+abbrev short : Case Judged
+short = judge 2 3 (0 ∷ 1 ∷ 1 ∷ 3 ∷ 5 ∷ 1 ∷ []) 1
+
+abbrev pub judgements : List (Row Judged)
+judgements =
+    refuses "judge/refuses-always" (judge 2 3 list 0)
+    ∷ gives "judge/right-list-refused" (judge 2 3 list 0) 22
+    -- wrong lists accepted
+    ∷ gives "judge/single-offsets-left-out" (judge 2 3 (1 ∷ 4 ∷ []) 0) 0
+    ∷ gives "judge/another-order" (judge 2 3 (1 ∷ 4 ∷ 0 ∷ 1 ∷ 5 ∷ 1 ∷ []) 0) 0
+    ∷ gives "judge/start-not-the-least" (judge 2 3 (0 ∷ 1 ∷ 2 ∷ 4 ∷ 5 ∷ 1 ∷ []) 1) 0
+    ∷ gives "judge/wrong-length" short 0
+    ∷ gives "judge/half-pair-accepted" (judge 2 3 (0 ∷ 1 ∷ 1 ∷ 4 ∷ 5 ∷ []) 2) 0
+    ∷ gives "judge/half-pair-behind" (judge 2 3 (0 ∷ 1 ∷ 1 ∷ 4 ∷ 5 ∷ 1 ∷ 6 ∷ []) 3) 0
+    ∷ gives "judge/pair-too-many" (judge 2 3 (0 ∷ 1 ∷ 1 ∷ 4 ∷ 5 ∷ 1 ∷ 5 ∷ 1 ∷ []) 3) 0
+    ∷ gives "judge/last-offset-missing" (judge 2 3 (0 ∷ 1 ∷ 1 ∷ 4 ∷ []) 2) 0
+    ∷ gives "judge/empty-list" (judge 1 1 [] 0) 0
+    ∷ gives "judge/every-offset-alone" (judge 2 3 (0 ∷ 1 ∷ 1 ∷ 1 ∷ 2 ∷ 1 ∷ 3 ∷ 1 ∷ 4 ∷ 1 ∷ 5 ∷ 1 ∷ []) 1) 0
+    -- the last offset sent to 0, which the formula without its exception says: two words would be one cycle of two, and one word none
+    ∷ gives "judge/last-sent-to-0" (judge 1 2 (0 ∷ 1 ∷ 1 ∷ 1 ∷ []) 0) 22
+    ∷ gives "judge/one-word-without-a-cycle" (judge 1 1 (0 ∷ 1 ∷ []) 0) 22
+    -- the place counted in words, from 1, that of the last pair that differs, always 0
+    ∷ wrong "judge/place-in-words" short place (3 ∷ [])
+    ∷ wrong "judge/place-from-1" short place (2 ∷ [])
+    ∷ wrong "judge/place-of-the-last" (judge 2 3 (0 ∷ 1 ∷ 1 ∷ 3 ∷ 5 ∷ 2 ∷ []) 1) place (2 ∷ [])
+    ∷ wrong "judge/place-always-0" short place (0 ∷ [])
+    -- a half pair counted past its place, a surplus pair at the last right one
+    ∷ wrong "judge/half-pair-past-its-place" (judge 2 3 (0 ∷ 1 ∷ 1 ∷ 4 ∷ 5 ∷ []) 2) place (3 ∷ [])
+    ∷ wrong "judge/surplus-at-the-last" (judge 2 3 (0 ∷ 1 ∷ 1 ∷ 4 ∷ 5 ∷ 1 ∷ 5 ∷ 1 ∷ []) 3) place (2 ∷ [])
+    -- a place where nothing differs, and where another number is given
+    ∷ wrong "judge/accepted-with-a-place" (judge 2 3 list 0) place (3 ∷ [])
+    ∷ wrong "judge/refusal-with-a-place" (judge 0 3 list 0) place (1 ∷ [])
+    ∷ late "judge/twenty-two-before-one" (judge 0 3 list 0) 22 1
+    ∷ []
+
+pub judgements-refuted : Refuted judgements
 unfolding volume cycles cyclesFrom isLeast takes period first iter goes
-right-list-refused p = other-number (p .number-is) tt
+judgements-refuted = refuted judgements refl
 
--- accepted: single offsets left out; starts in another order; a start that is not the least of its cycle; a wrong length; a half pair; a
--- pair too many; a pair too few; the empty list; every offset listed as a cycle of one
-pub single-offsets-left-out : Says (1 ∷ 4 ∷ []) 0 0 → ⊥
-unfolding volume cycles cyclesFrom isLeast takes period first iter goes
-single-offsets-left-out p = other-number (p .number-is) tt
+abbrev pub large-judgements : List (Row Judged)
+large-judgements =
+    late "judge/two-before-one" (judge 4097 4096 [] 0) 2 1
+    ∷ gives "judge/twenty-two-before-two" (judge 4096 257 [] 0) 22
+    ∷ []
 
-pub another-order : Says (1 ∷ 4 ∷ 0 ∷ 1 ∷ 5 ∷ 1 ∷ []) 0 0 → ⊥
-unfolding volume cycles cyclesFrom isLeast takes period first iter goes
-another-order p = other-number (p .number-is) tt
-
-pub start-not-the-least : Says (0 ∷ 1 ∷ 2 ∷ 4 ∷ 5 ∷ 1 ∷ []) 0 0 → ⊥
-unfolding volume cycles cyclesFrom isLeast takes period first iter goes
-start-not-the-least p = other-number (p .number-is) tt
-
-pub wrong-length : Says (0 ∷ 1 ∷ 1 ∷ 3 ∷ 5 ∷ 1 ∷ []) 0 0 → ⊥
-unfolding volume cycles cyclesFrom isLeast takes period first iter goes
-wrong-length p = other-number (p .number-is) tt
-
-pub half-pair-accepted : Says (0 ∷ 1 ∷ 1 ∷ 4 ∷ 5 ∷ []) 0 0 → ⊥
-unfolding volume cycles cyclesFrom isLeast takes period first iter goes
-half-pair-accepted p = other-number (p .number-is) tt
-
-pub half-pair-behind : Says (0 ∷ 1 ∷ 1 ∷ 4 ∷ 5 ∷ 1 ∷ 6 ∷ []) 0 0 → ⊥
-unfolding volume cycles cyclesFrom isLeast takes period first iter goes
-half-pair-behind p = other-number (p .number-is) tt
-
-pub pair-too-many : Says (0 ∷ 1 ∷ 1 ∷ 4 ∷ 5 ∷ 1 ∷ 5 ∷ 1 ∷ []) 0 0 → ⊥
-unfolding volume cycles cyclesFrom isLeast takes period first iter goes
-pair-too-many p = other-number (p .number-is) tt
-
-pub last-offset-missing : Says (0 ∷ 1 ∷ 1 ∷ 4 ∷ []) 0 0 → ⊥
-unfolding volume cycles cyclesFrom isLeast takes period first iter goes
-last-offset-missing p = other-number (p .number-is) tt
-
-pub empty-list : {place : ℕ} → JudgedAs 1 1 [] (answer 0 place) → ⊥
-unfolding volume cycles cyclesFrom isLeast takes period first iter goes
-empty-list p = other-number (p .number-is) tt
-
-pub every-offset-alone : Says (0 ∷ 1 ∷ 1 ∷ 1 ∷ 2 ∷ 1 ∷ 3 ∷ 1 ∷ 4 ∷ 1 ∷ 5 ∷ 1 ∷ []) 0 0 → ⊥
-unfolding volume cycles cyclesFrom isLeast takes period first iter goes
-every-offset-alone p = other-number (p .number-is) tt
-
--- the last offset sent to 0, which the formula without its exception says: two words would be one cycle of two, and one word none
-pub last-sent-to-0 : {place : ℕ} → JudgedAs 1 2 (0 ∷ 1 ∷ 1 ∷ 1 ∷ []) (answer 22 place) → ⊥
-unfolding volume cycles cyclesFrom isLeast takes period first iter goes
-last-sent-to-0 p = other-number (p .number-is) tt
-
-pub one-word-without-a-cycle : {place : ℕ} → JudgedAs 1 1 (0 ∷ 1 ∷ []) (answer 22 place) → ⊥
-unfolding volume cycles cyclesFrom isLeast takes period first iter goes
-one-word-without-a-cycle p = other-number (p .number-is) tt
-
--- the place: counted in words, from 1, of the last pair that differs, always 0
-pub place-in-words : Says (0 ∷ 1 ∷ 1 ∷ 3 ∷ 5 ∷ 1 ∷ []) 22 3 → ⊥
-unfolding cycles cyclesFrom isLeast takes period first iter goes
-place-in-words p = p .differs refl .here refl
-
-pub place-from-1 : Says (0 ∷ 1 ∷ 1 ∷ 3 ∷ 5 ∷ 1 ∷ []) 22 2 → ⊥
-unfolding cycles cyclesFrom isLeast takes period first iter goes
-place-from-1 p = p .differs refl .here refl
-
-pub place-of-the-last : Says (0 ∷ 1 ∷ 1 ∷ 3 ∷ 5 ∷ 2 ∷ []) 22 2 → ⊥
-unfolding cycles cyclesFrom isLeast takes period first iter goes
-place-of-the-last p = other-list (p .differs refl .before 1 (lit< tt)) tt
-
-pub place-always-0 : Says (0 ∷ 1 ∷ 1 ∷ 3 ∷ 5 ∷ 1 ∷ []) 22 0 → ⊥
-unfolding cycles cyclesFrom isLeast takes period first iter goes
-place-always-0 p = p .differs refl .here refl
-
--- a half pair counted past its place, and a surplus pair at the last right one
-pub half-pair-past-its-place : Says (0 ∷ 1 ∷ 1 ∷ 4 ∷ 5 ∷ []) 22 3 → ⊥
-unfolding cycles cyclesFrom isLeast takes period first iter goes
-half-pair-past-its-place p = p .differs refl .here refl
-
-pub surplus-at-the-last : Says (0 ∷ 1 ∷ 1 ∷ 4 ∷ 5 ∷ 1 ∷ 5 ∷ 1 ∷ []) 22 2 → ⊥
-unfolding cycles cyclesFrom isLeast takes period first iter goes
-surplus-at-the-last p = p .differs refl .here refl
-
--- a place where nothing differs, and the order of checks
-pub accepted-with-a-place : Says (0 ∷ 1 ∷ 1 ∷ 4 ∷ 5 ∷ 1 ∷ []) 0 3 → ⊥
-accepted-with-a-place p = other-number (p .otherwise (λ d. omega arith)) tt
-
-pub refusal-with-a-place : {list : List ℕ} → JudgedAs 0 3 list (answer 1 1) → ⊥
-refusal-with-a-place p = other-number (p .otherwise (λ d. omega arith)) tt
-
-pub two-before-one : {list : List ℕ} {place : ℕ} → JudgedAs 4097 4096 list (answer 2 place) → ⊥
-two-before-one p = other-number (p .number-is) tt
-
-pub twenty-two-before-two : {place : ℕ} → JudgedAs 4096 257 [] (answer 22 place) → ⊥
+pub large-judgements-refuted : Refuted large-judgements
 unfolding volume
-twenty-two-before-two p = other-number (p .number-is) tt
+large-judgements-refuted = refuted large-judgements refl
 
-pub twenty-two-before-one : {list : List ℕ} {place : ℕ} → JudgedAs 0 3 list (answer 22 place) → ⊥
-twenty-two-before-one p = other-number (p .number-is) tt
+-- both conditions hold in the last: of a block with words a list of none is not the right one
+pub none-listed : (m n : ℕ) → 0 < m * n → wrongCycles m n [] ≡ true
+none-listed m n some = decided (same [] (cycles m n)) (λ e. absurd (nowhere (every-cycle-once m n [] .1 (same→eq [] (cycles m n) (subst T (sym e) tt)) .every 0 some))) (λ e. ap not e)
+  where
+    nowhere : (k start count h : ℕ) × Pair [] k start count × (iter (takes m n) h start ≡ 0) → ⊥
+    nowhere (k, start, count, h, p, e) =
+        let none : pairAt k [] ≡ [] = ap (take 2) (drop-end [] (2 * k) (omega arith)) in
+        omega (arith, ap length (sym none ∙ p))
 
--- running the right list on 0 to 5, which is right as 0 3 1 4 2 5: nothing moves; the reverse turn; the cycle left open, so that its last
--- word is lost; the last offset exchanged with the first
-abbrev Runs : List ℕ → ℕ → ℕ → List ℕ → Type 0
-Runs list number place after = RunAs 2 3 list (0 ∷ 1 ∷ 2 ∷ 3 ∷ 4 ∷ 5 ∷ []) (answer number place) after
+-- running the list on 0 to 5, which is right as 0 3 1 4 2 5
+abbrev runs-it : Case (Slice Judged)
+runs-it = run 2 3 list 0 (upto 6)
 
-pub moves-nothing : Runs (0 ∷ 1 ∷ 1 ∷ 4 ∷ 5 ∷ 1 ∷ []) 0 0 (0 ∷ 1 ∷ 2 ∷ 3 ∷ 4 ∷ 5 ∷ []) → ⊥
-unfolding at pick volume
-moves-nothing p = misplaced (p .words refl) (0 ∷ 1 ∷ []) tt tt
+abbrev pub runs : List (Row (Slice Judged))
+runs =
+    refuses "run/refuses-always" runs-it
+    ∷ wrong "run/moves-nothing" runs-it words (upto 6)
+    ∷ wrong "run/turns-back" runs-it words (0 ∷ 2 ∷ 4 ∷ 1 ∷ 3 ∷ 5 ∷ [])
+    -- the cycle left open, so that its last word is lost; the last offset exchanged with the first
+    ∷ wrong "run/cycle-left-open" runs-it words (0 ∷ 1 ∷ 1 ∷ 4 ∷ 2 ∷ 5 ∷ [])
+    ∷ wrong "run/last-word-moved" runs-it words (5 ∷ 3 ∷ 1 ∷ 4 ∷ 2 ∷ 0 ∷ [])
+    -- a wrong list run until it differs
+    ∷ wrong "run/runs-until-it-differs" (run 2 3 (0 ∷ 1 ∷ 1 ∷ 4 ∷ 5 ∷ 2 ∷ []) 2 (upto 6)) words (0 ∷ 3 ∷ 1 ∷ 4 ∷ 2 ∷ 5 ∷ [])
+    ∷ late "run/twenty-two-before-three" (run 2 3 [] 0 []) 22 3
+    ∷ late "run/twenty-two-before-thirteen" (run 1 1 [] 0 (0 ∷ 1 ∷ [])) 22 13
+    ∷ []
 
-pub turns-back : Runs (0 ∷ 1 ∷ 1 ∷ 4 ∷ 5 ∷ 1 ∷ []) 0 0 (0 ∷ 2 ∷ 4 ∷ 1 ∷ 3 ∷ 5 ∷ []) → ⊥
-unfolding at pick volume
-turns-back p = misplaced (p .words refl) (0 ∷ 1 ∷ []) tt tt
+pub runs-refuted : Refuted runs
+unfolding volume at pick placeOf places coords laid exchange follow named cycles cyclesFrom isLeast takes period first iter goes
+runs-refuted = refuted runs refl
 
-pub cycle-left-open : Runs (0 ∷ 1 ∷ 1 ∷ 4 ∷ 5 ∷ 1 ∷ []) 0 0 (0 ∷ 1 ∷ 1 ∷ 4 ∷ 2 ∷ 5 ∷ []) → ⊥
-unfolding at pick volume
-cycle-left-open p = misplaced (p .words refl) (1 ∷ 0 ∷ []) tt tt
+abbrev pub large-runs : List (Row (Slice Judged))
+large-runs = late "run/three-before-two" (run 4096 257 [] 0 []) 3 2 ∷ []
 
-pub last-word-moved : Runs (0 ∷ 1 ∷ 1 ∷ 4 ∷ 5 ∷ 1 ∷ []) 0 0 (5 ∷ 3 ∷ 1 ∷ 4 ∷ 2 ∷ 0 ∷ []) → ⊥
-unfolding at pick volume
-last-word-moved p = misplaced (p .words refl) (1 ∷ 2 ∷ []) tt tt
-
--- a wrong list run until it differs, and the order of checks
-pub runs-until-it-differs : Runs (0 ∷ 1 ∷ 1 ∷ 4 ∷ 5 ∷ 2 ∷ []) 22 2 (0 ∷ 3 ∷ 1 ∷ 4 ∷ 2 ∷ 5 ∷ []) → ⊥
-runs-until-it-differs p = other-list (p .kept (λ z. omega arith)) tt
-
-pub run-twenty-two-before-three : {place : ℕ} {after : List ℕ} → RunAs 2 3 [] [] (answer 22 place) after → ⊥
+pub large-runs-refuted : Refuted large-runs
 unfolding volume
-run-twenty-two-before-three p = other-number (p .answers .number-is) tt
-
-pub run-twenty-two-before-thirteen : {place : ℕ} {after : List ℕ} → RunAs 1 1 [] (0 ∷ 1 ∷ []) (answer 22 place) after → ⊥
-unfolding volume
-run-twenty-two-before-thirteen p = other-number (p .answers .number-is) tt
-
-pub run-three-before-two : {place : ℕ} {after : List ℕ} → RunAs 4096 257 [] [] (answer 3 place) after → ⊥
-unfolding volume
-run-three-before-two p = other-number (p .answers .number-is) tt
+large-runs-refuted = refuted large-runs refl

@@ -1,252 +1,281 @@
--- Wrong outcomes of the join desk, each of which breaks its promise on a small case: rounding around zero, ties between and within the paths, a
--- delay of zero, the ends of the common frames, the order of checks, and parts that hold the right readings elsewhere.
-use mathlib.Core.Path.{_≡_, refl, sym, ap, _∙_}
-use mathlib.Core.Bool.{Bool, true, false, cond, not}
+-- Wrong versions of the join desk, as tables: rounding around zero, a delay of zero, the ends of the common frames, the order of checks; and of choosing, ties
+-- between and within the paths, and parts that hold the right readings elsewhere. A signed number stands in a table as a natural one. Of a part that is handed
+-- back the ghost name is left open; the exchange that is chosen stands in the entry, and the test sees that it wins.
+use mathlib.Core.Path.{_≡_, refl, sym, _∙_}
+use mathlib.Core.Bool.{Bool, true, cond}
 use mathlib.Core.List.{List, [], _∷_, _++_}
-use Prim.Native.Nat.{ℕ, suc, _+_, _*_, _^_, _<_}
+use Prim.Native.Nat.{ℕ, zero, suc, _+_, _*_, _^_}
 use native.Mathlib.Omega.{arith}
+use base.Fml.{GName}
 use denote.Ref.{RefT}
-use lib.Dec.{T, eqb, lit<}
+use lib.Dec.{T}
 use lib.ListN.{length}
 use lib.IntN.{ℤ, pos, negsuc}
-use lib.Signed.{_≤ℤ_, _<ℤ_}
-use Rattle.refusals.specs.FirstOf.{Check, firstOf}
+use lib.Signed.{leZ, ltZ, _≤ℤ_, _<ℤ_, leZ-yes, ltZ-yes}
+use Rattle.refusals.specs.FirstOf.{firstOf}
 use Rattle.desk.specs.declared.Measured.{Measured}
 use Rattle.desk.specs.declared.Frames.{Frames}
 use Rattle.desk.specs.declared.Joined.{Joined}
-use Rattle.desk.specs.Conditions.{farReading}
-use Rattle.desk.specs.Promises.{Answers, MeasuredAs, FramesAs, JoinedAs}
-use Rattle.choice.specs.Choice.{exchanges, exchange, delayAt, FirstWins, SecondWins}
+use Rattle.desk.specs.Conditions.{farReading, measureChecks, framesChecks, joinChecks}
+use Rattle.desk.specs.Exchange.{offsetOf, delayOf}
+use Rattle.desk.specs.Frames.{nearestFrame}
+use Rattle.desk.specs.Shifts.{through, largest, endOf}
+use Rattle.desk.specs.Promises.{MeasuredAs, FramesAs, JoinedAs}
+use Rattle.choice.specs.Choice.{exchanges, exchange, delayAt, usable, Best, FirstWins, SecondWins}
 use Rattle.choice.specs.Conditions.{chooseChecks}
-use Rattle.choice.specs.Parts.{PartOf}
-use Rattle.choice.specs.Promises.{Four, ChosenAs, NumberAs}
+use Rattle.choice.specs.Promises.{Four, ChosenAs}
 use Rattle.choice.specs.Promises.Four.{of-first, of-second}
-use Rattle.outcomes.proofs.Wrong.{other-number}
+use Rattle.choice.proofs.OneOutcome.{choose-once}
+use Rattle.outcomes.proofs.Wrong.{Case, Row, Refuted, refuted}
+use Rattle.outcomes.proofs.Wrong.Row.{wrong, gives, late, refuses}
+use Rattle.outcomes.proofs.Tested.{Tested, less, holds, also, hence, where-true, at-each}
+use Rattle.outcomes.proofs.Shapes.{value, numbered, answering, by-number}
 
--- the promise says that two tests find the same, and they do not
-other-test : {a b : Bool} → a ≡ b → T (not (eqb (cond a 1 0) (cond b 1 0))) → ⊥
-other-test e n = other-number (ap (λ (t : Bool). cond t 1 0) e) n
-
--- signed numbers told apart: twice a number, and one more than twice a number for those below zero
+-- twice a number, and one more than twice for those below zero
 abbrev code : ℤ → ℕ
 code (pos n) = n + n
 code (negsuc n) = suc (n + n)
 
-other : {a b : ℤ} → a ≡ b → T (not (eqb (code a) (code b))) → ⊥
-other e n = other-number (ap code e) n
+-- offset and delay
+abbrev pub measure : List ℤ → Case Measured
+measure run =
+    answering (λ r. r .number) (λ _. record { number = 0; offset = offsetOf run; delay = delayOf run }) (λ k. record { number = k; offset = pos 0; delay = pos 0 })
+    (measureChecks run) (MeasuredAs run)
+    (λ r p. record {
+      number-is = p .number-is;
+      gives = λ z i. record { number = z i; offset = p .given z i .0; delay = p .given z i .1 };
+      refuses = λ k i. record { number = r .number; offset = p .refused k i .0; delay = p .refused k i .1 };
+    })
 
-left : {a b c d : ℤ} → _≡_ {A = ℤ × ℤ} (a, b) (c, d) → a ≡ c
-left e = ap (λ (both : ℤ × ℤ). both .0) e
+abbrev offset : Measured → List ℕ
+offset r = code (r .offset) ∷ []
 
-right : {a b c d : ℤ} → _≡_ {A = ℤ × ℤ} (a, b) (c, d) → b ≡ d
-right e = ap (λ (both : ℤ × ℤ). both .1) e
+abbrev delay : Measured → List ℕ
+delay r = code (r .delay) ∷ []
 
--- one that refuses always: wherever no condition holds
-pub refuses-always : {A : Type 0} {checks : List Check} {good nothing a : A} {r : ℕ} → Answers checks good nothing r a → firstOf checks ≡ 0 → (r ≡ 0 → ⊥) → ⊥
-refuses-always p e n = n (p .number-is ∙ e)
-
--- offset and delay; of 1 0 0 0 the sum is −1, so the offset is −1, and the delay is −1
-abbrev measure : ℕ → ℤ → ℤ → Measured
-measure number offset delay = record { number = number; offset = offset; delay = delay }
-
+-- of 1 0 0 0 the sum is −1, so the offset is −1, and the delay is −1
 abbrev run-1 : List ℤ
 run-1 = pos 1 ∷ pos 0 ∷ pos 0 ∷ pos 0 ∷ []
 
-pub halves-towards-zero : MeasuredAs run-1 (measure 0 (pos 0) (negsuc 0)) → ⊥
-halves-towards-zero p = other (left (p .given refl)) tt
+abbrev pub measured : List (Row Measured)
+measured =
+    refuses "offset_delay/refuses-always" (measure run-1)
+    ∷ wrong "offset_delay/halves-towards-zero" (measure run-1) offset (code (pos 0) ∷ [])
+    ∷ wrong "offset_delay/delay-sign-turned" (measure run-1) delay (code (pos 1) ∷ [])
+    ∷ gives "offset_delay/negative-delay-refused" (measure run-1) 19
+    ∷ wrong "offset_delay/refusal-with-an-offset" (measure []) offset (code (pos 1) ∷ [])
+    -- 2 to the 60th itself, either side of zero
+    ∷ gives "offset_delay/limit-refused" (measure (pos (2 ^ 60) ∷ pos 0 ∷ pos 0 ∷ pos 0 ∷ [])) 18
+    ∷ gives "offset_delay/limit-refused-below" (measure (negsuc 1152921504606846975 ∷ pos 0 ∷ pos 0 ∷ pos 0 ∷ [])) 18
+    -- one far reading is no run of four
+    ∷ late "offset_delay/eighteen-before-twenty-six" (measure (pos (2 ^ 60 + 1) ∷ [])) 18 26
+    ∷ []
 
-pub delay-sign-turned : MeasuredAs run-1 (measure 0 (pos 0) (pos 1)) → ⊥
-delay-sign-turned p = other (right (p .given refl)) tt
-
-pub negative-delay-refused : MeasuredAs run-1 (measure 19 (pos 0) (pos 0)) → ⊥
-negative-delay-refused p = other-number (p .number-is) tt
-
-pub refusal-with-an-offset : MeasuredAs [] (measure 26 (pos 1) (pos 0)) → ⊥
-refusal-with-an-offset p = other (left (p .refused (λ z. omega arith))) tt
-
--- one far reading is no run of four: 18 before 26
-pub eighteen-first : {offset delay : ℤ} → MeasuredAs (pos (2 ^ 60 + 1) ∷ []) (measure 18 offset delay) → ⊥
-eighteen-first p = other-number (p .number-is) tt
-
--- 2 to the 60th itself is refused, either side of zero
-pub limit-refused : {offset delay : ℤ} → MeasuredAs (pos (2 ^ 60) ∷ pos 0 ∷ pos 0 ∷ pos 0 ∷ []) (measure 18 offset delay) → ⊥
-limit-refused p = other-number (p .number-is) tt
-
-pub limit-refused-below : {offset delay : ℤ} → MeasuredAs (negsuc 1152921504606846975 ∷ pos 0 ∷ pos 0 ∷ pos 0 ∷ []) (measure 18 offset delay) → ⊥
-limit-refused-below p = other-number (p .number-is) tt
+pub measured-refuted : Refuted measured
+measured-refuted = refuted measured refl
 
 -- whether a reading is far: the limit itself is not, and the last reading counts like the first
-pub limit-is-far : true ≡ farReading (pos (2 ^ 60) ∷ []) → ⊥
-limit-is-far e = other-test e tt
+abbrev far : List ℤ → Case Bool
+far run = value (λ t. cond t 1 0) (farReading run)
 
-pub first-reading-only : false ≡ farReading (pos 0 ∷ negsuc (2 ^ 60) ∷ []) → ⊥
-first-reading-only e = other-test e tt
+abbrev pub readings : List (Row Bool)
+readings =
+    gives "far_reading/limit-is-far" (far (pos (2 ^ 60) ∷ [])) 1
+    ∷ gives "far_reading/first-reading-only" (far (pos 0 ∷ negsuc (2 ^ 60) ∷ [])) 0
+    ∷ []
 
--- to frames; at two ticks a frame offset −1 is an exact half below zero, and 1 one above
-abbrev framed : ℕ → ℤ → Frames
-framed number frames = record { number = number; frames = frames }
+pub readings-refuted : Refuted readings
+readings-refuted = refuted readings refl
 
-pub half-towards-minus-infinity : FramesAs (negsuc 0) 2 (framed 0 (negsuc 0)) → ⊥
-half-towards-minus-infinity p = other (p .given refl) tt
+-- to frames
+abbrev pub framed : ℤ → ℕ → Case Frames
+framed offset ticks =
+    answering (λ r. r .number) (λ _. record { number = 0; frames = nearestFrame ticks offset }) (λ k. record { number = k; frames = pos 0 })
+    (framesChecks offset ticks) (FramesAs offset ticks)
+    (λ r p. record {
+      number-is = p .number-is;
+      gives = λ z i. record { number = z i; frames = p .given z i };
+      refuses = λ k i. record { number = r .number; frames = p .refused k i };
+    })
 
-pub half-towards-zero : FramesAs (pos 1) 2 (framed 0 (pos 0)) → ⊥
-half-towards-zero p = other (p .given refl) tt
+abbrev frames : Frames → List ℕ
+frames r = code (r .frames) ∷ []
 
-pub always-rounded-down : FramesAs (pos 2) 3 (framed 0 (pos 0)) → ⊥
-always-rounded-down p = other (p .given refl) tt
+-- at two ticks a frame offset −1 is an exact half below zero, and 1 one above
+abbrev pub framings : List (Row Frames)
+framings =
+    refuses "to_frames/refuses-always" (framed (pos 1) 2)
+    ∷ wrong "to_frames/half-towards-minus-infinity" (framed (negsuc 0) 2) frames (code (negsuc 0) ∷ [])
+    ∷ wrong "to_frames/half-towards-zero" (framed (pos 1) 2) frames (code (pos 0) ∷ [])
+    ∷ wrong "to_frames/always-rounded-down" (framed (pos 2) 3) frames (code (pos 0) ∷ [])
+    ∷ gives "to_frames/million-refused" (framed (pos 0) 1000000) 21
+    ∷ wrong "to_frames/refusal-with-frames" (framed (pos 7) 0) frames (code (pos 7) ∷ [])
+    ∷ late "to_frames/eighteen-before-twenty-one" (framed (pos (2 ^ 61 + 1)) 0) 18 21
+    ∷ []
 
-pub million-refused : {frames : ℤ} → FramesAs (pos 0) 1000000 (framed 21 frames) → ⊥
-million-refused p = other-number (p .number-is) tt
+pub framings-refuted : Refuted framings
+framings-refuted = refuted framings refl
 
-pub far-before-ticks : {frames : ℤ} → FramesAs (pos (2 ^ 61 + 1)) 0 (framed 18 frames) → ⊥
-far-before-ticks p = other-number (p .number-is) tt
+-- joining
+abbrev pub join : List ℤ → ℕ → Case Joined
+join shifts frames =
+    answering (λ r. r .number) (λ _. record { number = 0; first = largest shifts; end = endOf shifts frames }) (λ k. record { number = k; first = pos 0; end = pos 0 })
+    (joinChecks shifts frames) (JoinedAs shifts frames)
+    (λ r p. record {
+      number-is = p .number-is;
+      gives = λ z i. record { number = z i; first = p .given z i .0; end = p .given z i .1 };
+      refuses = λ k i. record { number = r .number; first = p .refused k i .0; end = p .refused k i .1 };
+    })
 
-pub refusal-with-frames : FramesAs (pos 7) 0 (framed 21 (pos 7)) → ⊥
-refusal-with-frames p = other (p .refused (λ z. omega arith)) tt
+abbrev first : Joined → List ℕ
+first r = code (r .first) ∷ []
 
--- joining; two cameras with shifts −1 and 2 and four frames each have frame 2 in common
-abbrev joined : ℕ → ℤ → ℤ → Joined
-joined number first end = record { number = number; first = first; end = end }
+abbrev end : Joined → List ℕ
+end r = code (r .end) ∷ []
 
+-- two cameras with shifts −1 and 2 and four frames each have frame 2 in common; with three frames each none is
 abbrev two : List ℤ
 two = negsuc 0 ∷ pos 2 ∷ []
 
-pub end-one-too-far : JoinedAs two 4 (joined 0 (pos 2) (pos 4)) → ⊥
-unfolding Rattle.desk.specs.Shifts.through
-end-one-too-far p = other (right (p .given refl)) tt
+abbrev pub joins : List (Row Joined)
+joins =
+    refuses "join/refuses-always" (join two 4)
+    ∷ wrong "join/end-one-too-far" (join two 4) end (code (pos 4) ∷ [])
+    ∷ wrong "join/from-the-smallest" (join two 4) first (code (negsuc 0) ∷ [])
+    ∷ gives "join/empty-join-accepted" (join two 3) 0
+    ∷ wrong "join/none-common-with-ends" (join two 3) first (code (pos 2) ∷ [])
+    ∷ gives "join/no-cameras-joined" (join [] 3) 0
+    ∷ late "join/eighteen-before-one" (join (pos (2 ^ 61 + 1) ∷ []) 4097) 18 1
+    ∷ []
 
-pub from-the-smallest : JoinedAs two 4 (joined 0 (negsuc 0) (pos 3)) → ⊥
-unfolding Rattle.desk.specs.Shifts.through
-from-the-smallest p = other (left (p .given refl)) tt
+pub joins-refuted : Refuted joins
+unfolding through
+joins-refuted = refuted joins refl
 
--- with three frames each none is common, and with 4,097 neither 20 nor 18 is looked at
-pub empty-join-accepted : JoinedAs two 3 (joined 0 (pos 2) (pos 2)) → ⊥
-unfolding Rattle.desk.specs.Shifts.through
-empty-join-accepted p = other-number (p .number-is) tt
-
-pub none-common-with-ends : JoinedAs two 3 (joined 20 (pos 2) (pos 2)) → ⊥
-none-common-with-ends p = other (left (p .refused (λ z. omega arith))) tt
-
-pub far-before-count : {first end : ℤ} → JoinedAs (pos (2 ^ 61 + 1) ∷ []) 4097 (joined 18 first end) → ⊥
-far-before-count p = other-number (p .number-is) tt
-
-pub no-cameras-joined : {first end : ℤ} → JoinedAs [] 3 (joined 0 first end) → ⊥
-no-cameras-joined p = other-number (p .number-is) tt
-
--- choosing; an exchange whose delay is 0, and one whose delay is 1
+-- an exchange whose delay is 0, one whose delay is 1, and one with a far reading
 abbrev delay-0 : List ℤ
 delay-0 = pos 0 ∷ pos 0 ∷ pos 0 ∷ pos 0 ∷ []
 
 abbrev delay-1 : List ℤ
 delay-1 = pos 0 ∷ pos 0 ∷ pos 0 ∷ pos 1 ∷ []
 
-pub number-refuses-always : (first second : List ℤ) {r : ℕ} → NumberAs first second r → firstOf (chooseChecks first second) ≡ 0 → (r ≡ 0 → ⊥) → ⊥
-number-refuses-always first second p e n = n (p ∙ e)
+abbrev too-far : List ℤ
+too-far = pos (2 ^ 60 + 1) ∷ pos 0 ∷ pos 0 ∷ pos 0 ∷ []
 
-pub zero-delay-unusable : NumberAs delay-0 [] 19 → ⊥
+abbrev pub numbers : List (Row ℕ)
+numbers =
+    refuses "choose_number/refuses-always" (numbered (chooseChecks delay-1 []))
+    ∷ gives "choose_number/zero-delay-unusable" (numbered (chooseChecks delay-0 [])) 19
+    ∷ gives "choose_number/negative-delay-usable" (numbered (chooseChecks run-1 [])) 0
+    ∷ gives "choose_number/empty-runs-accepted" (numbered (chooseChecks [] [])) 0
+    -- a far reading of an exchange that is not chosen
+    ∷ gives "choose_number/far-reading-passed-over" (numbered (chooseChecks delay-0 too-far)) 0
+    -- the far reading stands in the first run, and the odd length is the second's
+    ∷ late "choose_number/eighteen-before-twenty-six" (numbered (chooseChecks too-far (pos 0 ∷ []))) 18 26
+    ∷ []
+
+pub numbers-refuted : Refuted numbers
 unfolding delayAt
-zero-delay-unusable p = other-number p tt
+numbers-refuted = refuted numbers refl
 
-pub negative-delay-usable : NumberAs run-1 [] 0 → ⊥
+-- The exchange that wins, by the tests of the signed order.
+abbrev at-most : (a b : ℤ) → Tested (a ≤ℤ b)
+at-most a b = record { passes = leZ a b; sound = leZ-yes }
+
+abbrev under : (a b : ℤ) → Tested (a <ℤ b)
+under a b = record { passes = ltZ a b; sound = ltZ-yes }
+
+abbrev best : (run : List ℤ) (m j : ℕ) → Tested (Best run m j)
+best run m j =
+    hence
+    (also (less j m)
+    (also (holds (usable run j))
+    (also (at-each m (λ i. where-true (usable run i) (at-most (delayAt run j) (delayAt run i))))
+    (at-each j (λ i. where-true (usable run i) (under (delayAt run j) (delayAt run i)))))))
+    (λ f. record { within = f .0; can = f .1 .0; smallest = f .1 .1 .0; earliest = f .1 .1 .1 })
+
+module _ (first second : List ℤ) (j : ℕ) where
+  abbrev first-wins : Tested (FirstWins first second j)
+  first-wins =
+      hence (also (best first (exchanges first) j) (at-each (exchanges second) (λ i. where-true (usable second i) (at-most (delayAt first j) (delayAt second i)))))
+      (λ f. record { best = f .0; ahead = f .1 })
+
+  abbrev second-wins : Tested (SecondWins first second j)
+  second-wins =
+      hence (also (best second (exchanges second) j) (at-each (exchanges first) (λ i. where-true (usable first i) (under (delayAt second j) (delayAt first i)))))
+      (λ f. record { best = f .0; ahead = f .1 })
+
+-- a part of memory: the block that it lies in, its place there in bytes, and its readings
+pub record Part : Type 0 where
+  pub block : ℕ
+  pub place : ℕ
+  pub readings : List ℤ
+
+abbrev part : ℕ → ℕ → List ℤ → Part
+part block place readings = record { block = block; place = place; readings = readings }
+
+-- a reference to it, under a ghost name
+abbrev ref : GName → Part → RefT (List ℤ)
+ref name p = record { ptr = (p .block, p .place); name = name; now = p .readings }
+
+-- choosing from two runs that lie at the start of blocks 1 and 2
+module _ (first second : List ℤ) where
+  abbrev pub Chosen : GName → Part → Type 0
+  Chosen name p = ChosenAs (ref 0 (part 1 0 first)) (ref 0 (part 2 0 second)) (ref name p)
+
+  -- where this part is handed back if none of the checks holds
+  module _ (won : Part) (test : Unit {0} → Bool) (four : T (test tt) → Four (ref 0 (part 1 0 first)) (ref 0 (part 2 0 second)) (ref 0 won)) where
+    pub chosen : (k : ℕ) → firstOf (chooseChecks first second) ≡ k → T (by-number test (λ _. true) k) → Chosen 0 (by-number (λ _. won) (λ _. part 1 0 []) k)
+    chosen zero e t = record { given = λ _. four t; refused = λ n. absurd (n e) }
+    chosen (suc k) e t = record { given = λ z. absurd (omega (arith, sym e ∙ z)); refused = λ _. record { readings = refl; block = refl; place = refl } }
+
+    abbrev pub choosing : Case Part
+    choosing =
+        let k = firstOf (chooseChecks first second) in
+        record {
+          Promise = λ p. (name : GName) × Chosen name p;
+          checks = chooseChecks first second;
+          number = λ p. 0;
+          right = by-number (λ _. won) (λ _. part 1 0 []) k;
+          seen = by-number test (λ _. true) k;
+          only = λ t o p. let s = choose-once (p .1) (chosen k refl t) in λ i. part (s .block i) (s .place i) (s .readings i);
+        }
+
+  -- exchange j of the first path wins, or of the second
+  abbrev pub choose-first : ℕ → Case Part
+  choose-first j =
+      choosing (part 1 (0 + 4 * j * 8) (exchange first j)) (λ _. first-wins first second j .passes)
+      (λ t. of-first j (first-wins first second j .sound t) (record { readings = refl; block = refl; place = refl }))
+
+  abbrev pub choose-second : ℕ → Case Part
+  choose-second j =
+      choosing (part 2 (0 + 4 * j * 8) (exchange second j)) (λ _. second-wins first second j .passes)
+      (λ t. of-second j (second-wins first second j .sound t) (record { readings = refl; block = refl; place = refl }))
+
+abbrev block : Part → List ℕ
+block p = p .block ∷ []
+
+abbrev place : Part → List ℕ
+place p = p .place ∷ []
+
+abbrev count : Part → List ℕ
+count p = length (p .readings) ∷ []
+
+abbrev pub parts : List (Row Part)
+parts =
+    -- one exchange a path, both with delay 0; delay 1 before delay 0
+    wrong "choose/second-path-wins-ties" (choose-first delay-0 delay-0 0) block (2 ∷ [])
+    ∷ wrong "choose/first-path-always" (choose-second delay-1 delay-0 0) block (1 ∷ [])
+    -- two in the first run, both with delay 0; delay 1 before delay 0: 32 bytes are four readings
+    ∷ wrong "choose/later-wins-ties" (choose-first (delay-0 ++ delay-0) [] 0) place (32 ∷ [])
+    ∷ wrong "choose/larger-delay-chosen" (choose-first (delay-1 ++ delay-0) [] 1) place (0 ∷ [])
+    ∷ wrong "choose/nothing-handed-back" (choose-first delay-0 [] 0) count (0 ∷ [])
+    -- four readings that are equal to the chosen ones, in another block
+    ∷ wrong "choose/equal-readings-elsewhere" (choose-first delay-0 [] 0) block (3 ∷ [])
+    -- nothing is usable: the empty start of the first run is due
+    ∷ wrong "choose/empty-start-of-second" (choose-first [] [] 0) block (2 ∷ [])
+    ∷ []
+
+pub parts-refuted : Refuted parts
 unfolding delayAt
-negative-delay-usable p = other-number p tt
-
-pub empty-runs-accepted : NumberAs [] [] 0 → ⊥
-empty-runs-accepted p = other-number p tt
-
--- 18 before 26, also where the far reading stands in the first run and the odd length is the second's
-pub choosing-eighteen-first : NumberAs (pos (2 ^ 60 + 1) ∷ pos 0 ∷ pos 0 ∷ pos 0 ∷ []) (pos 0 ∷ []) 18 → ⊥
-choosing-eighteen-first p = other-number p tt
-
--- a far reading of an exchange that is not chosen is passed over
-pub far-reading-passed-over : NumberAs delay-0 (pos (2 ^ 60 + 1) ∷ pos 0 ∷ pos 0 ∷ pos 0 ∷ []) 0 → ⊥
-far-reading-passed-over p = other-number p tt
-
--- one exchange a path, both with delay 0; two in the first run, both with delay 0; delay 1 before delay 0
-second-loses : (j : ℕ) → SecondWins delay-0 delay-0 j → ⊥
-unfolding delayAt
-second-loses j w =
-    let z : j ≡ 0 = omega (arith, w .best .within) in
-    let l : pos 0 <ℤ pos 0 = rw z at (w .ahead 0 (lit< tt) refl) in
-    l .lt
-
-later-loses : (j : ℕ) → j ≡ 1 → FirstWins (delay-0 ++ delay-0) [] j → ⊥
-unfolding delayAt
-later-loses j e w =
-    let l : pos 0 <ℤ pos 0 = rw e at (w .best .earliest 0 (omega arith) refl) in
-    l .lt
-
-larger-loses : (j : ℕ) → j ≡ 0 → FirstWins (delay-1 ++ delay-0) [] j → ⊥
-unfolding delayAt
-larger-loses j e w =
-    let l = rw e at (w .best .smallest 1 (lit< tt) refl) in
-    l .le
-
-first-loses : (j : ℕ) → FirstWins delay-1 delay-0 j → ⊥
-unfolding delayAt
-first-loses j w =
-    let z : j ≡ 0 = omega (arith, w .best .within) in
-    let l : pos 1 ≤ℤ pos 0 = rw z at (w .ahead 0 (lit< tt) refl) in
-    l .le
-
--- of the part: both runs hold an exchange with delay 0, and they lie in different blocks of memory
-module _ (first second r : RefT (List ℤ)) (p : ChosenAs first second r) where
-  pub second-path-wins-ties : first .now ≡ delay-0 → second .now ≡ delay-0 → PartOf second 0 4 r → (second .ptr .0 ≡ first .ptr .0 → ⊥) → ⊥
-  unfolding delayAt
-  second-path-wins-ties e f q n = go (p .given (rw (e, f)))
-    where
-      go : Four first second r → ⊥
-      go (of-first j w o) = n (sym (q .block) ∙ o .block)
-      go (of-second j w o) = second-loses j (rw (e, f) at w)
-
-  -- the first path is taken although the second has the smaller delay
-  pub first-path-always : first .now ≡ delay-1 → second .now ≡ delay-0 → PartOf first 0 4 r → (second .ptr .0 ≡ first .ptr .0 → ⊥) → ⊥
-  unfolding delayAt
-  first-path-always e f q n = go (p .given (rw (e, f)))
-    where
-      go : Four first second r → ⊥
-      go (of-first j w o) = first-loses j (rw (e, f) at w)
-      go (of-second j w o) = n (sym (o .block) ∙ q .block)
-
-  -- nothing is handed back although an exchange is usable
-  pub nothing-handed-back : first .now ≡ delay-0 → second .now ≡ [] → r .now ≡ [] → ⊥
-  unfolding delayAt
-  nothing-handed-back e f q = go (p .given (rw (e, f)))
-    where
-      count : (j : ℕ) → j < exchanges delay-0 → 0 ≡ length (exchange delay-0 j) → ⊥
-      count j h l = let z : j ≡ 0 = omega arith in other-number (rw z at l) tt
-
-      go : Four first second r → ⊥
-      go (of-first j w o) = count j (rw e at (w .best .within)) (ap length (sym q ∙ rw e at (o .readings)))
-      go (of-second j w o) = let g : j < exchanges [] = rw f at (w .best .within) in omega arith
-
-  -- nothing is usable, and the empty start of the second run is handed back
-  pub empty-start-of-second : first .now ≡ [] → second .now ≡ [] → PartOf second 0 0 r → (second .ptr .0 ≡ first .ptr .0 → ⊥) → ⊥
-  empty-start-of-second e f q n = n (sym (q .block) ∙ p .refused (rw (e, f) (λ z. omega arith)) .block)
-
-  -- four readings that are equal to the chosen ones, but stand elsewhere
-  pub equal-readings-elsewhere : first .now ≡ delay-0 → second .now ≡ [] → (r .ptr .0 ≡ first .ptr .0 → ⊥) → (r .ptr .0 ≡ second .ptr .0 → ⊥) → ⊥
-  unfolding delayAt
-  equal-readings-elsewhere e f n m = go (p .given (rw (e, f)))
-    where
-      go : Four first second r → ⊥
-      go (of-first j w o) = n (o .block)
-      go (of-second j w o) = m (o .block)
-
-  -- the part of the first run from reading k on, in a run whose only exchanges are there
-  elsewhere : (k : ℕ) (run : List ℤ) → first .now ≡ run → second .now ≡ [] → PartOf first k 4 r → firstOf (chooseChecks run []) ≡ 0
-      → ((j : ℕ) → k ≡ 4 * j → FirstWins run [] j → ⊥) → ⊥
-  elsewhere k run e f q accepted none = go (p .given (rw (e, f) accepted))
-    where
-      go : Four first second r → ⊥
-      go (of-first j w o) = none j (omega (arith, q .place, o .place)) (rw (e, f) at w)
-      go (of-second j w o) = let g : j < exchanges [] = rw f at (w .best .within) in omega arith
-
-  -- the later of two with equal delays, and the one with the larger delay
-  pub later-wins-ties : first .now ≡ delay-0 ++ delay-0 → second .now ≡ [] → PartOf first 4 4 r → ⊥
-  unfolding delayAt
-  later-wins-ties e f q = elsewhere 4 (delay-0 ++ delay-0) e f q refl (λ j h. later-loses j (omega arith))
-
-  pub larger-delay-chosen : first .now ≡ delay-1 ++ delay-0 → second .now ≡ [] → PartOf first 0 4 r → ⊥
-  unfolding delayAt
-  larger-delay-chosen e f q = elsewhere 0 (delay-1 ++ delay-0) e f q refl (λ j h. larger-loses j (omega arith))
+parts-refuted = refuted parts refl

@@ -1,59 +1,100 @@
--- What a wrong outcome runs into: two numbers or two lists that a promise says are equal and a computed test finds different, a word
--- that does not stand where its layout has it.
-use mathlib.Core.Path.{_≡_, refl, subst, _∙_}
-use mathlib.Core.Bool.{Bool, true, false, not, _&&_}
-use mathlib.Core.List.{List, [], _∷_}
+-- Wrong versions as tables. A row names a version, CALL/VERSION, and says what it leaves or answers on one small entry; one computed test over a table shows
+-- that the promise refutes every row of it, and names those that it does not. docs/PROMISES.md cites rows by their names.
+use mathlib.Core.Path.{_≡_, sym, ap, subst, _∙_}
+use mathlib.Core.Bool.{Bool, true, false, cond, not, _&&_}
+use mathlib.Core.List.{List, [], _∷_, List·Memᴰ, List·Memᴰ·not-nil, List·Memᴰ·cases-cons}
+use mathlib.Core.Logic.{⊎-elim}
 use Prim.Native.Nat.{ℕ}
-use lib.Dec.{T, eqb, ltb, T-not, eqb-refl}
-use lib.ListN.{getD}
-use borrow.Author.Tests.{ltb-true}
+use Prim.Native.String.{String}
+use native.Mathlib.Omega.{arith}
+use lib.Dec.{T, eqb, T-not, eqb-refl, eqb→eq}
+use lib.ListN.{length}
 use Rattle.lists.specs.Same.{same}
 use Rattle.lists.proofs.Test.{both-left, both-right, eq→same}
-use Rattle.layout.specs.Layout.{Within, at, pick, Laid}
-use Rattle.layout.specs.Layout.Within.{none, more}
 use Rattle.refusals.specs.FirstOf.{Check, firstOf}
-use Rattle.refusals.specs.Promise.{Rearranged}
+use Rattle.refusals.specs.Conditions.{some}
 
--- the test passed
-passes : (t : Bool) → T t → t ≡ true
-passes true h = refl
-passes false h = absurd h
-
--- the promise says that two numbers are equal, and they are not
+-- two numbers that are said to be equal, and are not
 pub other-number : {a b : ℕ} → a ≡ b → T (not (eqb a b)) → ⊥
 other-number {a} {b} e n = T-not (eqb a b) n (subst (λ (x : ℕ). T (eqb a x)) e (eqb-refl a))
 
--- the promise says that two lists are equal, and they are not
+-- two lists
 pub other-list : {xs ys : List ℕ} → xs ≡ ys → T (not (same xs ys)) → ⊥
 other-list {xs} {ys} e n = T-not (same xs ys) n (eq→same xs ys e)
 
--- coordinates within the lengths, as a test
-abbrev pub inside : List ℕ → List ℕ → Bool
-inside [] [] = true
-inside [] (x ∷ xs) = false
-inside (d ∷ ds) [] = false
-inside (d ∷ ds) (x ∷ xs) = ltb x d && inside ds xs
+-- A call on one entry: what it promises there of an outcome, its checks, the number of an outcome; and the right outcome, which is the only one that the
+-- promise allows if the test `seen` passes.
+pub record Case (O : Type 0) : Type 1 where
+  pub Promise : O → Type 0
+  pub checks : List Check
+  pub number : O → ℕ
+  pub right : O
+  pub seen : Bool
+  pub only : T seen → (o : O) → Promise o → o ≡ right
 
-pub within : (ds x : List ℕ) → T (inside ds x) → Within ds x
-within [] [] t = none
-within [] (x ∷ xs) t = absurd t
-within (d ∷ ds) [] t = absurd t
-within (d ∷ ds) (x ∷ xs) t =
-    more (ltb-true x d (passes (ltb x d) (both-left (ltb x d) (inside ds xs) t))) (within ds xs (both-right (ltb x d) (inside ds xs) t))
+-- A wrong version, by its name and an entry: what it leaves in a part of the outcome; the number that it gives; the number that it gives where another is
+-- due, because it makes its checks in another order; or that it refuses, with whatever number.
+pub data Row (O : Type 0) : Type 1 where
+  wrong : String → Case O → (O → List ℕ) → List ℕ → Row O
+  gives : String → Case O → ℕ → Row O
+  late : String → Case O → ℕ → ℕ → Row O
+  refuses : String → Case O → Row O
 
-module _ {ds o xs ys : List ℕ} (l : Laid ds o xs ys) where
-  -- the word with coordinates x does not stand where the layout has it
-  pub misplaced : (x : List ℕ) → T (inside ds x) → T (not (eqb (getD ys (at (pick o ds) (pick o x)) 0) (getD xs (at ds x) 0))) → ⊥
-  misplaced x h n = other-number (l .placed x (within ds x h)) n
+-- the condition of a number holds
+abbrev pub holds : ℕ → List Check → Bool
+holds k cs = some (λ d. eqb (d .number) k && d .holds) cs
 
--- a call that refuses where none of its conditions holds breaks its promise: one that refuses always does
-pub refuses : {checks : List Check} {needed : ℕ} {Right : List ℕ → Type 0} {b₀ s₀ b s : List ℕ} {r : ℕ} → Rearranged checks needed Right b₀ s₀ r b s
-    → firstOf checks ≡ 0 → (r ≡ 0 → ⊥) → ⊥
-refuses p e n = n (p .number-is ∙ e)
+module _ {O : Type 0} where
+  abbrev pub name : Row O → String
+  name (wrong n c part leaves) = n
+  name (gives n c k) = n
+  name (late n c k due) = n
+  name (refuses n c) = n
 
--- no call with these checks may answer this number, whatever it does with the words
-abbrev pub Broken : List Check → ℕ → Type 1
-Broken checks number = (needed : ℕ) (Right : List ℕ → Type 0) (b₀ s₀ b s : List ℕ) → Rearranged checks needed Right b₀ s₀ number b s → ⊥
+  -- The right outcome is seen to be right. What the version leaves is something else, as long as what is right there, so that it can be left. The number that it
+  -- gives is another; of two numbers in the wrong order both conditions hold, and the one that is due is the first. Where it refuses, the right number is 0.
+  abbrev pub test : Row O → Bool
+  test (wrong n c part leaves) = c .seen && (not (same leaves (part (c .right))) && eqb (length leaves) (length (part (c .right))))
+  test (gives n c k) = c .seen && not (eqb k (c .number (c .right)))
+  test (late n c k due) =
+      c .seen
+      && (not (eqb k (c .number (c .right)))
+      && (eqb due (c .number (c .right)) && (eqb due (firstOf (c .checks)) && (holds k (c .checks) && holds due (c .checks)))))
+  test (refuses n c) = c .seen && eqb (c .number (c .right)) 0
 
-pub broken : (checks : List Check) (number : ℕ) → T (not (eqb number (firstOf checks))) → Broken checks number
-broken checks number n needed Right b₀ s₀ b s p = other-number (p .number-is) n
+  -- no outcome that the promise allows is the version's
+  abbrev pub Refutes : Row O → Type 0
+  Refutes (wrong n c part leaves) = (o : O) → c .Promise o → part o ≡ leaves → ⊥
+  Refutes (gives n c k) = (o : O) → c .Promise o → c .number o ≡ k → ⊥
+  Refutes (late n c k due) = (o : O) → c .Promise o → c .number o ≡ k → ⊥
+  Refutes (refuses n c) = (o : O) → c .Promise o → (c .number o ≡ 0 → ⊥) → ⊥
+
+  -- another number than that of the only outcome
+  other : (c : Case O) (k : ℕ) → T (c .seen) → T (not (eqb k (c .number (c .right)))) → (o : O) → c .Promise o → c .number o ≡ k → ⊥
+  other c k seen t o p e = other-number (sym e ∙ ap (c .number) (c .only seen o p)) t
+
+  pub refutes : (r : Row O) → T (test r) → Refutes r
+  refutes (wrong n c part leaves) t = λ o p e.
+      other-list (sym e ∙ ap part (c .only (both-left (c .seen) _ t) o p)) (both-left (not (same leaves (part (c .right)))) _ (both-right (c .seen) _ t))
+  refutes (gives n c k) t = other c k (both-left (c .seen) _ t) (both-right (c .seen) _ t)
+  refutes (late n c k due) t = other c k (both-left (c .seen) _ t) (both-left (not (eqb k (c .number (c .right)))) _ (both-right (c .seen) _ t))
+  refutes (refuses n c) t = λ o p n. n (ap (c .number) (c .only (both-left (c .seen) _ t) o p) ∙ eqb→eq (c .number (c .right)) 0 (both-right (c .seen) _ t))
+
+  -- the names of the rows at which the test fails
+  abbrev pub failing : List (Row O) → List String
+  failing [] = []
+  failing (r ∷ rs) = cond (test r) (failing rs) (name r ∷ failing rs)
+
+  -- every row of a table is refuted
+  abbrev pub Refuted : List (Row O) → Type 1
+  Refuted rows = (r : Row O) → List·Memᴰ r rows → Refutes r
+
+  pub refuted : (rows : List (Row O)) → failing rows ≡ [] → Refuted rows
+  refuted [] e r m = absurd (List·Memᴰ·not-nil m)
+  refuted (x ∷ rows) e r m =
+      let (t, none) = first (test x) (name x) (failing rows) e in
+      ⊎-elim (λ (same : r ≡ x). refutes r (subst (λ (y : Row O). T (test y)) (sym same) t)) (λ m′. refuted rows none r m′) (List·Memᴰ·cases-cons m)
+    where
+      first : (t : Bool) (n : String) (ns : List String) → cond t ns (n ∷ ns) ≡ [] → T t × (ns ≡ [])
+      first true n ns e = (tt, e)
+      first false n ns e = absurd (omega (arith, ap length e))
