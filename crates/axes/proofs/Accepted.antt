@@ -16,7 +16,7 @@ use Rattle.orders.specs.Needs.{chainNeed}
 use Rattle.orders.proofs.Chains.{volume-follow}
 use Rattle.orders.proofs.Needs.{need-back}
 use Rattle.refusals.specs.FirstOf.{Check, check, firstOf}
-use Rattle.refusals.specs.Conditions.{some, outOfRange, badLength, tooManyWords, shortBuffer, longBuffer, shortScratch, longChain, noSwap, badSwap, noOrder}
+use Rattle.refusals.specs.Conditions.{some, outOfRange, badLength, tooManyWords, shortBuffer, longBuffer, shortScratch, longChain, noSwap, badSwap}
 use Rattle.refusals.specs.Calls.{blockChecks, chainChecks, requestChecks}
 use Rattle.refusals.proofs.FirstOf.{Silent, refused-by, accepted-so-far}
 use Rattle.refusals.proofs.FirstOf.Silent.{none, more}

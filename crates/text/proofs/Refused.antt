@@ -14,7 +14,7 @@ use Rattle.refusals.specs.Conditions.{some, badLength, shortBuffer, longChain, 
 use Rattle.text.specs.Print.{line}
 use Rattle.text.specs.Read.{Reading, readLine, tabs}
 use Rattle.text.specs.Sheet.{shapeWord, chainWord, orderWord, rowWord, rowCount, rowWidth}
-use Rattle.text.specs.Meaning.{Verdict, Outcome, longSheet, bigSheet, refuseIf, onLine, onward, behind, conclude, ended, shapeLine, chainLine, lineOrder, wrongRelease, orderFields, orderLine, rowLines, meaningBy, meaning, resultMeaning}
+use Rattle.text.specs.Meaning.{Verdict, Outcome, longSheet, bigSheet, refuseIf, onLine, onward, behind, conclude, ended, shapeLine, chainLine, lineOrder, wrongRelease, orderLine, rowLines, meaningBy, meaning, resultMeaning}
 use Rattle.text.proofs.Lines.{Stands, line-text, text-line}
 use Rattle.text.proofs.Accepted.{ShapeRead, shape-read, read-shape, Second}
 use Rattle.text.proofs.SecondLines.{GoodChain, GoodOrder, chain-second, order-second, chain-tabs, order-tabs}
