@@ -122,7 +122,10 @@ uint32_t zib_tick(uint32_t *buffer, size_t buffer_words, uint32_t *scratch, size
  * by the budget, which leaves scratch as the stores left it; the progress word tells: at twice the line count plus one the turn is done, and a call
  * stores nothing. Set to 0 at the first start, with the same m and n at each restart and nobody else writing to the three, block, scratch
  * and progress word end as those of an uncut turn, however often it was stopped, restarts too. A stopped process leaves what a budget leaves as long as
- * a stage's words reach the file before its progress word, and that before the next stage's words: see "A process that is killed" in README.
+ * a stage's words reach the file before its progress word, and that before the next stage's words: see "A process that is killed" in README. Where the
+ * power may be cut, an msync of the whole file comes before the first call of every start.
+ * Other sides than those of the first start destroy the block, and the call can tell only where the progress word is past their end: keep m and n
+ * beside it and compare them. At 23 check the sides first; setting the word to 0 comes last, and destroys a turn that was under way.
  * Answers 0, or the first of 1, 2, 3, 13, 4, 23 that holds.
  */
 uint32_t zib_resume(uint32_t *buffer, size_t buffer_words, uint32_t *scratch, size_t scratch_words, uint32_t *progress, size_t m,
