@@ -27,12 +27,12 @@ use Rattle.orders.proofs.Needs.{need-append, need-back}
 use Rattle.orders.proofs.PlanNeeds.{plan-least}
 use Rattle.orders.proofs.Releases.{by-order, by-first}
 use Rattle.orders.proofs.Goes.{laid-by}
-use Rattle.refusals.specs.FirstOf.{Check, check, firstOf}
+use Rattle.refusals.specs.FirstOf.{Check, check, firstOf, Silent}
 use Rattle.refusals.specs.Conditions.{shortScratch, badSwap, noRelease}
 use Rattle.refusals.specs.Calls.{chainChecks, requestChecks, namedChecks}
 use Rattle.refusals.specs.Scratch.{cleared}
 use Rattle.refusals.specs.Promise.{Rearranged}
-use Rattle.refusals.proofs.FirstOf.{Silent, silent-zero}
+use Rattle.refusals.proofs.FirstOf.{silent-zero}
 use Rattle.refusals.proofs.Conditions.{no-order-false}
 use Rattle.refusals.proofs.Scratch.{cleared-length, cleared-twice}
 use Rattle.axes.specs.declared.Answer.{Answer}
