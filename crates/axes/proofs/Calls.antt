@@ -31,8 +31,7 @@ use Rattle.axes.specs.declared.Answer.{Answer}
 use Rattle.plans.specs.declared.Planned.{Planned}
 use Rattle.plans.specs.Promise.{PlanPromise}
 use Rattle.plans.proofs.Given.{is-one, the-plan}
-use Rattle.axes.specs.Answers.{accepted, refused, refusedPlace}
-use Rattle.axes.specs.Private.{askedFor}
+use Rattle.axes.specs.Answers.{accepted, refused, refusedPlace, askedFor}
 use Rattle.axes.specs.Promises.{ChainPromise, RequestPromise}
 use Rattle.axes.proofs.Accepted.{never-six}
 

@@ -3,8 +3,8 @@ ghost use mathlib.Core.Path.{_≡_};
 ghost use Prim.Native.Nat.{_+_, _<_};
 ghost use lib.ListN.{length, take};
 ghost use Rattle.orders.specs.Chains.{exchange};
-ghost use Rattle.axes.specs.Answers.{fiveLengths, refused};
-ghost use Rattle.axes.specs.Private.{FourOrFive, askedFor};
+ghost use Rattle.axes.specs.Answers.{fiveLengths, refused, askedFor};
+ghost use Rattle.axes.specs.Private.{FourOrFive};
 ghost use Rattle.axes.specs.Promises.{ChainPromise, RequestPromise};
 
 mod chains;

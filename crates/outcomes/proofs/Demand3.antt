@@ -17,7 +17,7 @@ use Rattle.refusals.specs.Conditions.{badSwap}
 use Rattle.axes.specs.declared.Answer.{Answer}
 use Rattle.axes.specs.Promises.{ChainPromise}
 use Rattle.axes.proofs.Demands as demands
-use Rattle.axes.proofs.Demands.{Joined, Alike, Restored}
+use Rattle.axes.specs.Demands.{Joined, Alike, Restored}
 use Rattle.axes.proofs.chain.Kinds as four-kinds
 use Rattle.axes.proofs.chain.Reads as four
 use Rattle.axes.proofs.chain5.Kinds as five-kinds

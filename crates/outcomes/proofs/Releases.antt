@@ -15,7 +15,7 @@ use Rattle.orders.specs.Numbers.{orderCount}
 use Rattle.orders.specs.Releases.{numberBy}
 use Rattle.refusals.specs.Conditions.{noRelease}
 use Rattle.axes.specs.declared.Answer.{Answer}
-use Rattle.axes.specs.Private.{askedFor}
+use Rattle.axes.specs.Answers.{askedFor}
 use Rattle.axes.specs.Promises.{RequestPromise}
 use Rattle.axes.proofs.Demands as demands
 use Rattle.axes.proofs.request.Kinds as four-kinds

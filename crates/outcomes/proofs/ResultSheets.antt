@@ -17,14 +17,14 @@ use borrow.Author.Tests.{eqb-true, eqb-false, ne-eqb}
 use borrow.Fn.Kinds.{endedOf, Dens, GoodsP}
 use Rattle.layout.specs.Layout.{volume}
 use Rattle.text.specs.Sheet.{orderNumbers, resultBy}
-use Rattle.text.proofs.Lines.{Small}
+use Rattle.text.specs.Right.{SheetNumbers, RightResult}
 use Rattle.text.proofs.Rows.{small-take, result-first}
 use Rattle.text.proofs.Length.{result-fits}
-use Rattle.text.proofs.SecondLines.{RightResult, one-of-two, two-known, good-by}
+use Rattle.text.proofs.SecondLines.{one-of-two, two-known, good-by}
 use Rattle.blocks.specs.OnSheet.{OnSheet}
 use Rattle.sheet.specs.declared.ResultSheet.{ResultSheet}
-use Rattle.sheet.specs.ResultReader.{ResultReadAs}
-use Rattle.sheet.proofs.RightResults.{found, right-is-read, read-is-right}
+use Rattle.sheet.specs.ResultReader.{ResultReadAs, resultFound}
+use Rattle.sheet.proofs.RightResults.{right-is-read, read-is-right}
 use Rattle.printer.specs.declared.Written.{Written}
 use Rattle.printer.specs.Writer.{written, writtenTo, writerNumber, WrittenAs, releaseNumber, ReleaseWrittenAs}
 use Rattle.printer.proofs.write.Kinds as write-kinds
@@ -74,7 +74,7 @@ module _ (release : ℕ) (ds : List ℕ) (order : ℕ) (words out : List ℕ) wh
       by false e = number-0-by ds release order words out h (two-known release (eqb-false release 0 e) two) known room
 
 -- a text of a writer is right for a reader that is lent at least the block's words
-text-right : {buffer ds : List ℕ} (release order : ℕ) {words : List ℕ} → length ds ≡ 4 → Small words → OnSheet ds words → release ≤ 2 → order ≤ 23
+text-right : {buffer ds : List ℕ} (release order : ℕ) {words : List ℕ} → length ds ≡ 4 → SheetNumbers words → OnSheet ds words → release ≤ 2 → order ≤ 23
     → volume ds ≤ length buffer → RightResult buffer (resultBy ds release order words) ds (orderNumbers release order) (take (volume ds) words)
 unfolding resultBy
 text-right {ds = ds} release order {words} four small block two known room =
@@ -93,8 +93,8 @@ text-right {ds = ds} release order {words} four small block two known room =
 -- what a writer writes reads back the same: the lengths, the release, 0 where none is named, the order number, and the words of the block from the
 -- buffer's start on
 pub written-is-read : {release : ℕ} {ds : List ℕ} {order : ℕ} {words out : List ℕ} {w : Written} {out′ buffer : List ℕ} {r : ResultSheet} {buffer′ : List ℕ}
-    → length ds ≡ 4 → Small words → WrittenFor release ds order words out w out′ → w .number ≡ 0 → volume ds ≤ length buffer
-    → ResultReadAs buffer (take (w .count) out′) r buffer′ → (r ≡ found ds release order) × (buffer′ ≡ take (volume ds) words ++ drop (volume ds) buffer)
+    → length ds ≡ 4 → SheetNumbers words → WrittenFor release ds order words out w out′ → w .number ≡ 0 → volume ds ≤ length buffer
+    → ResultReadAs buffer (take (w .count) out′) r buffer′ → (r ≡ resultFound ds release order) × (buffer′ ≡ take (volume ds) words ++ drop (volume ds) buffer)
 written-is-read {release} {ds} {order} {words} {out} {w} {out′} {buffer} {r} {buffer′} four small p z room q =
     let n : numberFor release ds order words out ≡ 0 = sym (ap (λ (s : Written). s .number) (p .answers)) ∙ z in
     let h = wrote-for-it release ds order words out n in
@@ -131,7 +131,7 @@ pub record WriterText (buffer bytes : List ℕ) : Type 0 where
   pub words : List ℕ
   pub out : List ℕ
   pub four : length ds ≡ 4
-  pub small : Small words
+  pub small : SheetNumbers words
   pub room : volume ds ≤ length buffer
   pub accepted : numberFor release ds order words out ≡ 0
   pub text : bytes ≡ resultBy ds release order words
@@ -252,9 +252,9 @@ wrote-for : (c : Writing) {ds : List ℕ} {k : ℕ} → lengths c ≡ ds → ord
 wrote-for c e f = rw (← e, ← f) (c .post)
 
 -- what was written, whatever stands behind it cut off, loads with the same lengths, no release, and the same order number and words; words have 32 bits
-pub comes-back : (w : Writing) (r : Loading) → Small (words w) → w .answer .number ≡ 0 → bytes r ≡ take (w .answer .count) (outAfter w)
+pub comes-back : (w : Writing) (r : Loading) → SheetNumbers (words w) → w .answer .number ≡ 0 → bytes r ≡ take (w .answer .count) (outAfter w)
     → volume (lengths w) ≤ length (buffer r)
-    → (r .answer ≡ found (lengths w) 0 (order w)) × (bufferAfter r ≡ take (volume (lengths w)) (words w) ++ drop (volume (lengths w)) (buffer r))
+    → (r .answer ≡ resultFound (lengths w) 0 (order w)) × (bufferAfter r ≡ take (volume (lengths w)) (words w) ++ drop (volume (lengths w)) (buffer r))
 comes-back w r small z e room = written-is-read (four w) small (for-none (w .post)) z room (loaded r e)
 
 -- what loads without a release is written for the loaded values byte for byte
@@ -268,9 +268,9 @@ goes-out r w z none e f enough same room =
     read-is-written (r .post) z enough same room written
 
 -- what was written with its release loads with that release
-pub comes-back-released : (w : Releasing) (r : Loading) → Small (wordsBy w) → w .answer .number ≡ 0 → bytes r ≡ take (w .answer .count) (outAfterBy w)
+pub comes-back-released : (w : Releasing) (r : Loading) → SheetNumbers (wordsBy w) → w .answer .number ≡ 0 → bytes r ≡ take (w .answer .count) (outAfterBy w)
     → volume (lengthsBy w) ≤ length (buffer r)
-    → (r .answer ≡ found (lengthsBy w) (releaseBy w) (orderBy w))
+    → (r .answer ≡ resultFound (lengthsBy w) (releaseBy w) (orderBy w))
     × (bufferAfter r ≡ take (volume (lengthsBy w)) (wordsBy w) ++ drop (volume (lengthsBy w)) (buffer r))
 comes-back-released w r small z e room =
     let n = sym (ap (λ (s : Written). s .number) (w .post .answers)) ∙ z in

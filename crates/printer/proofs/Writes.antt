@@ -14,6 +14,7 @@ use Rattle.refusals.specs.Conditions.{badLength, shortBuffer, noOrder, noReleas
 use Rattle.refusals.specs.Calls.{planChecks, namedChecks}
 use Rattle.refusals.proofs.FirstOf.{refused-first, passed-first, through}
 use Rattle.refusals.proofs.Conditions.{passed}
+use Rattle.text.specs.Right.{SheetNumbers}
 use Rattle.text.specs.Sheet.{resultText, resultBy}
 use Rattle.text.specs.Meaning.{bigSheet}
 use Rattle.blocks.specs.OnSheet.{OnSheet}
@@ -77,9 +78,9 @@ module _ (text out : List ℕ) where
       record { answers = p .0; bytes = p .1 }
 
 -- the writer that names no release
-module _ {ds : List ℕ} {order : ℕ} {words out : List ℕ} {answered : Written} where
+module _ {ds : List ℕ} {order : ℕ} {words out : List ℕ} {answered : Written} (held : SheetNumbers words) where
   told : {out′ : List ℕ} → Told (writerNumber ds order words out) (resultText ds order words) out answered out′ → WrittenAs ds order words out answered out′
-  told t = record { answers = t .0; bytes = t .1 }
+  told t = record { answers = t .0; bytes = t .1; held = held }
 
   pub refused-block : {k : ℕ} → k ≡ firstOf (sheetChecks ds words) → (k ≡ 0 → ⊥) → answered ≡ nothingWritten k → WrittenAs ds order words out answered out
   refused-block e z a = told (told-block ds words (planChecks 4 order) (resultText ds order words) out e z a)
@@ -94,10 +95,10 @@ module _ {ds : List ℕ} {order : ℕ} {words out : List ℕ} {answered : Writte
   accepted b k t = told (told-text ds words (planChecks 4 order) (resultText ds order words) out b tt (rw (le-ltb 23 order k)) t)
 
 -- the writer that names one
-module _ {ds : List ℕ} {release order : ℕ} {words out : List ℕ} {answered : Written} where
+module _ {ds : List ℕ} {release order : ℕ} {words out : List ℕ} {answered : Written} (held : SheetNumbers words) where
   told-by : {out′ : List ℕ} → Told (releaseNumber ds release order words out) (resultBy ds release order words) out answered out′
       → ReleaseWrittenAs ds release order words out answered out′
-  told-by t = record { answers = t .0; bytes = t .1 }
+  told-by t = record { answers = t .0; bytes = t .1; held = held }
 
   pub refused-block-by : {k : ℕ} → k ≡ firstOf (sheetChecks ds words) → (k ≡ 0 → ⊥) → answered ≡ nothingWritten k
       → ReleaseWrittenAs ds release order words out answered out
