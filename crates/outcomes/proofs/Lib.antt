@@ -1,3 +1,5 @@
+-- calls as a caller sees them, from what the checker reads
+pub mod Seen
 -- one outcome: any two outcomes that a contract allows from one entry coincide
 pub mod Flat
 pub mod Axes
