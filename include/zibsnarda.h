@@ -2,13 +2,15 @@
  * Zibsnarda: blocks of 32-bit words rearranged within their buffer.
  *
  * The archive is for x86-64. Its calls are proved for slices that are there and lie apart, so a caller
- * sees to three things that no call can test:
+ * sees to four things that no call can test:
  *   - each pointer is aligned, not null (also where the length beside it is 0: any aligned address will do), and leads to as many
  *     elements as that length says;
  *   - buffer and scratch of one call do not overlap, nor does a record or word that is lent lie in one of them, nor does a part that is only read
  *     overlap one that is written;
- *   - nobody else writes to them during the call.
- * Everything else is tested. A refused call says why by its number and leaves all buffers unchanged.
+ *   - nobody else writes to them during the call;
+ *   - the part that zib_choose stores into holds some part before the call, an empty one will do.
+ * Everything else is tested. A refused call says why by its number and leaves all buffers unchanged; two write their refusal all the same: zib_job its
+ * line of text, zib_choose the empty start of the first run.
  * No call allocates, keeps a pointer, or reads or writes anything besides what it is lent. The archive asks for memcpy and memset and
  * for nothing else, so that it links on a board without an operating system. No call takes more than 8,192 bytes of stack.
  *

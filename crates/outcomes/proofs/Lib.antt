@@ -7,6 +7,8 @@ pub mod Sheets
 pub mod Exports
 -- the checks, and the shape with two axes exchanged: one answer, and wrong ones refuted
 pub mod Checks
+-- demand 1: every list of checks gives its numbers exactly when
+pub mod EveryList
 -- demand 2: passes and recursion leave the same words
 pub mod Methods
 -- demand 3 about the contracts of the chains, on four and on five axes, as the checker reads them

@@ -9,7 +9,7 @@ use native.Mathlib.Omega.{arith}
 use lib.Dec.{T, ltb, ltb→lt}
 use Rattle.lists.proofs.Decide.{decided, eq-or-ne}
 use Rattle.lists.proofs.Test.{both-left, both-right}
-use Rattle.refusals.specs.FirstOf.{Check, firstOf, refusing, Silent, First}
+use Rattle.refusals.specs.FirstOf.{Check, firstOf, refusing, Silent, First, Exactly}
 
 pub silent-zero : {cs : List Check} → Silent cs → firstOf cs ≡ 0
 silent-zero Silent.none = refl
@@ -38,6 +38,10 @@ accepted-exactly cs t = (zero-silent cs t, silent-zero)
 -- it is k exactly when k's condition holds and none before it does
 pub refused-exactly : {k : ℕ} (cs : List Check) → 0 < k → (firstOf cs ≡ k) ↔ First k cs
 refused-exactly cs p = (is-first cs p, first-is)
+
+-- both, of every list none of whose numbers is 0
+pub exactly : (cs : List Check) → T (refusing cs) → Exactly cs
+exactly cs t = record { accepted = accepted-exactly cs t; refused = λ k. refused-exactly cs }
 
 -- more checks after a list of checks: they are not looked at where one of the list holds, and they decide where none does
 pub refused-first : (cs ds : List Check) → (firstOf cs ≡ 0 → ⊥) → firstOf (cs ++ ds) ≡ firstOf cs

@@ -2,7 +2,8 @@
 use mathlib.Core.Bool.{Bool, true, false, cond, _&&_}
 use mathlib.Core.Path.{_≡_}
 use mathlib.Core.List.{List, [], _∷_}
-use Prim.Native.Nat.{ℕ}
+use mathlib.Core.Logic.{_↔_}
+use Prim.Native.Nat.{ℕ, _<_}
 use lib.Dec.{ltb}
 
 -- a condition, and the number that is given where it holds
@@ -33,3 +34,8 @@ pub data Silent : List Check → Type 0 where
 pub data First (k : ℕ) : List Check → Type 0 where
   here : {c : Check} {cs : List Check} → c .holds ≡ true → c .number ≡ k → First k (c ∷ cs)
   later : {c : Check} {cs : List Check} → c .holds ≡ false → First k cs → First k (c ∷ cs)
+
+-- a call with this list of checks answers 0 exactly when no condition holds, and k exactly when k's condition holds and none before it does
+pub record Exactly (cs : List Check) : Type 0 where
+  pub accepted : (firstOf cs ≡ 0) ↔ Silent cs
+  pub refused : (k : ℕ) → 0 < k → (firstOf cs ≡ k) ↔ First k cs
