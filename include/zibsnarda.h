@@ -2,13 +2,15 @@
  * Zibsnarda: blocks of 32-bit words rearranged within their buffer.
  *
  * The archive is for x86-64. Its calls are proved for slices that are there and lie apart, so a caller
- * sees to three things that no call can test:
+ * sees to four things that no call can test:
  *   - each pointer is aligned, not null (also where the length beside it is 0: any aligned address will do), and leads to as many
  *     elements as that length says;
  *   - buffer and scratch of one call do not overlap, nor does a record or word that is lent lie in one of them, nor does a part that is only read
  *     overlap one that is written;
- *   - nobody else writes to them during the call.
- * Everything else is tested. A refused call says why by its number and leaves all buffers unchanged.
+ *   - nobody else writes to them during the call;
+ *   - the part that zib_choose stores into holds some part before the call, an empty one will do.
+ * Everything else is tested. A refused call says why by its number and leaves all buffers unchanged; two write their refusal all the same: zib_job its
+ * line of text, zib_choose the empty start of the first run.
  * No call allocates, keeps a pointer, or reads or writes anything besides what it is lent. The archive asks for memcpy and memset and
  * for nothing else, so that it links on a board without an operating system. No call takes more than 8,192 bytes of stack.
  *
@@ -122,7 +124,10 @@ uint32_t zib_tick(uint32_t *buffer, size_t buffer_words, uint32_t *scratch, size
  * by the budget, which leaves scratch as the stores left it; the progress word tells: at twice the line count plus one the turn is done, and a call
  * stores nothing. Set to 0 at the first start, with the same m and n at each restart and nobody else writing to the three, block, scratch
  * and progress word end as those of an uncut turn, however often it was stopped, restarts too. A stopped process leaves what a budget leaves as long as
- * a stage's words reach the file before its progress word, and that before the next stage's words: see "A process that is killed" in README.
+ * a stage's words reach the file before its progress word, and that before the next stage's words: see "A process that is killed" in README. Where the
+ * power may be cut, an msync of the whole file comes before the first call of every start.
+ * Other sides than those of the first start destroy the block, and the call can tell only where the progress word is past their end: keep m and n
+ * beside it and compare them. At 23 check the sides first; setting the word to 0 comes last, and destroys a turn that was under way.
  * Answers 0, or the first of 1, 2, 3, 13, 4, 23 that holds.
  */
 uint32_t zib_resume(uint32_t *buffer, size_t buffer_words, uint32_t *scratch, size_t scratch_words, uint32_t *progress, size_t m,

@@ -86,7 +86,8 @@ fn answered<T>(number: u32, place: usize, value: T) -> Answered<T> {
 /// The lengths of four axes, the last fastest.
 pub type Lengths = [usize; 4];
 
-/// What a chain or a direct request on R axes answers: the new lengths, the number of the order in which the axes now stand, the swaps done.
+/// What a chain or a direct request on R axes answers: the new lengths, an order number, the swaps done. A chain answers the number of the order in which
+/// the axes now stand, in release 1; a request the number that it was given.
 #[derive(Clone, Copy, Debug, PartialEq, Eq)]
 pub struct Moved<const R: usize> {
     pub lengths: [usize; R],

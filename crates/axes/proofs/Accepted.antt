@@ -15,11 +15,11 @@ use Rattle.orders.specs.Numbers.{orderCount}
 use Rattle.orders.specs.Needs.{chainNeed}
 use Rattle.orders.proofs.Chains.{volume-follow}
 use Rattle.orders.proofs.Needs.{need-back}
-use Rattle.refusals.specs.FirstOf.{Check, check, firstOf}
-use Rattle.refusals.specs.Conditions.{some, outOfRange, badLength, tooManyWords, shortBuffer, longBuffer, shortScratch, longChain, noSwap, badSwap, noOrder}
+use Rattle.refusals.specs.FirstOf.{Check, check, firstOf, Silent}
+use Rattle.refusals.specs.Conditions.{some, outOfRange, badLength, tooManyWords, shortBuffer, longBuffer, shortScratch, longChain, noSwap, badSwap}
 use Rattle.refusals.specs.Calls.{blockChecks, chainChecks, requestChecks}
-use Rattle.refusals.proofs.FirstOf.{Silent, refused-by, accepted-so-far}
-use Rattle.refusals.proofs.FirstOf.Silent.{none, more}
+use Rattle.refusals.proofs.FirstOf.{refused-by, accepted-so-far}
+use Rattle.refusals.specs.FirstOf.Silent.{none, more}
 use Rattle.refusals.proofs.Calls.{recursion-accepted, chain-accepted, request-accepted}
 use Rattle.refusals.proofs.Some.{either-false, none-at}
 use Rattle.refusals.proofs.Conditions.{as-long, not-short, not-long, is-order}

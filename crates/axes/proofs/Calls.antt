@@ -19,11 +19,11 @@ use Rattle.orders.specs.Needs.{chainNeed, planNeed}
 use Rattle.orders.proofs.Numbers.{number-order}
 use Rattle.orders.proofs.Releases.{by-below, by-order}
 use Rattle.orders.proofs.Plans.{plan-of-number, plan-of-number-below, plan-places}
-use Rattle.refusals.specs.FirstOf.{Check, check, firstOf}
+use Rattle.refusals.specs.FirstOf.{Check, check, firstOf, Silent}
 use Rattle.refusals.specs.Conditions.{shortScratch, badSwap, longChain, noRelease}
-use Rattle.refusals.specs.Calls.{blockChecks, chainChecks, requestChecks, planChecks, namedChecks}
+use Rattle.refusals.specs.Calls.{blockChecks, chainChecks, requestChecks, namedChecks}
 use Rattle.refusals.specs.Scratch.{cleared}
-use Rattle.refusals.proofs.FirstOf.{Silent, silent-zero, same-after, accepted-so-far}
+use Rattle.refusals.proofs.FirstOf.{silent-zero, same-after, accepted-so-far}
 use Rattle.refusals.proofs.Conditions.{is-order, no-order-false}
 use Rattle.refusals.proofs.Calls as calls
 use Rattle.refusals.proofs.Promise as promise
@@ -31,8 +31,7 @@ use Rattle.axes.specs.declared.Answer.{Answer}
 use Rattle.plans.specs.declared.Planned.{Planned}
 use Rattle.plans.specs.Promise.{PlanPromise}
 use Rattle.plans.proofs.Given.{is-one, the-plan}
-use Rattle.axes.specs.Answers.{accepted, refused, refusedPlace}
-use Rattle.axes.specs.Private.{askedFor}
+use Rattle.axes.specs.Answers.{accepted, refused, refusedPlace, askedFor}
 use Rattle.axes.specs.Promises.{ChainPromise, RequestPromise}
 use Rattle.axes.proofs.Accepted.{never-six}
 

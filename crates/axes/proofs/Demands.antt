@@ -8,7 +8,7 @@ use mathlib.Core.Path.{_≡_, refl, sym, ap, ap₂, _∙_, subst}
 use mathlib.Core.List.{List, [], _∷_, _++_, reverse}
 use mathlib.Core.Bool.{false}
 use mathlib.Core.Logic.{⊎-elim}
-use Prim.Native.Nat.{ℕ, _+_, _-_, _<_, _≤_, max}
+use Prim.Native.Nat.{ℕ, _+_, _<_, _≤_, max}
 use native.Mathlib.Nat.{le-refl, max-eq-left}
 use native.Mathlib.Omega.{arith}
 use lib.ListN.{length, take, length-append}
@@ -27,24 +27,24 @@ use Rattle.orders.proofs.Needs.{need-append, need-back}
 use Rattle.orders.proofs.PlanNeeds.{plan-least}
 use Rattle.orders.proofs.Releases.{by-order, by-first}
 use Rattle.orders.proofs.Goes.{laid-by}
-use Rattle.refusals.specs.FirstOf.{Check, check, firstOf}
+use Rattle.refusals.specs.FirstOf.{Check, check, firstOf, Silent}
 use Rattle.refusals.specs.Conditions.{shortScratch, badSwap, noRelease}
 use Rattle.refusals.specs.Calls.{chainChecks, requestChecks, namedChecks}
 use Rattle.refusals.specs.Scratch.{cleared}
 use Rattle.refusals.specs.Promise.{Rearranged}
-use Rattle.refusals.proofs.FirstOf.{Silent, silent-zero}
+use Rattle.refusals.proofs.FirstOf.{silent-zero}
 use Rattle.refusals.proofs.Conditions.{no-order-false}
 use Rattle.refusals.proofs.Scratch.{cleared-length, cleared-twice}
 use Rattle.axes.specs.declared.Answer.{Answer}
 use Rattle.plans.specs.declared.Planned.{Planned}
 use Rattle.plans.specs.Promise.{PlanPromise}
-use Rattle.axes.specs.Answers.{fiveLengths}
-use Rattle.axes.specs.Private.{askedFor}
+use Rattle.axes.specs.Answers.{fiveLengths, askedFor}
 use Rattle.axes.specs.Promises.{ChainPromise, RequestPromise}
 use Rattle.axes.proofs.Five.{first-of-five}
 use Rattle.axes.proofs.Accepted.{ChainAccepted, accepts-chain, block-zero, chain-zero, next-accepted, joined-accepted, back-accepted, by-last, request-order}
 use Rattle.axes.proofs.Calls.{request-of-chain, request-by}
 use Rattle.axes.proofs.OneOutcome.{request-once}
+use Rattle.axes.specs.Demands.{Joined, Alike, Restored, AlikeBy}
 
 -- what an accepted chain leaves, as facts of the entry
 module _ {r : ℕ} {ds c xs ss : List ℕ} {a : Answer} {ys ts : List ℕ} (axes : length ds ≡ r) (p : ChainPromise r ds c xs ss a ys ts) (z : a .number ≡ 0) where
@@ -100,15 +100,6 @@ module _ {r : ℕ} {ds c xs ss : List ℕ} {a : Answer} {ys ts : List ℕ} (axes
       ∙ ap (λ (v : ℕ). cleared v ss) (max-eq-left (le-refl w))
       ∙ sym (p .block .zeroed z)
 
--- one chain, then the other on the shape that came back, leaves what the joined chain leaves in one call
-pub record Joined (r : ℕ) (a₁ a₂ a : Answer) (zs ws : List ℕ) : Type 0 where
-  pub second : a₂ .number ≡ 0
-  pub both : a .number ≡ 0
-  pub lengths : a .lens ≡ a₂ .lens
-  pub order : orderOf r (a .order) ≡ pick (orderOf r (a₂ .order)) (orderOf r (a₁ .order))
-  pub swaps : a .swaps ≡ a₁ .swaps + a₂ .swaps
-  pub words : ws ≡ zs
-
 -- where the first is accepted, the second has no bad swap, both have at most 32 swaps together, and each call has the scratch that it needs
 module _ {r : ℕ} {ds s t xs ss ss₂ ss₃ : List ℕ} {a₁ a₂ a : Answer} {ys ts zs us ws vs : List ℕ} (axes : length ds ≡ r)
     (p : ChainPromise r ds s xs ss a₁ ys ts) (q : ChainPromise r (take r (a₁ .lens)) t ys ss₂ a₂ zs us) (j : ChainPromise r ds (s ++ t) xs ss₃ a ws vs)
@@ -155,12 +146,6 @@ module _ {r : ℕ} {ds s t xs ss : List ℕ} {a₁ a₂ a : Answer} {ys ts zs us
       let both = chains-join axes p q j e good few (omega (arith, enough, as-long axes p e)) room in
       (both, j .block .zeroed (both .both) ∙ sym (scratch-on axes p e t enough (q .block .zeroed (both .second))))
 
--- two calls leave the same: lengths, order and words
-pub record Alike (a a′ : Answer) (ys zs : List ℕ) : Type 0 where
-  pub lengths : a′ .lens ≡ a .lens
-  pub order : a′ .order ≡ a .order
-  pub words : zs ≡ ys
-
 -- accepted chains that name one order leave the same; their swaps and their needs may differ, and with these the zeros in scratch
 module _ {r : ℕ} {ds s t xs ss ss′ : List ℕ} {a a′ : Answer} {ys ts zs us : List ℕ} (axes : length ds ≡ r) (p : ChainPromise r ds s xs ss a ys ts)
     (q : ChainPromise r ds t xs ss′ a′ zs us) (e : a .number ≡ 0) (d : a′ .number ≡ 0) (one : named r s ≡ named r t) where
@@ -170,12 +155,6 @@ module _ {r : ℕ} {ds s t xs ss ss′ : List ℕ} {a a′ : Answer} {ys ts zs u
     order = ap (λ (b : Answer). b .order) (q .given d) ∙ ap (numberOf r) (sym one) ∙ sym (ap (λ (b : Answer). b .order) (p .given e));
     words = chain-once ds axes t (laid-out axes q d) (subst (λ (o : List ℕ). Laid ds o xs ys) one (laid-out axes p e));
   }
-
--- a chain run backwards on the shape that came back restores every word and the shape
-pub record Restored (ds xs : List ℕ) (a : Answer) (zs : List ℕ) : Type 0 where
-  pub accepts : a .number ≡ 0
-  pub lengths : a .lens ≡ fiveLengths ds
-  pub words : zs ≡ xs
 
 module _ {r : ℕ} {ds c xs ss ss′ : List ℕ} {a a′ : Answer} {ys ts zs us : List ℕ} (axes : length ds ≡ r) (p : ChainPromise r ds c xs ss a ys ts)
     (q : ChainPromise r (take r (a .lens)) (reverse c) ys ss′ a′ zs us) (e : a .number ≡ 0) (room : chainNeed ds c ≤ length ss′) where
@@ -204,13 +183,6 @@ pub backwards-scratch : {r : ℕ} {ds c xs ss : List ℕ} {a a′ : Answer} {ys 
 backwards-scratch axes p q e =
     let home = backwards axes p q e (omega (arith, as-long axes p e, ran axes p e .room)) in
     (home, scratch-back axes p e (q .block .zeroed (home .accepts)))
-
--- a request for the order that a chain names leaves what the chain leaves: lengths and words, and the number of that order by its release
-pub record AlikeBy (r release : ℕ) (a a′ : Answer) (ys zs : List ℕ) : Type 0 where
-  pub accepts : a′ .number ≡ 0
-  pub lengths : a′ .lens ≡ a .lens
-  pub order : numberBy r release (a′ .order) ≡ a .order
-  pub words : zs ≡ ys
 
 -- an order that one call answers, asked for in another by the number that names it in either release, means the same layout
 module _ {r : ℕ} {ds c xs ss ss′ : List ℕ} {release k : ℕ} {a a′ : Answer} {ys ts zs us : List ℕ} (axes : length ds ≡ r)

@@ -20,14 +20,14 @@ use Rattle.orders.specs.Chains.{exchange, follow, named}
 use Rattle.orders.specs.Needs.{exchanged}
 use Rattle.orders.proofs.Chains.{pick-named}
 use Rattle.flat.specs.Turn.{sides}
-use Rattle.refusals.specs.FirstOf.{firstOf}
+use Rattle.refusals.specs.FirstOf.{firstOf, Silent}
 use Rattle.refusals.specs.Conditions.{outOfRange, badLength, tooManyWords, shortScratch}
 use Rattle.refusals.specs.Scratch.{need, cleared}
-use Rattle.refusals.proofs.FirstOf.{Silent, silent-zero}
+use Rattle.refusals.proofs.FirstOf.{silent-zero}
 use Rattle.refusals.proofs.Some.{none-at}
 use Rattle.refusals.proofs.Conditions.{length-at, not-short, not-long}
 use Rattle.refusals.proofs.Scratch.{need-swap}
-use Rattle.refusals.proofs.FirstOf.Silent.{none, more}
+use Rattle.refusals.specs.FirstOf.Silent.{none, more}
 use Rattle.checks.specs.Words.{capped}
 use Rattle.checks.proofs.Capped.{capped-few}
 use Rattle.refusals.specs.Calls.{swapBlock, swapChecks}

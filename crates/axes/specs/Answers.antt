@@ -22,3 +22,7 @@ refused number place = record { number = number; place = place; lens = replicate
 -- the place of a refused chain: for 6 that of the first swap that the axes do not have, elsewhere 0
 abbrev pub refusedPlace : ℕ → ℕ → List ℕ → ℕ
 refusedPlace r number chain = cond (eqb number 6) (firstPlace (noSwap r) chain) 0
+
+-- the answer of a chain as that of a request for an order: where it is accepted, the number that was asked for stands in the place of the chain's own
+abbrev pub askedFor : ℕ → Answer → Answer
+askedFor order a = record { number = a .number; place = a .place; lens = a .lens; order = cond (eqb (a .number) 0) order (a .order); swaps = a .swaps }

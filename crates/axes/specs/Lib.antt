@@ -1,3 +1,5 @@
 pub mod Answers
 pub mod Promises
 pub mod Private
+-- what the demands say of calls together
+pub mod Demands

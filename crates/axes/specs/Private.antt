@@ -19,7 +19,3 @@ pub record SwapAccepted (k : ℕ) (ds buffer scratch : List ℕ) : Type 0 where
   pub place : k + 1 < length ds
   pub block : firstOf (blockChecks ds buffer) ≡ 0
   pub room : exchanged k ds ≤ length scratch
-
--- the answer of a chain as that of a request for an order: where it is accepted, the number that was asked for stands in the place of the chain's own
-abbrev pub askedFor : ℕ → Answer → Answer
-askedFor order a = record { number = a .number; place = a .place; lens = a .lens; order = cond (eqb (a .number) 0) order (a .order); swaps = a .swaps }

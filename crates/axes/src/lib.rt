@@ -3,8 +3,8 @@ ghost use mathlib.Core.Path.{_≡_};
 ghost use Prim.Native.Nat.{_+_, _<_};
 ghost use lib.ListN.{length, take};
 ghost use Rattle.orders.specs.Chains.{exchange};
-ghost use Rattle.axes.specs.Answers.{fiveLengths, refused};
-ghost use Rattle.axes.specs.Private.{FourOrFive, askedFor};
+ghost use Rattle.axes.specs.Answers.{fiveLengths, refused, askedFor};
+ghost use Rattle.axes.specs.Private.{FourOrFive};
 ghost use Rattle.axes.specs.Promises.{ChainPromise, RequestPromise};
 
 mod chains;
@@ -58,7 +58,8 @@ fn exchange_at(lens: &mut [usize], k: usize)
     lens[k + 1] = first;
 }
 
-// What a call on a block answers: its number, its place, the five new lengths (of four axes the last is 0), the number of the new order, the swaps done.
+// What a call on a block answers: its number, its place, the five new lengths (of four axes the last is 0), an order number (a chain's own order in
+// release 1; of a request the number that was asked for), the swaps done.
 #[repr(C)]
 pub struct Answer {
     pub number: u32,

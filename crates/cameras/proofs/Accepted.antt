@@ -8,16 +8,13 @@ use lib.Dec.{eqb, lit<}
 use lib.ListN.{length}
 use borrow.Author.Tests.{ltb-false, eqb-true, not-false}
 use Rattle.layout.specs.Layout.{volume}
-use Rattle.refusals.specs.FirstOf.{Check, firstOf}
-use Rattle.refusals.proofs.FirstOf.{Refusing, Silent, zero-silent}
-use Rattle.refusals.proofs.FirstOf.Silent.{none, more}
+use Rattle.refusals.specs.FirstOf.{Check, firstOf, Silent}
+use Rattle.refusals.proofs.FirstOf.{zero-silent}
+use Rattle.refusals.specs.FirstOf.Silent.{none, more}
 use Rattle.refusals.proofs.Conditions.{InRange, in-range, range-in, passed}
 use Rattle.flat.specs.Turn.{sides}
 use Rattle.flat.proofs.Turn.{volume-two}
 use Rattle.cameras.specs.Promises.{badCameras, removeChecks, addChecks, Changed}
-
-refusing : {c : Check} {cs : List Check} → 0 < c .number → Refusing cs → Refusing (c ∷ cs)
-refusing h r = Refusing.more h r
 
 -- removing: n cameras are left, at least one
 pub record Removes (frames cameras n k : ℕ) (buffer : List ℕ) : Type 0 where
@@ -30,8 +27,7 @@ pub record Removes (frames cameras n k : ℕ) (buffer : List ℕ) : Type 0 where
   pub fits : frames * suc n ≤ length buffer
 
 pub removes : (frames cameras k : ℕ) (buffer : List ℕ) → firstOf (removeChecks frames cameras k buffer) ≡ 0 → Removes frames cameras (cameras - 1) k buffer
-removes f c k buffer e =
-    go (zero-silent (refusing (lit< tt) (refusing (lit< tt) (refusing (lit< tt) (refusing (lit< tt) Refusing.none)))) e)
+removes f c k buffer e = go (zero-silent (removeChecks f c k buffer) tt e)
   where
     sized : InRange (f ∷ c ∷ (c - 1) ∷ []) → (c ≡ suc (c - 1)) × (0 < f) × (0 < c - 1) × (c - 1 ≤ 4096)
     sized (InRange.more pf ff (InRange.more pc fc (InRange.more pd fd r))) = (omega arith, omega arith, omega arith, omega arith)
@@ -74,14 +70,7 @@ pub record Adds (frames n k : ℕ) (column buffer : List ℕ) : Type 0 where
   pub long : length column ≡ frames
 
 pub adds : (frames n k : ℕ) (column buffer : List ℕ) → firstOf (addChecks frames n k column buffer) ≡ 0 → Adds frames n k column buffer
-adds f n k column buffer e =
-    go
-    (zero-silent
-    (refusing (lit< tt)
-    (refusing (lit< tt)
-    (refusing (lit< tt)
-    (refusing (lit< tt) (refusing (lit< tt) (refusing (lit< tt) (refusing (lit< tt) Refusing.none)))))))
-    e)
+adds f n k column buffer e = go (zero-silent (addChecks f n k column buffer) tt e)
   where
     sized : InRange (f ∷ n ∷ (n + 1) ∷ []) → (0 < f) × (0 < n) × (n ≤ 4096)
     sized (InRange.more pf ff (InRange.more pn fn r)) = (omega arith, omega arith, omega arith)

@@ -9,11 +9,10 @@ use lib.Dec.{T}
 use lib.ListN.{length}
 use Rattle.lists.specs.Same.{same}
 use Rattle.lists.proofs.Test.{same→eq, eq→same}
-use Rattle.refusals.specs.FirstOf.{Check, check, firstOf}
+use Rattle.refusals.specs.FirstOf.{Check, check, firstOf, refusing}
 use Rattle.refusals.specs.Conditions.{badLength, tooManyWords, shortBuffer, longBuffer}
 use Rattle.refusals.specs.Calls.{sizeChecks, exactChecks, blockChecks}
-use Rattle.refusals.proofs.FirstOf.{Refusing, refused-by, passed-first, through}
-use Rattle.refusals.proofs.Calls.{size-refusing, block-refusing}
+use Rattle.refusals.proofs.FirstOf.{refused-by, passed-first, through}
 use Rattle.refusals.proofs.Conditions.{sized-two, valid}
 use Rattle.flat.specs.Turn.{sides}
 use Rattle.flat.proofs.Turn.{volume-two}
@@ -66,8 +65,8 @@ module _ (cs : List Check) (m n : ℕ) (list : List ℕ) where
   all = cs ++ (check 22 (wrongCycles m n list) ∷ [])
 
   -- where none of them holds, the test of 22 decides
-  pub then-22 : Refusing cs → (t : Bool) → wrongCycles m n list ≡ t → firstOf cs ≡ 0 → firstOf all ≡ cond t 22 0
-  then-22 r t w e = through {cs = cs} (check 22 (wrongCycles m n list) ∷ []) r e ∙ ap (λ (b : Bool). cond {A = ℕ} b 22 0) w
+  pub then-22 : T (refusing cs) → (t : Bool) → wrongCycles m n list ≡ t → firstOf cs ≡ 0 → firstOf all ≡ cond t 22 0
+  then-22 r t w e = through cs (check 22 (wrongCycles m n list) ∷ []) r e ∙ ap (λ (b : Bool). cond {A = ℕ} b 22 0) w
 
   pub refused : {number : ℕ} → number ≡ firstOf cs → (number ≡ 0 → ⊥) → (firstOf cs ≡ 22 → ⊥) → Answers all m n list (answer number 0)
   refused e z other = record {
@@ -76,7 +75,7 @@ module _ (cs : List Check) (m n : ℕ) (list : List ℕ) where
     otherwise = λ _. refl;
   }
 
-  pub accepted : {r : Judged} → Refusing cs → firstOf cs ≡ 0 → Compared m n list r → Answers all m n list r
+  pub accepted : {r : Judged} → T (refusing cs) → firstOf cs ≡ 0 → Compared m n list r → Answers all m n list r
   accepted {r} q e c = record {
     number-is =
         ⊎-elim
@@ -101,7 +100,7 @@ module _ (m n : ℕ) (list : List ℕ) where
   judge-refused e z = refused (sizeChecks (sides m n)) m n list e z (size-not-22 m n)
 
   pub judge-accepted : {r : Judged} → firstOf (sizeChecks (sides m n)) ≡ 0 → Compared m n list r → JudgedAs m n list r
-  judge-accepted e c = accepted (sizeChecks (sides m n)) m n list (size-refusing (sides m n)) e c
+  judge-accepted e c = accepted (sizeChecks (sides m n)) m n list tt e c
 
   module _ (before : List ℕ) where
     pub run-refused : {number : ℕ} → number ≡ firstOf (blockChecks (sides m n) before) → (number ≡ 0 → ⊥) → RunAs m n list before (answer number 0) before
@@ -114,14 +113,14 @@ module _ (m n : ℕ) (list : List ℕ) where
     module _ {r : Judged} (e : firstOf (blockChecks (sides m n) before) ≡ 0) (c : Compared m n list r) where
       pub run-other : (r .number ≡ 0 → ⊥) → RunAs m n list before r before
       run-other z = record {
-        answers = accepted (blockChecks (sides m n) before) m n list (block-refusing (sides m n) before) e c;
+        answers = accepted (blockChecks (sides m n) before) m n list tt e c;
         words = λ y. absurd (z y);
         kept = λ _. refl;
       }
 
       pub run-right : {after : List ℕ} → r .number ≡ 0 → after ≡ alongCycles (takes m n) (cycles m n) before → RunAs m n list before r after
       run-right z t = record {
-        answers = accepted (blockChecks (sides m n) before) m n list (block-refusing (sides m n) before) e c;
+        answers = accepted (blockChecks (sides m n) before) m n list tt e c;
         words = λ _. rw t (along-turns m n before (omega (arith, block-small m n before e .1)));
         kept = λ y. absurd (y z);
       }

@@ -10,11 +10,10 @@ use borrow.Author.Tests.{not-false}
 use Rattle.lists.specs.Same.{same}
 use Rattle.lists.proofs.Test.{same→eq}
 use Rattle.lists.proofs.Decide.{eq-or-ne}
-use Rattle.refusals.specs.FirstOf.{Check, check, firstOf}
+use Rattle.refusals.specs.FirstOf.{Check, check, firstOf, refusing}
 use Rattle.refusals.specs.Calls.{sizeChecks}
 use Rattle.refusals.proofs.Conditions.{passed}
-use Rattle.refusals.proofs.FirstOf.{Refusing, passed-first}
-use Rattle.refusals.proofs.Calls.{size-refusing}
+use Rattle.refusals.proofs.FirstOf.{passed-first}
 use Rattle.flat.specs.Turn.{sides}
 use Rattle.flat.proofs.Turn.{one-turn}
 use Rattle.orbits.specs.Cycles.{cycles, takes, EveryCycleOnce}
@@ -26,21 +25,21 @@ use Rattle.cycles.proofs.Judging.{right-list, then-22}
 use Rattle.cycles.proofs.Comparing.{answer}
 
 -- accepted exactly when no check before 22 holds and the list is the right list
-pub accepted-exactly : (cs : List Check) → Refusing cs → {m n : ℕ} {list : List ℕ} {a : Judged}
+pub accepted-exactly : (cs : List Check) → T (refusing cs) → {m n : ℕ} {list : List ℕ} {a : Judged}
     → Answers (cs ++ (check 22 (wrongCycles m n list) ∷ [])) m n list a → (a .number ≡ 0) ↔ ((firstOf cs ≡ 0) × (list ≡ cycles m n))
-accepted-exactly cs refusing {m} {n} {list} {a} p = (there, λ q. p .number-is ∙ then-22 cs m n list refusing false (right-list m n list (q .1)) (q .0))
+accepted-exactly cs clear {m} {n} {list} {a} p = (there, λ q. p .number-is ∙ then-22 cs m n list clear false (right-list m n list (q .1)) (q .0))
   where
     there : a .number ≡ 0 → (firstOf cs ≡ 0) × (list ≡ cycles m n)
     there z =
         let e = passed-first cs (check 22 (wrongCycles m n list) ∷ []) (sym (p .number-is) ∙ z) in
-        let w = then-22 cs m n list refusing (wrongCycles m n list) refl e in
+        let w = then-22 cs m n list clear (wrongCycles m n list) refl e in
         let quiet = passed (wrongCycles m n list) 22 0 (lit< tt) (sym w ∙ sym (p .number-is) ∙ z) .0 in
         (e, same→eq list (cycles m n) (subst T (sym (not-false (same list (cycles m n)) quiet)) tt))
 
 -- a list is judged 0 exactly when the size is accepted and it is the right list
 pub judged-exactly : {m n : ℕ} {list : List ℕ} {a : Judged} → JudgedAs m n list a
     → (a .number ≡ 0) ↔ ((firstOf (sizeChecks (sides m n)) ≡ 0) × (list ≡ cycles m n))
-judged-exactly {m} {n} p = accepted-exactly (sizeChecks (sides m n)) (size-refusing (sides m n)) p
+judged-exactly {m} {n} p = accepted-exactly (sizeChecks (sides m n)) tt p
 
 -- refused with 22, the list is another
 pub refused-other : {checks : List Check} {m n : ℕ} {list : List ℕ} {a : Judged} → Answers checks m n list a → a .number ≡ 22 → list ≡ cycles m n → ⊥

@@ -8,10 +8,10 @@ use mathlib.Core.Bool.{false}
 use borrow.Author.Tests.{le-ltb}
 use lib.ListN.{length, getD, List·getD-eq-default}
 use Rattle.layout.specs.Layout.{volume, Within, at, pick, Laid}
-use Rattle.refusals.specs.FirstOf.{firstOf}
+use Rattle.refusals.specs.FirstOf.{firstOf, Silent}
 use Rattle.refusals.specs.Calls.{recursionChecks}
 use Rattle.refusals.specs.Conditions.{badLength, tooManyWords}
-use Rattle.refusals.proofs.FirstOf.{Silent, silent-zero}
+use Rattle.refusals.proofs.FirstOf.{silent-zero}
 use Rattle.refusals.proofs.Conditions.{InRange, valid, range-in, not-short, not-long}
 use Rattle.refusals.proofs.Conditions.InRange.{none, more}
 use Rattle.flat.specs.Turn.{sides}

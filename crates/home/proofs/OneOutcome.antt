@@ -1,10 +1,14 @@
 -- What the count means: the fewest repeats, at least one, that bring every block of that shape back, and the same for n by m as for m by n.
 -- Any two outcomes that the promise allows coincide, because a least power is one.
 use mathlib.Core.Path.{_≡_, sym, ap₂, _∙_, subst}
-use mathlib.Core.Logic.{⊎-elim}
+use mathlib.Core.Logic.{_↔_, ⊎-elim}
 use Prim.Native.Nat.{ℕ, _*_, _<_, _≤_}
 use native.Mathlib.Nat.{mul-comm}
 use Rattle.lists.proofs.Decide.{lt-or-ge, eq-or-ne}
+use Rattle.refusals.specs.FirstOf.{firstOf}
+use Rattle.refusals.specs.Calls.{sizeChecks}
+use Rattle.refusals.proofs.Conditions.{sized-two}
+use Rattle.flat.specs.Turn.{sides}
 use Rattle.orbits.specs.Turns.{Fewest}
 use Rattle.orbits.proofs.Powers.{one-order}
 use Rattle.orbits.proofs.Fewest.{fewest-iff, fewest-small, order-turned}
@@ -18,6 +22,11 @@ counts-fewest m n h some c =
     (λ (big : 2 < m * n). fewest-iff m n h some .1 (c .large big))
     (λ (few : m * n ≤ 2). subst (λ (k : ℕ). Fewest m n k) (sym (c .small few)) (fewest-small m n some few))
     (lt-or-ge 2 (m * n))
+
+-- the call answers 0 and the fewest repeats exactly where no check holds
+pub repeats-fewest : {m n : ℕ} {a : Home} → RepeatsPromise m n a → (firstOf (sizeChecks (sides m n)) ≡ 0) ↔ ((a .number ≡ 0) × Fewest m n (a .count))
+repeats-fewest {m} {n} {a} p =
+    (λ e. let z = p .number-is ∙ e in (z, counts-fewest m n (a .count) (sized-two m n e .0) (p .counted z)), λ f. sym (p .number-is) ∙ f .0)
 
 -- n by m takes as many
 pub counts-turned : (m n h : ℕ) → 0 < m * n → Counts m n h → Counts n m h

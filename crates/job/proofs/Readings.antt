@@ -7,7 +7,8 @@ use native.Mathlib.Omega.{arith}
 use lib.ListN.{length, take, replicate, length-append}
 use lib.Seq.{take-at}
 use Rattle.text.specs.Meaning.{Outcome, meaning}
-use Rattle.text.proofs.SecondLines.{Right, accepted-exactly}
+use Rattle.text.specs.Right.{Right}
+use Rattle.text.proofs.SecondLines.{accepted-exactly}
 use Rattle.text.proofs.Bounds.{Bounded, Within, meaning-within}
 use Rattle.sheet.specs.declared.Sheet.{Sheet}
 use Rattle.sheet.specs.Swaps.{padded}

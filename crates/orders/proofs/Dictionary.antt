@@ -1,6 +1,6 @@
 -- The orders are in dictionary order, over any number of axes: of two numbers the lower names the order that comes first. Those that begin with one axis
 -- stand before those that begin with a higher one, and among them the rests are in dictionary order. By induction on how many axes are taken.
-use mathlib.Core.Path.{_≡_, refl, sym, subst}
+use mathlib.Core.Path.{_≡_, refl, subst}
 use mathlib.Core.List.{List, [], _∷_, _++_, map, List·Memᴰ, List·Memᴰ·not-nil, List·Memᴰ·cases-cons, List·Memᴰ·append-cases, Memᴰ·of-map, Memᴰ·append-left, Memᴰ·append-right}
 use mathlib.Core.List.List·Memᴰ.{List·Memᴰ·head, List·Memᴰ·tail}
 use mathlib.Core.Logic.{⊎-elim}

@@ -1,78 +1,26 @@
--- Demand 3 about the contracts of the chains of swaps on four and on five axes as the checker reads them from the source: calls that follow each other
--- through one buffer, each with its own scratch, any that is enough by its own need, or all through one. The theorems of crate axes, once over the number of
--- axes; a call of either size is a call of r axes.
-use mathlib.Core.Path.{_≡_, refl}
+-- Demand 3 about calls of chains of swaps on r axes that follow each other through one buffer, each with its own scratch, any that is enough by its own need, or
+-- all through one. The theorems of crate axes, once over the number of axes; a call on four axes or on five is a call on r axes.
+use mathlib.Core.Path.{_≡_, refl, sym, subst, _∙_}
 use mathlib.Core.Bool.{false}
 use mathlib.Core.List.{List, _++_, reverse}
 use Prim.Native.Nat.{ℕ, _≤_}
-use native.Mathlib.Omega.{arith}
 use lib.ListN.{length, take}
-use contract.Lifetimes.{Lfts}
-use denote.Triple.Clauses.{AtExit}
-use borrow.Author.Needs.{needs}
-use borrow.Fn.Kinds.{endedOf, Dens, GoodsP}
 use Rattle.orders.specs.Chains.{named}
 use Rattle.orders.specs.Needs.{chainNeed}
 use Rattle.refusals.specs.Conditions.{badSwap}
-use Rattle.axes.specs.declared.Answer.{Answer}
 use Rattle.axes.specs.Promises.{ChainPromise}
+use Rattle.axes.proofs.Accepted.{accepts-chain}
 use Rattle.axes.proofs.Demands as demands
-use Rattle.axes.proofs.Demands.{Joined, Alike, Restored}
-use Rattle.axes.proofs.chain.Kinds as four-kinds
-use Rattle.axes.proofs.chain.Reads as four
-use Rattle.axes.proofs.chain5.Kinds as five-kinds
-use Rattle.axes.proofs.chain5.Reads as five
-use Rattle.outcomes.proofs.Axes.{reads}
-
--- a call of a chain on r axes: the lengths that it reads, the rest of its entry, its answer and the slices at exit
-pub record Call (r : ℕ) : Type 0 where
-  pub lengths : List ℕ
-  pub swaps : List ℕ
-  pub words : List ℕ
-  pub scratch : List ℕ
-  pub answer : Answer
-  pub words-after : List ℕ
-  pub scratch-after : List ℕ
-  pub axes : length lengths ≡ r
-  pub post : ChainPromise r lengths swaps words scratch answer words-after scratch-after
-
--- a call of `chain`
-pub of-chain : (κs : Lfts 3) (args : Dens κs four-kinds.ps) → GoodsP κs four-kinds.ps args → (answer : Answer) (exit : AtExit (endedOf 3 four-kinds.ps four-kinds.r) κs)
-    → four.Post κs args answer exit → Call 4
-of-chain κs args good answer exit post = record {
-  lengths = take 4 (args .1 .1 .0 .lens);
-  swaps = args .1 .1 .1 .0 .now;
-  words = args .0 .now;
-  scratch = args .1 .0 .now;
-  answer = answer;
-  words-after = exit .0 .now;
-  scratch-after = exit .1 .0 .now;
-  axes = reads (args .1 .1 .0 .lens) (search needs) (omega arith);
-  post = post;
-}
-
--- a call of `chain5`
-pub of-chain5 : (κs : Lfts 3) (args : Dens κs five-kinds.ps) → GoodsP κs five-kinds.ps args → (answer : Answer) (exit : AtExit (endedOf 3 five-kinds.ps five-kinds.r) κs)
-    → five.Post κs args answer exit → Call 5
-of-chain5 κs args good answer exit post = record {
-  lengths = take 5 (args .1 .1 .0 .lens);
-  swaps = args .1 .1 .1 .0 .now;
-  words = args .0 .now;
-  scratch = args .1 .0 .now;
-  answer = answer;
-  words-after = exit .0 .now;
-  scratch-after = exit .1 .0 .now;
-  axes = reads (args .1 .1 .0 .lens) (search needs) (omega arith);
-  post = post;
-}
+use Rattle.outcomes.specs.Calls.{ChainCall}
+use Rattle.axes.specs.Demands.{Joined, Alike, Restored}
 
 -- what the call promises, under other names of its entry
-promised : {r : ℕ} (c : Call r) {ds chain xs ss : List ℕ} → c .lengths ≡ ds → c .swaps ≡ chain → c .words ≡ xs → c .scratch ≡ ss
+promised : {r : ℕ} (c : ChainCall r) {ds chain xs ss : List ℕ} → c .lengths ≡ ds → c .swaps ≡ chain → c .words ≡ xs → c .scratch ≡ ss
     → ChainPromise r ds chain xs ss (c .answer) (c .words-after) (c .scratch-after)
 promised c e f g h = rw (← e, ← f, ← g, ← h) (c .post)
 
 -- running one chain, then the other on the shape that came back, leaves the words and shape of the joined chain in one call
-pub chains-join : {r : ℕ} (first second both : Call r) → second .lengths ≡ take r (first .answer .lens) → second .words ≡ first .words-after → both .lengths ≡ first .lengths
+pub chains-join : {r : ℕ} (first second both : ChainCall r) → second .lengths ≡ take r (first .answer .lens) → second .words ≡ first .words-after → both .lengths ≡ first .lengths
     → both .words ≡ first .words → both .swaps ≡ first .swaps ++ second .swaps → first .answer .number ≡ 0 → badSwap r (second .swaps) ≡ false
     → length (first .swaps ++ second .swaps) ≤ 32 → chainNeed (take r (first .answer .lens)) (second .swaps) ≤ length (second .scratch)
     → chainNeed (first .lengths) (first .swaps ++ second .swaps) ≤ length (both .scratch)
@@ -80,8 +28,20 @@ pub chains-join : {r : ℕ} (first second both : Call r) → second .lengths ≡
 chains-join first second both e f g h i z good few room₂ room₃ =
     demands.chains-join (first .axes) (first .post) (promised second e refl f refl) (promised both g i h refl) z good few room₂ room₃
 
+-- the same with the demand's own premises: both calls accepted, at most 32 swaps together, enough scratch for the joined call
+pub demand : {r : ℕ} (first second both : ChainCall r) → second .lengths ≡ take r (first .answer .lens) → second .words ≡ first .words-after
+    → both .lengths ≡ first .lengths → both .words ≡ first .words → both .swaps ≡ first .swaps ++ second .swaps → first .answer .number ≡ 0
+    → second .answer .number ≡ 0 → length (first .swaps ++ second .swaps) ≤ 32
+    → chainNeed (first .lengths) (first .swaps ++ second .swaps) ≤ length (both .scratch)
+    → Joined r (first .answer) (second .answer) (both .answer) (second .words-after) (both .words-after)
+demand {r} first second both e f g h i z y few room =
+    let a = accepts-chain r (second .lengths) (second .words) (second .scratch) (second .swaps) (sym (second .post .block .number-is) ∙ y) in
+    chains-join first second both e f g h i z (a .swaps) few
+    (subst (λ (l : List ℕ). chainNeed l (second .swaps) ≤ length (second .scratch)) e (a .room))
+    room
+
 -- and where all three are lent one scratch, as long as the joined chain needs, they leave that the same too
-pub chains-join-scratch : {r : ℕ} (first second both : Call r) → second .lengths ≡ take r (first .answer .lens) → second .words ≡ first .words-after
+pub chains-join-scratch : {r : ℕ} (first second both : ChainCall r) → second .lengths ≡ take r (first .answer .lens) → second .words ≡ first .words-after
     → second .scratch ≡ first .scratch-after → both .lengths ≡ first .lengths → both .words ≡ first .words → both .scratch ≡ first .scratch
     → both .swaps ≡ first .swaps ++ second .swaps → first .answer .number ≡ 0 → badSwap r (second .swaps) ≡ false
     → length (first .swaps ++ second .swaps) ≤ 32 → chainNeed (first .lengths) (first .swaps ++ second .swaps) ≤ length (first .scratch)
@@ -90,18 +50,18 @@ chains-join-scratch first second both e f s g h u i z good few room =
     demands.chains-join-scratch (first .axes) (first .post) (promised second e refl f s) (promised both g i h u) z good few room
 
 -- chains that name the same order leave the same words
-pub one-order : {r : ℕ} (one other : Call r) → other .lengths ≡ one .lengths → other .words ≡ one .words → one .answer .number ≡ 0 → other .answer .number ≡ 0
+pub one-order : {r : ℕ} (one other : ChainCall r) → other .lengths ≡ one .lengths → other .words ≡ one .words → one .answer .number ≡ 0 → other .answer .number ≡ 0
     → named r (one .swaps) ≡ named r (other .swaps) → Alike (one .answer) (other .answer) (one .words-after) (other .words-after)
 one-order one other e f z y same = demands.one-order (one .axes) (one .post) (promised other e refl f refl) z y same
 
 -- a chain run backwards on the returned shape restores every word
-pub backwards : {r : ℕ} (there back : Call r) → back .lengths ≡ take r (there .answer .lens) → back .words ≡ there .words-after → back .swaps ≡ reverse (there .swaps)
+pub backwards : {r : ℕ} (there back : ChainCall r) → back .lengths ≡ take r (there .answer .lens) → back .words ≡ there .words-after → back .swaps ≡ reverse (there .swaps)
     → there .answer .number ≡ 0 → chainNeed (there .lengths) (there .swaps) ≤ length (back .scratch)
     → Restored (there .lengths) (there .words) (back .answer) (back .words-after)
 backwards there back e f g z room = demands.backwards (there .axes) (there .post) (promised back e g f refl) z room
 
 -- and through the scratch that the chain left, which is enough, it leaves that as it is
-pub backwards-scratch : {r : ℕ} (there back : Call r) → back .lengths ≡ take r (there .answer .lens) → back .words ≡ there .words-after → back .scratch ≡ there .scratch-after
+pub backwards-scratch : {r : ℕ} (there back : ChainCall r) → back .lengths ≡ take r (there .answer .lens) → back .words ≡ there .words-after → back .scratch ≡ there .scratch-after
     → back .swaps ≡ reverse (there .swaps) → there .answer .number ≡ 0
     → Restored (there .lengths) (there .words) (back .answer) (back .words-after) × (back .scratch-after ≡ there .scratch-after)
 backwards-scratch there back e f s g z = demands.backwards-scratch (there .axes) (there .post) (promised back e g f s) z

@@ -6,6 +6,10 @@ pub mod Axes
 pub mod Sheets
 pub mod Desk
 pub mod Exports
+-- calls as a caller sees them, from what the checker reads
+pub mod Seen
+-- demand 1: every list of checks gives its numbers exactly when
+pub mod EveryList
 -- demand 2: passes and recursion leave the same words
 pub mod Methods
 -- demand 3 about the contracts of the chains, on four and on five axes, as the checker reads them

@@ -63,7 +63,7 @@ moved-through {to = to} within h r = record {
 moved-home : {count : ℕ} {pos to from : ℕ → ℕ} {xs ys : List ℕ} → Moved count pos from to xs ys → Moved count pos to from ys xs
 moved-home m = record { same = sym (m .same); placed = λ k d. sym (m .placed k d); others = λ p h. sym (m .others p h) }
 
-lifted-past : {l : Line} {to from : ℕ → ℕ} {xs scratch held : List ℕ} → Lifted l to from xs scratch held → Past (l .count) scratch held
+pub lifted-past : {l : Line} {to from : ℕ → ℕ} {xs scratch held : List ℕ} → Lifted l to from xs scratch held → Past (l .count) scratch held
 lifted-past h = record { same = h .same; rest = h .rest }
 
 -- a line that has received its words has moved: in pass 2 the column that a word is sent to receives it
@@ -100,10 +100,12 @@ module _ {m n : ℕ} {l : Line} {xs scratch : List ℕ} (f : Fits m n l xs scrat
       go false = f .within k h
 
   pub moved-forth : Sides m n → {held ys : List ℕ} → Filled (λ k. k) (λ k. getD xs (posOn l (received m n (l .pass) (l .index) k)) 0) (l .count) scratch held
-      → Filled (posOn l) (λ k. getD held k 0) (l .count) xs ys → LineMoved m n l xs ys × Past (l .count) scratch held
+      → Filled (posOn l) (λ k. getD held k 0) (l .count) xs ys → LineMoved m n l xs ys × Lifted l (λ k. k) (λ k. k) ys scratch held
   moved-forth d {held} h r =
-      let lifted : Lifted l (λ k. k) (received m n (l .pass) (l .index)) xs scratch held = all-lifted (λ j a. a) h refl in
-      (received-moved l d (f .of-pass) (f .within) (moved-through (λ k a. a) lifted r), lifted-past lifted)
+      let lifted : Lifted l (λ k. k) (received m n (l .pass) (l .index)) xs scratch held = all-lifted (λ j a. a) h refl in (
+        received-moved l d (f .of-pass) (f .within) (moved-through (λ k a. a) lifted r),
+        record { same = h .same; placed = λ k a. sym (r .placed k a); rest = lifted .rest },
+      )
 
   pub moved-back : {held ys : List ℕ}
       → Lifted l (fromPlace m n l) (toPlace m n l) xs scratch held → Filled (posOn l) (λ k. getD held k 0) (l .count) xs ys

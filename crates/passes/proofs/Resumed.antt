@@ -10,8 +10,7 @@ use borrow.Author.Tests.{lt-ltb, le-ltb}
 use Rattle.lists.proofs.Decide.{lt-or-ge}
 use Rattle.refusals.specs.FirstOf.{check, firstOf}
 use Rattle.refusals.specs.Calls.{passesChecks}
-use Rattle.refusals.proofs.FirstOf.{refused-by, passed-first, accepted-so-far}
-use Rattle.refusals.proofs.Calls.{passes-accepted}
+use Rattle.refusals.proofs.FirstOf.{refused-by, passed-first, through}
 use Rattle.flat.specs.Turn.{sides}
 use Rattle.stages.specs.Stages.{Memory, call}
 use Rattle.passes.specs.Lines.{lineCount}
@@ -36,7 +35,7 @@ module _ (m n : ℕ) (x : Memory) where
   -- where those are passed 23 decides
   module _ (good : firstOf (passesChecks (sides m n) (x .buffer) (x .scratch)) ≡ 0) where
     decided : firstOf (resumeChecks m n x) ≡ cond (pastStages m n (x .progress)) 23 0
-    decided = accepted-so-far (check 23 (pastStages m n (x .progress)) ∷ []) (passes-accepted (sides m n) (x .buffer) (x .scratch) .0 good)
+    decided = through (passesChecks (sides m n) (x .buffer) (x .scratch)) (check 23 (pastStages m n (x .progress)) ∷ []) tt good
 
     pub past-end : lineCount m n * 2 + 1 < x .progress → 23 ≡ firstOf (resumeChecks m n x)
     past-end h = sym (decided ∙ rw (lt-ltb (lineCount m n * 2 + 1) (x .progress) h))

@@ -9,8 +9,7 @@ use borrow.Author.Tests.{lt-ltb, le-ltb}
 use Rattle.refusals.specs.FirstOf.{check, firstOf}
 use Rattle.refusals.specs.Calls.{sizeChecks, passesChecks}
 use Rattle.refusals.specs.Scratch.{need, cleared}
-use Rattle.refusals.proofs.FirstOf.{refused-by, passed-first, accepted-so-far}
-use Rattle.refusals.proofs.Calls.{passes-accepted}
+use Rattle.refusals.proofs.FirstOf.{refused-by, passed-first, through}
 use Rattle.refusals.proofs.Conditions.{InRange, size-valid}
 use Rattle.refusals.proofs.Promise as promise
 use Rattle.flat.specs.Turn.{sides}
@@ -49,7 +48,7 @@ module _ (m n done : ℕ) (b sc : List ℕ) where
   -- where those are passed 12 decides
   module _ (good : firstOf (passesChecks (sides m n) b sc) ≡ 0) where
     decided : firstOf (tickChecks m n done b sc) ≡ cond (pastCount m n done) 12 0
-    decided = accepted-so-far (check 12 (pastCount m n done) ∷ []) (passes-accepted (sides m n) b sc .0 good)
+    decided = through (passesChecks (sides m n) b sc) (check 12 (pastCount m n done) ∷ []) tt good
 
     pub too-late : lineCount m n < done → 12 ≡ firstOf (tickChecks m n done b sc)
     too-late h = sym (decided ∙ rw (lt-ltb (lineCount m n) done h))

@@ -314,10 +314,10 @@ fn lift_home(buf: &[u32], scratch: &mut [u32], s: GroupedSides, l: Line)
     scatter(buf, scratch, s, l, w);
 }
 
-// The line moves as its pass says, and stands finished in scratch.
+// The line moves as its pass says, and stands finished in scratch too, each word at its place of the line.
 pub(crate) fn forth(buf: &mut [u32], scratch: &mut [u32], s: GroupedSides, l: Line)
     requires { ⌜ Grouped s × Fits (s .m) (s .n) l (now buf) (now scratch) ⌝ }
-    ensures { λ _. ⌜ LineMoved (s .m) (s .n) l (now (buf .entry)) (now (buf .exit)) × Past (l .count) (now (scratch .entry)) (now (scratch .exit)) ⌝ }
+    ensures { λ _. ⌜ LineMoved (s .m) (s .n) l (now (buf .entry)) (now (buf .exit)) × Lifted l (λ k. k) (λ k. k) (now (buf .exit)) (now (scratch .entry)) (now (scratch .exit)) ⌝ }
 {
     lift(buf, scratch, s, l, l.count);
     put_back(buf, scratch, l, l.count);

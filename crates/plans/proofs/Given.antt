@@ -13,7 +13,8 @@ use Rattle.orders.proofs.Numbers.{order-named}
 use Rattle.orders.proofs.Distinct.{count-pos}
 use Rattle.orders.proofs.Plans.{length-plan, falling-places, plan-of-number, one-plan}
 use Rattle.refusals.specs.Calls.{planChecks}
-use Rattle.refusals.proofs.FirstOf.{First, Silent, first-is, silent-zero}
+use Rattle.refusals.specs.FirstOf.{First, Silent}
+use Rattle.refusals.proofs.FirstOf.{first-is, silent-zero}
 use Rattle.refusals.proofs.Conditions.{is-order, no-order-false}
 use Rattle.refusals.proofs.Calls.{plan-accepted}
 use Rattle.plans.specs.declared.Planned.{Planned}

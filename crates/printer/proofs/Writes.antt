@@ -6,14 +6,15 @@ use mathlib.Core.List.{List, [], _∷_, _++_}
 use Prim.Native.Nat.{ℕ, _<_, _≤_}
 use native.Mathlib.Omega.{arith}
 use lib.ListN.{length}
-use lib.Dec.{lit<}
+use lib.Dec.{T, lit<}
 use borrow.Author.Tests.{lt-ltb, le-ltb, ltb-false}
 use Rattle.layout.specs.Layout.{volume}
-use Rattle.refusals.specs.FirstOf.{Check, check, firstOf}
+use Rattle.refusals.specs.FirstOf.{Check, check, firstOf, refusing}
 use Rattle.refusals.specs.Conditions.{badLength, shortBuffer, noOrder, noRelease}
 use Rattle.refusals.specs.Calls.{planChecks, namedChecks}
-use Rattle.refusals.proofs.FirstOf.{Refusing, refused-first, passed-first, through}
+use Rattle.refusals.proofs.FirstOf.{refused-first, passed-first, through}
 use Rattle.refusals.proofs.Conditions.{passed}
+use Rattle.text.specs.Right.{SheetNumbers}
 use Rattle.text.specs.Sheet.{resultText, resultBy}
 use Rattle.text.specs.Meaning.{bigSheet}
 use Rattle.blocks.specs.OnSheet.{OnSheet}
@@ -26,9 +27,6 @@ use Rattle.printer.proofs.InFull.{none-written, all-written}
 -- what is promised of a text, whichever the number
 abbrev Told : ℕ → List ℕ → List ℕ → Written → List ℕ → Type 0
 Told k text out answered out′ = (answered ≡ written k text) × (out′ ≡ writtenTo k text out)
-
-block-refusing : (ds words : List ℕ) → Refusing (sheetChecks ds words)
-block-refusing ds words = Refusing.more (lit< tt) (Refusing.more (lit< tt) (Refusing.more (lit< tt) Refusing.none))
 
 -- the checks of a block, those of the second line's numbers, and the room for the text
 module _ (ds words : List ℕ) (middle : List Check) (text out : List ℕ) where
@@ -48,20 +46,20 @@ module _ (ds words : List ℕ) (middle : List Check) (text out : List ℕ) where
   -- the block is right
   module _ (b : firstOf (sheetChecks ds words) ≡ 0) where
     left : all ≡ firstOf (middle ++ room-check)
-    left = through (middle ++ room-check) (block-refusing ds words) b
+    left = through (sheetChecks ds words) (middle ++ room-check) tt b
 
     -- by one of the numbers of the second line
     told-middle : {k : ℕ} {answered : Written} → k ≡ firstOf middle → (k ≡ 0 → ⊥) → answered ≡ nothingWritten k → Told all text out answered out
     told-middle e z a = refused-so (left ∙ refused-first middle room-check (λ o. z (e ∙ o)) ∙ sym e) z a
 
     -- the numbers are right, too: the room decides
-    only-room : Refusing middle → firstOf middle ≡ 0 → all ≡ roomNumber text out
-    only-room r m = left ∙ through room-check r m
+    only-room : T (refusing middle) → firstOf middle ≡ 0 → all ≡ roomNumber text out
+    only-room r m = left ∙ through middle room-check r m
 
-    told-text : {answered : Written} {out′ : List ℕ} → Refusing middle → firstOf middle ≡ 0 → TextWritten text out answered out′ → Told all text out answered out′
+    told-text : {answered : Written} {out′ : List ℕ} → T (refusing middle) → firstOf middle ≡ 0 → TextWritten text out answered out′ → Told all text out answered out′
     told-text r m t = rw (only-room r m) (t .answers, t .bytes)
 
-    all-zero : Refusing middle → firstOf middle ≡ 0 → length text ≤ length out → all ≡ 0
+    all-zero : T (refusing middle) → firstOf middle ≡ 0 → length text ≤ length out → all ≡ 0
     all-zero r m h = only-room r m ∙ rw (le-ltb (length out) (length text) h)
 
 -- the text, measured
@@ -79,16 +77,10 @@ module _ (text out : List ℕ) where
       let p = all-written e h q in
       record { answers = p .0; bytes = p .1 }
 
-plan-refusing : (order : ℕ) → Refusing (planChecks 4 order)
-plan-refusing order = Refusing.more (lit< tt) Refusing.none
-
-named-refusing : (release order : ℕ) → Refusing (namedChecks 4 release order)
-named-refusing release order = Refusing.more (lit< tt) (plan-refusing order)
-
 -- the writer that names no release
-module _ {ds : List ℕ} {order : ℕ} {words out : List ℕ} {answered : Written} where
+module _ {ds : List ℕ} {order : ℕ} {words out : List ℕ} {answered : Written} (held : SheetNumbers words) where
   told : {out′ : List ℕ} → Told (writerNumber ds order words out) (resultText ds order words) out answered out′ → WrittenAs ds order words out answered out′
-  told t = record { answers = t .0; bytes = t .1 }
+  told t = record { answers = t .0; bytes = t .1; held = held }
 
   pub refused-block : {k : ℕ} → k ≡ firstOf (sheetChecks ds words) → (k ≡ 0 → ⊥) → answered ≡ nothingWritten k → WrittenAs ds order words out answered out
   refused-block e z a = told (told-block ds words (planChecks 4 order) (resultText ds order words) out e z a)
@@ -100,13 +92,13 @@ module _ {ds : List ℕ} {order : ℕ} {words out : List ℕ} {answered : Writte
 
   pub accepted : {out′ : List ℕ} → firstOf (sheetChecks ds words) ≡ 0 → order ≤ 23 → TextWritten (resultText ds order words) out answered out′
       → WrittenAs ds order words out answered out′
-  accepted b k t = told (told-text ds words (planChecks 4 order) (resultText ds order words) out b (plan-refusing order) (rw (le-ltb 23 order k)) t)
+  accepted b k t = told (told-text ds words (planChecks 4 order) (resultText ds order words) out b tt (rw (le-ltb 23 order k)) t)
 
 -- the writer that names one
-module _ {ds : List ℕ} {release order : ℕ} {words out : List ℕ} {answered : Written} where
+module _ {ds : List ℕ} {release order : ℕ} {words out : List ℕ} {answered : Written} (held : SheetNumbers words) where
   told-by : {out′ : List ℕ} → Told (releaseNumber ds release order words out) (resultBy ds release order words) out answered out′
       → ReleaseWrittenAs ds release order words out answered out′
-  told-by t = record { answers = t .0; bytes = t .1 }
+  told-by t = record { answers = t .0; bytes = t .1; held = held }
 
   pub refused-block-by : {k : ℕ} → k ≡ firstOf (sheetChecks ds words) → (k ≡ 0 → ⊥) → answered ≡ nothingWritten k
       → ReleaseWrittenAs ds release order words out answered out
@@ -119,7 +111,7 @@ module _ {ds : List ℕ} {release order : ℕ} {words out : List ℕ} {answered 
   pub accepted-by : {out′ : List ℕ} → firstOf (sheetChecks ds words) ≡ 0 → firstOf (namedChecks 4 release order) ≡ 0
       → TextWritten (resultBy ds release order words) out answered out′ → ReleaseWrittenAs ds release order words out answered out′
   accepted-by b m t =
-      told-by (told-text ds words (namedChecks 4 release order) (resultBy ds release order words) out b (named-refusing release order) m t)
+      told-by (told-text ds words (namedChecks 4 release order) (resultBy ds release order words) out b tt m t)
 
 -- a release and a number that are not refused
 pub named-good : (release order : ℕ) → firstOf (namedChecks 4 release order) ≡ 0 → (noRelease release ≡ false) × (order ≤ 23)
@@ -134,7 +126,7 @@ pub record Wrote (ds words text out : List ℕ) : Type 0 where
   pub room : length text ≤ length out
 
 -- and the numbers are right
-module _ (ds words : List ℕ) (middle : List Check) (text out : List ℕ) (r : Refusing middle) where
+module _ (ds words : List ℕ) (middle : List Check) (text out : List ℕ) (r : T (refusing middle)) where
   wrote-so : all ds words middle text out ≡ 0 → (firstOf middle ≡ 0) × Wrote ds words text out
   wrote-so e =
       let last = room-check ds words middle text out in
@@ -142,7 +134,7 @@ module _ (ds words : List ℕ) (middle : List Check) (text out : List ℕ) (r : 
       let q = passed (bigSheet ds) 11 _ (lit< tt) (p .1) in
       let s = passed (shortBuffer ds words) 3 _ (lit< tt) (q .1) in
       let m = passed-first middle last (s .1) in
-      let t = passed (shortBytes text out) 24 0 (lit< tt) (sym (through last r m) ∙ s .1) in (
+      let t = passed (shortBytes text out) 24 0 (lit< tt) (sym (through middle last r m) ∙ s .1) in (
         m,
         record {
           block = record { lengths = p .0; few = ltb-false 1024 (volume ds) (q .0); enough = ltb-false (length words) (volume ds) (s .0) };
@@ -160,21 +152,21 @@ module _ (ds words : List ℕ) (middle : List Check) (text out : List ℕ) (r : 
 module _ (ds : List ℕ) (order : ℕ) (words out : List ℕ) where
   pub wrote : writerNumber ds order words out ≡ 0 → (order ≤ 23) × Wrote ds words (resultText ds order words) out
   wrote e =
-      let w = wrote-so ds words (planChecks 4 order) (resultText ds order words) out (plan-refusing order) e in
+      let w = wrote-so ds words (planChecks 4 order) (resultText ds order words) out tt e in
       (ltb-false 23 order (passed (noOrder 4 order) 7 0 (lit< tt) (w .0) .0), w .1)
 
   pub number-0 : OnSheet ds words → order ≤ 23 → length (resultText ds order words) ≤ length out → writerNumber ds order words out ≡ 0
-  number-0 h k = zero-so ds words (planChecks 4 order) (resultText ds order words) out (plan-refusing order) h (rw (le-ltb 23 order k))
+  number-0 h k = zero-so ds words (planChecks 4 order) (resultText ds order words) out tt h (rw (le-ltb 23 order k))
 
 module _ (ds : List ℕ) (release order : ℕ) (words out : List ℕ) where
   pub wrote-by : releaseNumber ds release order words out ≡ 0
       → (noRelease release ≡ false) × (order ≤ 23) × Wrote ds words (resultBy ds release order words) out
   wrote-by e =
-      let w = wrote-so ds words (namedChecks 4 release order) (resultBy ds release order words) out (named-refusing release order) e in
+      let w = wrote-so ds words (namedChecks 4 release order) (resultBy ds release order words) out tt e in
       let g = named-good release order (w .0) in
       (g .0, g .1, w .1)
 
   pub number-0-by : OnSheet ds words → noRelease release ≡ false → order ≤ 23 → length (resultBy ds release order words) ≤ length out
       → releaseNumber ds release order words out ≡ 0
   number-0-by h n k =
-      zero-so ds words (namedChecks 4 release order) (resultBy ds release order words) out (named-refusing release order) h (rw (n, le-ltb 23 order k))
+      zero-so ds words (namedChecks 4 release order) (resultBy ds release order words) out tt h (rw (n, le-ltb 23 order k))

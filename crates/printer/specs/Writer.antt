@@ -9,6 +9,7 @@ use Rattle.refusals.specs.FirstOf.{Check, check, firstOf}
 use Rattle.refusals.specs.Conditions.{noOrder}
 use Rattle.refusals.specs.Calls.{namedChecks}
 use Rattle.text.specs.Sheet.{resultText, resultBy}
+use Rattle.text.specs.Right.{SheetNumbers}
 use Rattle.blocks.specs.Checks.{sheetChecks}
 use Rattle.printer.specs.declared.Written.{Written}
 
@@ -46,12 +47,14 @@ written number text = record { number = number; count = cond (eqb number 0) (len
 abbrev pub writtenTo : ℕ → List ℕ → List ℕ → List ℕ
 writtenTo number text out = cond (eqb number 0) (text ++ drop (length text) out) out
 
--- the promise of the writer
+-- the promise of the writer; every word that it is lent is one that a sheet can hold
 pub record WrittenAs (ds : List ℕ) (order : ℕ) (words out : List ℕ) (answered : Written) (out′ : List ℕ) : Type 0 where
   pub answers : answered ≡ written (writerNumber ds order words out) (resultText ds order words)
   pub bytes : out′ ≡ writtenTo (writerNumber ds order words out) (resultText ds order words) out
+  pub held : SheetNumbers words
 
--- the promise of the writer that names a release
+-- the promise of the writer that names a release, likewise
 pub record ReleaseWrittenAs (ds : List ℕ) (release order : ℕ) (words out : List ℕ) (answered : Written) (out′ : List ℕ) : Type 0 where
   pub answers : answered ≡ written (releaseNumber ds release order words out) (resultBy ds release order words)
   pub bytes : out′ ≡ writtenTo (releaseNumber ds release order words out) (resultBy ds release order words) out
+  pub held : SheetNumbers words

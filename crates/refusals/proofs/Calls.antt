@@ -1,45 +1,32 @@
--- Every list of checks has numbers that refuse, so the laws of `firstOf` hold of every call: 0 exactly when none of its
--- conditions holds. And the checks of a block before the room in scratch: where the block is refused, and where scratch decides.
+-- Five lists of checks whose laws callers use: 0 exactly when none of the conditions holds. And the checks of a block before the room in scratch: where the
+-- block is refused, and where scratch decides.
 use mathlib.Core.List.{List, [], _∷_}
 use mathlib.Core.Logic.{_↔_}
 use mathlib.Core.Path.{_≡_, sym, _∙_}
 use Prim.Native.Nat.{ℕ, _<_, _≤_}
-use lib.Dec.{lit<}
 use lib.ListN.{length}
 use borrow.Author.Tests.{lt-ltb, le-ltb}
-use Rattle.refusals.specs.FirstOf.{Check, check, firstOf}
+use Rattle.refusals.specs.FirstOf.{Check, check, firstOf, Silent}
 use Rattle.refusals.specs.Conditions.{shortScratch}
-use Rattle.refusals.specs.Calls.{sizeChecks, blockChecks, passesChecks, recursionChecks, chainChecks, requestChecks, planChecks, namedChecks}
+use Rattle.refusals.specs.Calls.{blockChecks, passesChecks, recursionChecks, chainChecks, requestChecks, planChecks, namedChecks}
 use Rattle.refusals.specs.Scratch.{need}
-use Rattle.refusals.proofs.FirstOf.{Refusing, Silent, accepted-exactly, refused-by, passed-first, accepted-so-far}
-use Rattle.refusals.proofs.FirstOf.Refusing.{none, more}
-
-pub size-refusing : (ds : List ℕ) → Refusing (sizeChecks ds)
-size-refusing ds = more (lit< tt) (more (lit< tt) none)
-
-pub block-refusing : (ds b : List ℕ) → Refusing (blockChecks ds b)
-block-refusing ds b = more (lit< tt) (more (lit< tt) (more (lit< tt) (more (lit< tt) none)))
-
-pub passes-accepted : (ds b s : List ℕ) → (firstOf (passesChecks ds b s) ≡ 0) ↔ Silent (passesChecks ds b s)
-passes-accepted ds b s = accepted-exactly (more (lit< tt) (more (lit< tt) (more (lit< tt) (more (lit< tt) (more (lit< tt) none)))))
+use Rattle.refusals.proofs.FirstOf.{accepted-exactly, refused-by, passed-first, accepted-so-far}
 
 pub recursion-accepted : (ds b : List ℕ) → (firstOf (recursionChecks ds b) ≡ 0) ↔ Silent (recursionChecks ds b)
-recursion-accepted ds b = accepted-exactly (block-refusing ds b)
+recursion-accepted ds b = accepted-exactly (recursionChecks ds b) tt
 
 pub chain-accepted : (r : ℕ) (ds b s chain : List ℕ) → (firstOf (chainChecks r ds b s chain) ≡ 0) ↔ Silent (chainChecks r ds b s chain)
-chain-accepted r ds b s chain =
-    accepted-exactly (more (lit< tt) (more (lit< tt) (more (lit< tt) (more (lit< tt) (more (lit< tt) (more (lit< tt) (more (lit< tt) none)))))))
+chain-accepted r ds b s chain = accepted-exactly (chainChecks r ds b s chain) tt
 
 pub request-accepted : (r : ℕ) (ds b s : List ℕ) (release order : ℕ)
     → (firstOf (requestChecks r ds b s release order) ≡ 0) ↔ Silent (requestChecks r ds b s release order)
-request-accepted r ds b s release order =
-    accepted-exactly (more (lit< tt) (more (lit< tt) (more (lit< tt) (more (lit< tt) (more (lit< tt) (more (lit< tt) (more (lit< tt) none)))))))
+request-accepted r ds b s release order = accepted-exactly (requestChecks r ds b s release order) tt
 
 pub plan-accepted : (r order : ℕ) → (firstOf (planChecks r order) ≡ 0) ↔ Silent (planChecks r order)
-plan-accepted r order = accepted-exactly (more (lit< tt) none)
+plan-accepted r order = accepted-exactly (planChecks r order) tt
 
 pub named-accepted : (r release order : ℕ) → (firstOf (namedChecks r release order) ≡ 0) ↔ Silent (namedChecks r release order)
-named-accepted r release order = accepted-exactly (more (lit< tt) (more (lit< tt) none))
+named-accepted r release order = accepted-exactly (namedChecks r release order) tt
 
 -- the checks of a block, then the room in scratch
 module _ (ds buffer scratch : List ℕ) where

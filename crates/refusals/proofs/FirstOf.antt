@@ -1,53 +1,47 @@
 -- The laws of `firstOf`: it is 0 exactly when no condition holds, and k exactly when k's condition holds and none before
--- it does. By induction on the list of checks; numbers of checks are not 0.
+-- it does. By induction on the list of checks, of which no number is 0: that is computed.
 use mathlib.Core.Path.{_≡_, refl, sym, ap, _∙_}
 use mathlib.Core.Bool.{Bool, true, false, cond}
 use mathlib.Core.List.{List, [], _∷_, _++_}
 use mathlib.Core.Logic.{_↔_, ⊎-elim}
 use Prim.Native.Nat.{ℕ, _<_}
 use native.Mathlib.Omega.{arith}
+use lib.Dec.{T, ltb, ltb→lt}
 use Rattle.lists.proofs.Decide.{decided, eq-or-ne}
-use Rattle.refusals.specs.FirstOf.{Check, firstOf}
-
--- every number of the list is one that refuses
-pub data Refusing : List Check → Type 0 where
-  none : Refusing []
-  more : {c : Check} {cs : List Check} → 0 < c .number → Refusing cs → Refusing (c ∷ cs)
-
--- no condition of the list holds
-pub data Silent : List Check → Type 0 where
-  none : Silent []
-  more : {c : Check} {cs : List Check} → c .holds ≡ false → Silent cs → Silent (c ∷ cs)
-
--- k's condition holds, and none before it does
-pub data First (k : ℕ) : List Check → Type 0 where
-  here : {c : Check} {cs : List Check} → c .holds ≡ true → c .number ≡ k → First k (c ∷ cs)
-  later : {c : Check} {cs : List Check} → c .holds ≡ false → First k cs → First k (c ∷ cs)
+use Rattle.lists.proofs.Test.{both-left, both-right}
+use Rattle.refusals.specs.FirstOf.{Check, firstOf, refusing, Silent, First, Exactly}
 
 pub silent-zero : {cs : List Check} → Silent cs → firstOf cs ≡ 0
-silent-zero none = refl
-silent-zero (more {c} {cs} h s) = rw h (silent-zero s)
+silent-zero Silent.none = refl
+silent-zero (Silent.more {c} {cs} h s) = rw h (silent-zero s)
 
 pub first-is : {k : ℕ} {cs : List Check} → First k cs → firstOf cs ≡ k
-first-is (here h e) = rw h e
-first-is (later h f) = rw h (first-is f)
+first-is (First.here h e) = rw h e
+first-is (First.later h f) = rw h (first-is f)
 
-pub zero-silent : {cs : List Check} → Refusing cs → firstOf cs ≡ 0 → Silent cs
-zero-silent none e = Silent.none
-zero-silent (more {c} {cs} p r) e =
-    decided (c .holds) (λ q. let z : c .number ≡ 0 = rw q at e in absurd (omega arith)) (λ q. Silent.more q (zero-silent r (rw q at e)))
+pub zero-silent : (cs : List Check) → T (refusing cs) → firstOf cs ≡ 0 → Silent cs
+zero-silent [] t e = Silent.none
+zero-silent (c ∷ cs) t e =
+    let p : 0 < c .number = ltb→lt 0 (c .number) (both-left (ltb 0 (c .number)) (refusing cs) t) in
+    decided (c .holds)
+    (λ q. let z : c .number ≡ 0 = rw q at e in absurd (omega arith))
+    (λ q. Silent.more q (zero-silent cs (both-right (ltb 0 (c .number)) (refusing cs) t) (rw q at e)))
 
 pub is-first : {k : ℕ} (cs : List Check) → 0 < k → firstOf cs ≡ k → First k cs
 is-first [] p e = absurd (omega arith)
 is-first (c ∷ cs) p e = decided (c .holds) (λ q. First.here q (rw q at e)) (λ q. First.later q (is-first cs p (rw q at e)))
 
 -- the answer is 0 exactly when no condition holds
-pub accepted-exactly : {cs : List Check} → Refusing cs → (firstOf cs ≡ 0) ↔ Silent cs
-accepted-exactly r = (zero-silent r, silent-zero)
+pub accepted-exactly : (cs : List Check) → T (refusing cs) → (firstOf cs ≡ 0) ↔ Silent cs
+accepted-exactly cs t = (zero-silent cs t, silent-zero)
 
 -- it is k exactly when k's condition holds and none before it does
 pub refused-exactly : {k : ℕ} (cs : List Check) → 0 < k → (firstOf cs ≡ k) ↔ First k cs
 refused-exactly cs p = (is-first cs p, first-is)
+
+-- both, of every list none of whose numbers is 0
+pub exactly : (cs : List Check) → T (refusing cs) → Exactly cs
+exactly cs t = record { accepted = accepted-exactly cs t; refused = λ k. refused-exactly cs }
 
 -- more checks after a list of checks: they are not looked at where one of the list holds, and they decide where none does
 pub refused-first : (cs ds : List Check) → (firstOf cs ≡ 0 → ⊥) → firstOf (cs ++ ds) ≡ firstOf cs
@@ -67,8 +61,8 @@ pub passed-first : (cs ds : List Check) → firstOf (cs ++ ds) ≡ 0 → firstOf
 passed-first cs ds z = ⊎-elim (λ e. e) (λ n. absurd (n (sym (refused-first cs ds n) ∙ z))) (eq-or-ne (firstOf cs) 0)
 
 pub accepted-so-far : {cs : List Check} (ds : List Check) → Silent cs → firstOf (cs ++ ds) ≡ firstOf ds
-accepted-so-far ds none = refl
-accepted-so-far ds (more {c} {cs} h s) = rw h (accepted-so-far ds s)
+accepted-so-far ds Silent.none = refl
+accepted-so-far ds (Silent.more {c} {cs} h s) = rw h (accepted-so-far ds s)
 
 -- what follows a list of checks may be put otherwise, where it says the same
 pub same-after : (cs ds es : List Check) → firstOf ds ≡ firstOf es → firstOf (cs ++ ds) ≡ firstOf (cs ++ es)
@@ -76,5 +70,5 @@ same-after [] ds es e = e
 same-after (c ∷ cs) ds es e = ap (cond (c .holds) (c .number)) (same-after cs ds es e)
 
 -- a list that is passed leaves the rest to decide
-pub through : {cs : List Check} (ds : List Check) → Refusing cs → firstOf cs ≡ 0 → firstOf (cs ++ ds) ≡ firstOf ds
-through ds r e = accepted-so-far ds (zero-silent r e)
+pub through : (cs ds : List Check) → T (refusing cs) → firstOf cs ≡ 0 → firstOf (cs ++ ds) ≡ firstOf ds
+through cs ds t e = accepted-so-far ds (zero-silent cs t e)

@@ -9,7 +9,8 @@ use lib.Seq.{sets-eq}
 use Rattle.blocks.specs.OnSheet.{OnSheet}
 use Rattle.text.specs.Sheet.{rowCount, rowWidth}
 use Rattle.text.specs.Meaning.{Verdict, Outcome, shapeLine, chainLine, orderLine, rowLines, meaningBy}
-use Rattle.text.proofs.Accepted.{ShapeRead, shape-read}
+use Rattle.text.specs.Right.{ShapeRead}
+use Rattle.text.proofs.Accepted.{shape-read}
 use Rattle.text.proofs.Rows.{rows-text, rows-volume}
 use Rattle.sheet.specs.declared.Sheet.{Sheet}
 use Rattle.sheet.specs.declared.ResultSheet.{ResultSheet}

@@ -6,7 +6,8 @@ use mathlib.Core.Logic.{_↔_}
 use Prim.Native.Nat.{ℕ, _<_}
 use native.Mathlib.Omega.{arith}
 use Rattle.text.specs.Meaning.{Outcome, meaning, resultMeaning}
-use Rattle.text.proofs.Refused.{Refused, RefusedResult, refused-exactly, refused-result-exactly}
+use Rattle.text.specs.Refused.{Refused, RefusedResult}
+use Rattle.text.proofs.Refused.{refused-exactly, refused-result-exactly}
 use Rattle.sheet.specs.declared.Sheet.{Sheet}
 use Rattle.sheet.specs.declared.ResultSheet.{ResultSheet}
 use Rattle.sheet.specs.Reader.{answer, ReadAs}

@@ -12,16 +12,14 @@ use borrow.Author.Tests.{eqb-true}
 use Rattle.layout.specs.Layout.{volume}
 use Rattle.text.specs.Sheet.{orderNumbers}
 use Rattle.text.specs.Meaning.{Outcome, lineRelease, lineOrder, resultMeaning}
-use Rattle.text.proofs.SecondLines.{RightResult, result-exactly}
+use Rattle.text.specs.Right.{RightResult}
+use Rattle.text.proofs.SecondLines.{result-exactly}
 use Rattle.text.proofs.Bounds.{Within, result-within}
-use Rattle.text.proofs.Refused.{RefusedResult, refused-result-exactly}
+use Rattle.text.specs.Refused.{RefusedResult}
+use Rattle.text.proofs.Refused.{refused-result-exactly}
 use Rattle.sheet.specs.declared.ResultSheet.{ResultSheet}
 use Rattle.sheet.specs.Reader.{kept}
-use Rattle.sheet.specs.ResultReader.{resultAnswer, ResultReadAs}
-
--- the answer to a result sheet that is right
-abbrev pub found : List ℕ → ℕ → ℕ → ResultSheet
-found ds release order = record { number = 0; place = 0; lens = ds; release = release; order = order }
+use Rattle.sheet.specs.ResultReader.{resultAnswer, ResultReadAs, resultFound, ReadRight}
 
 -- what is answered and stored once the meaning is known
 module _ {buffer bytes : List ℕ} {r : ResultSheet} {w : List ℕ} {o : Outcome} (p : ResultReadAs buffer bytes r w) (m : resultMeaning buffer bytes ≡ o) where
@@ -41,22 +39,15 @@ numbers-said release order = by (eqb release 0) refl
     by false e = (refl, refl)
 
 pub right-is-read : {buffer bytes : List ℕ} {r : ResultSheet} {w ds : List ℕ} (release order : ℕ) {words : List ℕ} → ResultReadAs buffer bytes r w
-    → RightResult buffer bytes ds (orderNumbers release order) words → (r ≡ found ds release order) × (w ≡ words ++ drop (length words) buffer)
+    → RightResult buffer bytes ds (orderNumbers release order) words → (r ≡ resultFound ds release order) × (w ≡ words ++ drop (length words) buffer)
 right-is-read {buffer} {bytes} {ds = ds} release order {words} p h =
     let m = result-exactly buffer bytes ds (orderNumbers release order) words .1 h in
     let said = numbers-said release order in
-    (answered p m ∙ ap₂ (found ds) (said .0) (said .1), stored p m)
-
--- one that is accepted is right
-pub record ReadRight (buffer bytes : List ℕ) (r : ResultSheet) (w : List ℕ) : Type 0 where
-  pub right : RightResult buffer bytes (r .lens) (orderNumbers (r .release) (r .order)) (take (volume (r .lens)) w)
-  pub release : r .release ≤ 2
-  pub known : r .order ≤ 23
-  pub words : w ≡ take (volume (r .lens)) w ++ drop (volume (r .lens)) buffer
+    (answered p m ∙ ap₂ (resultFound ds) (said .0) (said .1), stored p m)
 
 -- with the answer that it is given
 accepted-right : {buffer bytes : List ℕ} {r : ResultSheet} {w ds ns words : List ℕ} → RightResult buffer bytes ds ns words
-    → r ≡ found ds (lineRelease ns) (lineOrder ns) → w ≡ words ++ drop (length words) buffer → ReadRight buffer bytes r w
+    → r ≡ resultFound ds (lineRelease ns) (lineOrder ns) → w ≡ words ++ drop (length words) buffer → ReadRight buffer bytes r w
 accepted-right {buffer} {bytes} {ds = ds} {ns = ns} {words = words} h a e =
     let front : take (volume ds) (words ++ drop (length words) buffer) ≡ words = take-at words (drop (length words) buffer) (volume ds) (h .block) in
     let right : RightResult buffer bytes ds (orderNumbers (lineRelease ns) (lineOrder ns)) words =

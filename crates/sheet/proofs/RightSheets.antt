@@ -5,21 +5,15 @@ use Prim.Native.Nat.{ℕ}
 use native.Mathlib.Omega.{arith}
 use lib.ListN.{length, drop}
 use Rattle.text.specs.Meaning.{Outcome, meaning}
-use Rattle.text.proofs.SecondLines.{Right, accepted-exactly}
+use Rattle.text.specs.Right.{Right}
+use Rattle.text.proofs.SecondLines.{accepted-exactly}
 use Rattle.text.proofs.Bounds.{Within, meaning-within}
 use Rattle.sheet.specs.declared.Sheet.{Sheet}
 use Rattle.sheet.specs.Swaps.{padded}
-use Rattle.sheet.specs.Reader.{answer, kept, ReadAs}
-
--- what an accepted sheet is answered with: its lengths, its chain before zeros, the chain's length, and its words at the start
-pub record Answers (buffer : List ℕ) (answered : Sheet) (buffer′ ds chain words : List ℕ) : Type 0 where
-  pub lengths : answered .lens ≡ ds
-  pub swaps : answered .swaps ≡ padded chain
-  pub count : answered .count ≡ length chain
-  pub stored : buffer′ ≡ words ++ drop (length words) buffer
+use Rattle.sheet.specs.Reader.{answer, kept, ReadAs, Answered}
 
 accepted-answer : {buffer bytes : List ℕ} {r : Sheet} {w ds chain words : List ℕ} → ReadAs buffer bytes r w
-    → meaning buffer bytes ≡ Outcome.accepted ds chain words → (r .number ≡ 0) × Answers buffer r w ds chain words
+    → meaning buffer bytes ≡ Outcome.accepted ds chain words → (r .number ≡ 0) × Answered buffer r w ds chain words
 accepted-answer {buffer} p m =
     let a = p .answers ∙ ap answer m in (
       ap (λ (s : Sheet). s .number) a,
@@ -33,12 +27,12 @@ accepted-answer {buffer} p m =
 
 -- a sheet that is right is accepted, and answered with what it is the text of
 pub right-is-read : {buffer bytes : List ℕ} {r : Sheet} {w ds chain words : List ℕ} → ReadAs buffer bytes r w → Right buffer bytes ds chain words
-    → (r .number ≡ 0) × Answers buffer r w ds chain words
+    → (r .number ≡ 0) × Answered buffer r w ds chain words
 right-is-read p h = accepted-answer p (accepted-exactly _ _ _ _ _ .1 h)
 
 -- a sheet that is accepted is right
 pub read-is-right : {buffer bytes : List ℕ} {r : Sheet} {w : List ℕ} {C : Type 0} → ReadAs buffer bytes r w → r .number ≡ 0
-    → ((ds chain words : List ℕ) → Right buffer bytes ds chain words → Answers buffer r w ds chain words → C) → C
+    → ((ds chain words : List ℕ) → Right buffer bytes ds chain words → Answered buffer r w ds chain words → C) → C
 read-is-right {buffer} {bytes} {r} {w} {C} p z k = by (meaning buffer bytes) refl (meaning-within buffer bytes)
   where
     by : (o : Outcome) → meaning buffer bytes ≡ o → Within o → C

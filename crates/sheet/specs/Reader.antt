@@ -21,3 +21,10 @@ kept (Outcome.accepted ds chain words) buffer = words ++ drop (length words) buf
 pub record ReadAs (buffer bytes : List ℕ) (answered : Sheet) (buffer′ : List ℕ) : Type 0 where
   pub answers : answered ≡ answer (meaning buffer bytes)
   pub words : buffer′ ≡ kept (meaning buffer bytes) buffer
+
+-- what an accepted sheet is answered with: its lengths, its chain before zeros, the chain's length, and its words at the start
+pub record Answered (buffer : List ℕ) (answered : Sheet) (buffer′ ds chain words : List ℕ) : Type 0 where
+  pub lengths : answered .lens ≡ ds
+  pub swaps : answered .swaps ≡ padded chain
+  pub count : answered .count ≡ length chain
+  pub stored : buffer′ ≡ words ++ drop (length words) buffer

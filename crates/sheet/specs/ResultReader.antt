@@ -1,8 +1,11 @@
 -- What the reader of result sheets answers and stores. Assumes nothing: these are definitions.
 use mathlib.Core.Path.{_≡_}
-use mathlib.Core.List.{List}
-use Prim.Native.Nat.{ℕ}
-use lib.ListN.{replicate}
+use mathlib.Core.List.{List, _++_}
+use Prim.Native.Nat.{ℕ, _≤_}
+use lib.ListN.{take, drop, replicate}
+use Rattle.layout.specs.Layout.{volume}
+use Rattle.text.specs.Sheet.{orderNumbers}
+use Rattle.text.specs.Right.{RightResult}
 use Rattle.text.specs.Meaning.{Outcome, lineRelease, lineOrder, resultMeaning}
 use Rattle.sheet.specs.Reader.{kept}
 use Rattle.sheet.specs.declared.ResultSheet.{ResultSheet}
@@ -16,3 +19,14 @@ resultAnswer (Outcome.accepted ds numbers words) = record { number = 0; place = 
 pub record ResultReadAs (buffer bytes : List ℕ) (answered : ResultSheet) (buffer′ : List ℕ) : Type 0 where
   pub answers : answered ≡ resultAnswer (resultMeaning buffer bytes)
   pub words : buffer′ ≡ kept (resultMeaning buffer bytes) buffer
+
+-- the answer to a result sheet that is right
+abbrev pub resultFound : List ℕ → ℕ → ℕ → ResultSheet
+resultFound ds release order = record { number = 0; place = 0; lens = ds; release = release; order = order }
+
+-- a result sheet that is accepted is right: it is the text of what was answered and stored
+pub record ReadRight (buffer bytes : List ℕ) (r : ResultSheet) (w : List ℕ) : Type 0 where
+  pub right : RightResult buffer bytes (r .lens) (orderNumbers (r .release) (r .order)) (take (volume (r .lens)) w)
+  pub release : r .release ≤ 2
+  pub known : r .order ≤ 23
+  pub words : w ≡ take (volume (r .lens)) w ++ drop (volume (r .lens)) buffer

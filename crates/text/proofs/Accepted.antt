@@ -5,7 +5,7 @@ use mathlib.Core.Path.{_≡_, sym, ap, _∙_}
 use mathlib.Core.Bool.{Bool, false}
 use mathlib.Core.List.{List, [], _∷_, _++_}
 use mathlib.Core.Logic.{_↔_}
-use Prim.Native.Nat.{ℕ, _+_, _≤_}
+use Prim.Native.Nat.{ℕ, _≤_}
 use native.Mathlib.Omega.{arith}
 use lib.ListN.{length}
 use borrow.Author.Tests.{ltb-false, le-ltb}
@@ -13,31 +13,24 @@ use Rattle.layout.specs.Layout.{volume}
 use Rattle.refusals.specs.Conditions.{some, outOfRange, badLength, shortBuffer}
 use Rattle.text.specs.Print.{limit, line}
 use Rattle.text.specs.Read.{readLine}
-use Rattle.text.specs.Sheet.{shapeWord, rowCount, rowWidth, rowsText, pageText}
+use Rattle.text.specs.Sheet.{shapeWord, rowCount, rowWidth, rowsText}
 use Rattle.text.specs.Meaning.{Verdict, Outcome, longSheet, bigSheet, refuseIf, onLine, onward, conclude, shapeLine, rowLines, meaningBy}
 use Rattle.refusals.proofs.Some.{either-false}
 use Rattle.refusals.proofs.Conditions.{ranged}
-use Rattle.text.proofs.Lines.{Small, Stands, line-text, text-line}
+use Rattle.text.specs.Right.{SheetNumbers, ShapeRead, RightBy}
+use Rattle.text.proofs.Lines.{line-text, text-line}
 use Rattle.text.proofs.Steps.{refuse-go, on-line-go, onward-go, conclude-accepted}
 use Rattle.text.proofs.Rows.{rows-text, text-rows, rows-volume}
 
 -- numbers among which the test finds none are small, where the test finds every number that is not
-pub none-small : (f : ℕ → Bool) → ((v : ℕ) → f v ≡ false → v ≤ limit) → (vs : List ℕ) → some f vs ≡ false → Small vs
-none-small f under [] e = Small.none
+pub none-small : (f : ℕ → Bool) → ((v : ℕ) → f v ≡ false → v ≤ limit) → (vs : List ℕ) → some f vs ≡ false → SheetNumbers vs
+none-small f under [] e = SheetNumbers.none
 none-small f under (v ∷ vs) e =
     let h = either-false (f v) (some f vs) e in
-    Small.more (under v (h .0)) (none-small f under vs (h .1))
+    SheetNumbers.more (under v (h .0)) (none-small f under vs (h .1))
 
 a-length : (d : ℕ) → outOfRange d ≡ false → d ≤ limit
 a-length d e = omega (arith, ranged d e)
-
--- what line 1 and its checks let through
-pub record ShapeRead (buffer bytes ds rest : List ℕ) : Type 0 where
-  pub few-bytes : length bytes ≤ 16384
-  pub held : Stands (line shapeWord) 4 bytes ds rest
-  pub lengths : badLength ds ≡ false
-  pub few-words : volume ds ≤ 1024
-  pub room : volume ds ≤ length buffer
 
 pub shape-read : (buffer bytes : List ℕ) {ds rest : List ℕ} → shapeLine buffer bytes ≡ Verdict.go ds rest → ShapeRead buffer bytes ds rest
 unfolding shapeLine
@@ -77,18 +70,6 @@ read-shape {buffer} {bytes} {ds} {rest} h =
 pub record Second (second : List ℕ → Verdict) (print : List ℕ → List ℕ) (Good : List ℕ → Type 0) : Type 0 where
   pub stands : (bytes : List ℕ) {ns rest : List ℕ} → second bytes ≡ Verdict.go ns rest → (bytes ≡ print ns ++ rest) × Good ns
   pub reads : (ns rest : List ℕ) → Good ns → second (print ns ++ rest) ≡ Verdict.go ns rest
-
--- the bytes are the text of four lengths, of numbers of the second line and of words that pass every check of the reader
-pub record RightBy (print : List ℕ → List ℕ) (Good : List ℕ → Type 0) (buffer bytes ds ns words : List ℕ) : Type 0 where
-  pub text : bytes ≡ pageText ds (print ns) words
-  pub few-bytes : length bytes ≤ 16384
-  pub axes : length ds ≡ 4
-  pub lengths : badLength ds ≡ false
-  pub few-words : volume ds ≤ 1024
-  pub room : volume ds ≤ length buffer
-  pub second : Good ns
-  pub block : length words ≡ volume ds
-  pub small : Small words
 
 module _ {second : List ℕ → Verdict} {print : List ℕ → List ℕ} {Good : List ℕ → Type 0} (law : Second second print Good) where
   pub accepted-right-by : (buffer bytes ds ns words : List ℕ) → meaningBy second buffer bytes ≡ Outcome.accepted ds ns words

@@ -16,17 +16,8 @@ use Rattle.lists.proofs.Decide.{decided, lt-or-ge}
 use Rattle.text.specs.Print.{limit, tabByte, lineFeed, digits, decimal, field, fields, line}
 use Rattle.text.specs.Read.{Reading, after, readField, readFields, closed, readLine, tabs}
 use Rattle.text.proofs.Numbers.{Stops, number-text, text-number}
-
--- numbers that a sheet can hold
-pub data Small : List ℕ → Type 0 where
-  none : Small []
-  more : {v : ℕ} {vs : List ℕ} → v ≤ limit → Small vs → Small (v ∷ vs)
-
--- the text of vs stands at the bytes' start, and the rest follows it
-pub record Stands (text : List ℕ → List ℕ) (n : ℕ) (bs vs rest : List ℕ) : Type 0 where
-  pub bytes : bs ≡ text vs ++ rest
-  pub long : length vs ≡ n
-  pub small : Small vs
+use Rattle.text.specs.Right.{SheetNumbers, Stands}
+use Rattle.text.specs.Right.SheetNumbers.{none, more}
 
 -- what was found by going on was found before, and gone on from
 pub after-found : {A B : Type 0} (x : Reading A) (f : A → List ℕ → Reading B) {b : B} {rest : List ℕ} {C : Type 0}
@@ -56,7 +47,7 @@ unfolding readFields fields
 fields-text zero bs {vs} {rest} e =
     let ev : [] ≡ vs = cc in
     let er : bs ≡ rest = cc in
-    rw (← ev, er) (record { bytes = refl; long = refl; small = Small.none })
+    rw (← ev, er) (record { bytes = refl; long = refl; small = SheetNumbers.none })
 fields-text (suc n) bs {vs} {rest} e =
     after-found (readField bs) (λ (v : ℕ) (mid : List ℕ). after (readFields n mid) (λ (ws : List ℕ) (end : List ℕ). Reading.found (v ∷ ws) end)) e
     (λ v mid e₁ e₂. after-found (readFields n mid) (λ (ws : List ℕ) (end : List ℕ). Reading.found (v ∷ ws) end) e₂
@@ -69,7 +60,7 @@ fields-text (suc n) bs {vs} {rest} e =
     (record {
       bytes = h .0 ∙ ap (λ (l : List ℕ). field v ++ l) (ih .bytes) ∙ sym (append-assoc (field v) (fields ws) end);
       long = ap suc (ih .long);
-      small = Small.more (h .1) (ih .small);
+      small = SheetNumbers.more (h .1) (ih .small);
     })))
 
 -- what follows a number of a line begins with no digit
@@ -78,7 +69,7 @@ unfolding fields field
 stops-fields [] s = s
 stops-fields (v ∷ vs) s = Stops.at-byte refl
 
-pub text-fields : {vs rest : List ℕ} → Small vs → Stops rest → readFields (length vs) (fields vs ++ rest) ≡ Reading.found vs rest
+pub text-fields : {vs rest : List ℕ} → SheetNumbers vs → Stops rest → readFields (length vs) (fields vs ++ rest) ≡ Reading.found vs rest
 unfolding readFields fields
 text-fields {rest = rest} none s = refl
 text-fields {rest = rest} (more {v} {vs} l m) s =

@@ -7,39 +7,45 @@ use native.Mathlib.Nat.{mul-assoc}
 use lib.ListN.{length, take, drop, getD, length-append, length-drop, take-append-drop}
 use lib.Seq.{take-add, take-at, drop-at, length-take-le}
 use Rattle.layout.specs.Layout.{volume}
-use Rattle.text.specs.Print.{line}
+use Rattle.text.specs.Print.{limit, line}
 use Rattle.text.specs.Read.{readLine}
 use Rattle.text.specs.Sheet.{shapeWord, orderWord, rowWord, rowCount, rowWidth, rowsText, orderNumbers, resultBy}
 use Rattle.text.specs.Meaning.{Verdict, onLine, behind, ended, rowLines}
-use Rattle.text.proofs.Lines.{Small, Stands, line-text, text-line}
+use Rattle.text.specs.Right.{SheetNumbers, Stands}
+use Rattle.text.proofs.Lines.{line-text, text-line}
 use Rattle.text.proofs.Steps.{on-line-go, onward-go, behind-go, ended-go}
 
-pub small-append : {us ws : List ℕ} → Small us → Small ws → Small (us ++ ws)
-small-append Small.none t = t
-small-append (Small.more l s) t = Small.more l (small-append s t)
+pub small-append : {us ws : List ℕ} → SheetNumbers us → SheetNumbers ws → SheetNumbers (us ++ ws)
+small-append SheetNumbers.none t = t
+small-append (SheetNumbers.more l s) t = SheetNumbers.more l (small-append s t)
 
-pub small-take : (n : ℕ) {ws : List ℕ} → Small ws → Small (take n ws)
-small-take zero s = Small.none
-small-take (suc n) Small.none = Small.none
-small-take (suc n) (Small.more l s) = Small.more l (small-take n s)
+-- words of 32 bits are numbers that a sheet can hold
+pub words-held : (ws : List ℕ) → ((k : ℕ) → getD ws k 0 < 4294967296) → SheetNumbers ws
+words-held [] h = SheetNumbers.none
+words-held (w ∷ ws) h = let low : w ≤ limit = omega (arith, h 0) in SheetNumbers.more low (words-held ws (λ k. h (suc k)))
 
-pub small-drop : (n : ℕ) {ws : List ℕ} → Small ws → Small (drop n ws)
+pub small-take : (n : ℕ) {ws : List ℕ} → SheetNumbers ws → SheetNumbers (take n ws)
+small-take zero s = SheetNumbers.none
+small-take (suc n) SheetNumbers.none = SheetNumbers.none
+small-take (suc n) (SheetNumbers.more l s) = SheetNumbers.more l (small-take n s)
+
+pub small-drop : (n : ℕ) {ws : List ℕ} → SheetNumbers ws → SheetNumbers (drop n ws)
 small-drop zero s = s
-small-drop (suc n) Small.none = Small.none
-small-drop (suc n) (Small.more l s) = small-drop n s
+small-drop (suc n) SheetNumbers.none = SheetNumbers.none
+small-drop (suc n) (SheetNumbers.more l s) = small-drop n s
 
 -- the bytes are the rows of these words, all of them, and nothing is left
 pub record AreRows (count n : ℕ) (bs ws rest : List ℕ) : Type 0 where
   pub bytes : bs ≡ rowsText count n ws
   pub long : length ws ≡ count * n
-  pub small : Small ws
+  pub small : SheetNumbers ws
   pub nothing : rest ≡ []
 
 pub rows-text : (k count n : ℕ) (bs : List ℕ) {ws rest : List ℕ} → rowLines k count n bs ≡ Verdict.go ws rest → AreRows count n bs ws rest
 unfolding rowLines rowsText
 rows-text k zero n bs {ws} {rest} e =
     let h = ended-go k bs e in
-    rw (h .1) (record { bytes = h .0; long = omega arith; small = Small.none; nothing = h .2 })
+    rw (h .1) (record { bytes = h .0; long = omega arith; small = SheetNumbers.none; nothing = h .2 })
 rows-text k (suc count) n bs {ws} {rest} e =
     onward-go (onLine k (readLine rowWord n bs)) (λ (us : List ℕ) (mid : List ℕ). behind us (rowLines (suc k) count n mid)) e
     (λ us mid e₁ e₂. behind-go us (rowLines (suc k) count n mid) e₂
@@ -56,7 +62,7 @@ rows-text k (suc count) n bs {ws} {rest} e =
       nothing = ih .nothing;
     })))
 
-pub text-rows : (k count n : ℕ) (ws : List ℕ) → length ws ≡ count * n → Small ws → rowLines k count n (rowsText count n ws) ≡ Verdict.go ws []
+pub text-rows : (k count n : ℕ) (ws : List ℕ) → length ws ≡ count * n → SheetNumbers ws → rowLines k count n (rowsText count n ws) ≡ Verdict.go ws []
 unfolding rowLines rowsText ended
 text-rows k zero n [] l s = refl
 text-rows k zero n (w ∷ ws) l s = absurd (omega arith)

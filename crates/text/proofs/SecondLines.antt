@@ -15,14 +15,10 @@ use Rattle.text.specs.Print.{limit, line}
 use Rattle.text.specs.Read.{readLine, tabs}
 use Rattle.text.specs.Sheet.{chainWord, orderWord, orderNumbers}
 use Rattle.text.specs.Meaning.{Verdict, Outcome, refuseIf, onLine, chainLine, lineRelease, lineOrder, wrongRelease, orderFields, orderLine, meaning, resultMeaning}
-use Rattle.text.proofs.Lines.{Small, Stands, line-then, line-text, text-line, tabs-fields}
+use Rattle.text.specs.Right.{SheetNumbers, Stands, GoodChain, GoodOrder, Right, RightResult}
+use Rattle.text.proofs.Lines.{line-then, line-text, text-line, tabs-fields}
 use Rattle.text.proofs.Steps.{refuse-go, on-line-go, onward-go}
-use Rattle.text.proofs.Accepted.{none-small, Second, RightBy, accepted-exactly-by}
-
--- a chain that passes the checks of a sheet
-pub record GoodChain (chain : List ℕ) : Type 0 where
-  pub few-swaps : length chain ≤ 32
-  pub swaps : badSwap 4 chain ≡ false
+use Rattle.text.proofs.Accepted.{none-small, Second, accepted-exactly-by}
 
 a-swap : (k : ℕ) → (noSwap 4) k ≡ false → k ≤ limit
 a-swap k e = omega (arith, ltb-false 2 k e)
@@ -58,12 +54,6 @@ chain-reads chain rest h =
 
 pub chain-second : Second chainLine (line chainWord) GoodChain
 chain-second = record { stands = chain-stands; reads = chain-reads }
-
--- the numbers of a second line that names no release, or 1 or 2, and an order that four axes have
-pub record GoodOrder (numbers : List ℕ) : Type 0 where
-  pub named : numbers ≡ orderNumbers (lineRelease numbers) (lineOrder numbers)
-  pub release : lineRelease numbers ≤ 2
-  pub known : lineOrder numbers ≤ 23
 
 -- a release that is not refused is 1 or 2
 pub one-of-two : (release : ℕ) → noRelease release ≡ false → (release ≡ 0 → ⊥) × (release ≤ 2)
@@ -118,7 +108,7 @@ pub order-tabs : (ns rest : List ℕ) → length ns ≡ tabs (line orderWord ns 
 unfolding tabs
 order-tabs ns rest = rw (line-then orderWord ns rest) (sym (tabs-fields ns rest))
 
-order-held : (ns rest : List ℕ) → Small ns → length ns ≡ cond (eqb (length ns) 2) 2 1 → wrongRelease ns ≡ false → lineOrder ns ≤ 23
+order-held : (ns rest : List ℕ) → SheetNumbers ns → length ns ≡ cond (eqb (length ns) 2) 2 1 → wrongRelease ns ≡ false → lineOrder ns ≤ 23
     → orderLine (line orderWord ns ++ rest) ≡ Verdict.go ns rest
 unfolding orderLine
 order-held ns rest small e w k =
@@ -133,9 +123,9 @@ order-by release k rest h i = by (eqb release 0) refl
   where
     by : (t : Bool) → eqb release 0 ≡ t
         → orderLine (line orderWord (cond t (k ∷ []) (release ∷ k ∷ [])) ++ rest) ≡ Verdict.go (cond t (k ∷ []) (release ∷ k ∷ [])) rest
-    by true e = order-held (k ∷ []) rest (Small.more (omega arith) Small.none) refl refl i
+    by true e = order-held (k ∷ []) rest (SheetNumbers.more (omega arith) SheetNumbers.none) refl refl i
     by false e =
-        order-held (release ∷ k ∷ []) rest (Small.more (omega arith) (Small.more (omega arith) Small.none)) refl
+        order-held (release ∷ k ∷ []) rest (SheetNumbers.more (omega arith) (SheetNumbers.more (omega arith) SheetNumbers.none)) refl
         (two-known release (eqb-false release 0 e) h) i
 
 order-reads : (ns rest : List ℕ) → GoodOrder ns → orderLine (line orderWord ns ++ rest) ≡ Verdict.go ns rest
@@ -146,17 +136,9 @@ order-reads ns rest h =
 pub order-second : Second orderLine (line orderWord) GoodOrder
 order-second = record { stands = order-stands; reads = order-reads }
 
--- the bytes are the text of lengths, chain and words that pass every check of the reader
-abbrev pub Right : (buffer bytes ds chain words : List ℕ) → Type 0
-Right = RightBy (line chainWord) GoodChain
-
 pub accepted-exactly : (buffer bytes ds chain words : List ℕ)
     → (meaning buffer bytes ≡ Outcome.accepted ds chain words) ↔ Right buffer bytes ds chain words
 accepted-exactly = accepted-exactly-by chain-second
-
--- the bytes are the text of lengths, the numbers of a second line and words that pass every check of the reader of result sheets
-abbrev pub RightResult : (buffer bytes ds numbers words : List ℕ) → Type 0
-RightResult = RightBy (line orderWord) GoodOrder
 
 pub result-exactly : (buffer bytes ds numbers words : List ℕ)
     → (resultMeaning buffer bytes ≡ Outcome.accepted ds numbers words) ↔ RightResult buffer bytes ds numbers words

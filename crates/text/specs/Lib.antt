@@ -6,3 +6,7 @@ pub mod Read
 pub mod Sheet
 -- what a sheet means, line by line
 pub mod Meaning
+-- a sheet that is right
+pub mod Right
+-- a sheet that is refused
+pub mod Refused

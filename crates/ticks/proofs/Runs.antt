@@ -1,12 +1,13 @@
 -- Any run of calls from a record at 0, by one induction over the calls: the lines named so far have moved, one after the other, so that after k
 -- accepted calls the record is the smaller of k and the line count, and at the line count the buffer holds the flat turn; a call after
 -- that changes neither. A player may stop and go on whenever it likes.
-use mathlib.Core.Path.{_≡_, refl, sym, _∙_, subst}
+use mathlib.Core.Path.{_≡_, refl, sym, ap, _∙_, subst}
 use mathlib.Core.List.{List}
 use mathlib.Core.Logic.{_↔_, ⊎-elim}
-use Prim.Native.Nat.{ℕ, suc, _+_, _-_, _<_, _≤_, min}
+use Prim.Native.Nat.{ℕ, suc, _+_, _<_, _≤_, min}
 use native.Mathlib.Nat.{not-suc-le-zero}
 use native.Mathlib.Omega.{arith}
+use lib.ListN.{length}
 use borrow.Author.Tests.{lt-ltb, le-ltb}
 use Rattle.lists.proofs.Decide.{lt-or-ge, eq-or-ne}
 use Rattle.refusals.specs.FirstOf.{firstOf}
@@ -101,10 +102,21 @@ module _ {m n : ℕ} where
       (λ (z : number ≡ 0 → ⊥). (p .block .kept z .0, p .refusal z))
       (eq-or-ne number 0)
 
-  -- it answers 0 where none of the flat turn's conditions holds, and so does every call of a run
+  -- the buffer stays as long as it was
+  run-long : {xs : List ℕ} {k : ℕ} {r : LineRecord} {ys : List ℕ} → Run m n xs k r ys → length ys ≡ length xs
+  run-long begun = refl
+  run-long (accepted {before = before} {ys = ys} {zs = zs} run p) =
+      ⊎-elim
+      (λ (h : before .done < lineCount m n). left p .moved h .same)
+      (λ (h : lineCount m n ≤ before .done). ap length (left p .still h))
+      (lt-or-ge (before .done) (lineCount m n))
+      ∙ run-long run
+  run-long (refused run z p) = ap length (p .block .kept z .0) ∙ run-long run
+
+  -- it answers 0 where none of the flat turn's conditions held of the buffer at first, and so does every call of a run
   pub run-answers : {xs : List ℕ} {k : ℕ} {r : LineRecord} {ys : List ℕ} → Run m n xs k r ys
       → {number : ℕ} {after : LineRecord} {ss zs ts : List ℕ} → StepPromise m n r ys ss number after zs ts
-      → firstOf (passesChecks (sides m n) ys ss) ≡ 0 → number ≡ 0
+      → firstOf (passesChecks (sides m n) xs ss) ≡ 0 → number ≡ 0
   run-answers {r = r} {ys} run {ss = ss} p good =
       let few : r .done ≤ lineCount m n = omega (arith, run-record run) in
-      p .block .number-is ∙ in-time m n (r .done) ys ss good few
+      p .block .number-is ∙ in-time m n (r .done) ys ss (rw (run-long run) good) few

@@ -13,7 +13,6 @@ use Rattle.refusals.specs.FirstOf.{Check, check, firstOf}
 use Rattle.refusals.specs.Conditions.{shortScratch}
 use Rattle.refusals.specs.Calls.{sizeChecks, exactChecks}
 use Rattle.refusals.proofs.FirstOf.{refused-by, passed-first, through}
-use Rattle.refusals.proofs.Calls.{size-refusing}
 use Rattle.refusals.proofs.Some.{either-false}
 use Rattle.refusals.proofs.Conditions.{InRange, Sized, size-valid, passed, exact-passed, enough-scratch}
 use Rattle.refusals.proofs.Conditions.InRange.{none, more}
@@ -50,7 +49,7 @@ module _ (m n r s : ℕ) (buffer scratch : List ℕ) (size : firstOf (sizeChecks
   number = firstOf (tileChecks m n r s buffer scratch)
 
   size-passed : number ≡ firstOf (tileRest m n r s buffer scratch)
-  size-passed = through (tileRest m n r s buffer scratch) (size-refusing (sides m n)) size
+  size-passed = through (sizeChecks (sides m n)) (tileRest m n r s buffer scratch) tt size
 
   pub tile-refused : badTile r s ≡ true → 15 ≡ number
   tile-refused e = rw (size-passed, e)

@@ -5,12 +5,12 @@ use Rattle.lists.specs.Same.{same}
 use Rattle.lists.specs.Tab.{upto}
 use Rattle.lists.proofs.Test.{at-entry, same→eq}
 use Rattle.wall.specs.Tiles.{part}
-use Rattle.wall.specs.Homes.{bandHome, tileHome, tiled}
+use Rattle.wall.specs.Bands.{joined, parts, tileWords, bandWords, tilesOf}
 use Rattle.wall.specs.Benches.{Row, benches, Benches}
 
 holds : Row → Bool
-holds b = same (tiled (b .m) (b .n) (b .r) (b .s) (upto (b .m * b .n))) (b .says)
+holds b = same (tilesOf (b .m) (b .n) (b .r) (b .s) (upto (b .m * b .n))) (b .says)
 
 pub benches-hold : Benches
-unfolding holds tiled tileHome bandHome part
-benches-hold b k = same→eq (tiled (b .m) (b .n) (b .r) (b .s) (upto (b .m * b .n))) (b .says) (at-entry holds benches tt b k)
+unfolding holds joined parts tileWords bandWords tilesOf part
+benches-hold b k = same→eq (tilesOf (b .m) (b .n) (b .r) (b .s) (upto (b .m * b .n))) (b .says) (at-entry holds benches tt b k)

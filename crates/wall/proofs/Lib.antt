@@ -6,7 +6,7 @@ pub mod Bands
 pub mod Places
 -- two blocks as tiles of one block are equal, and what tiles as wide or as tall as the block do
 pub mod Tiled
+-- the tiles listed band by band, tile by tile, row by row are the tiles
+pub mod Listed
 -- the benches hold
 pub mod Benches
--- word follows word, row follows row, tile follows tile, band follows band
-pub mod Follows

@@ -8,11 +8,9 @@ use native.Mathlib.Nat.{mod-lt, div-add-mod', div-lt-iff-lt-mul, div-eq-of-lt, m
 use native.Mathlib.Omega.{arith}
 use lib.ListN.{length, getD}
 use lib.Seq.{ext-getD}
-use Rattle.lists.proofs.Tab.{length-tab, getD-tab}
 use Rattle.wall.specs.Tiles.{part, bandPlace, tilePlace, Tiled}
-use Rattle.wall.specs.Homes.{tileHome, tiled}
 use Rattle.wall.proofs.Bands.{factor-pos}
-use Rattle.wall.proofs.Places.{cell, tile-place-lt, home-of-tile}
+use Rattle.wall.proofs.Places.{cell}
 
 at : (l : List ℕ) {p q : ℕ} → p ≡ q → getD l p 0 ≡ getD l q 0
 at l e = ap (λ (z : ℕ). getD l z 0) e
@@ -68,14 +66,4 @@ tall-same {m} {n} {r} {s} {ys = ys} tall t = record {
   same = t .same;
   placed = λ i j h g.
       at ys (tall-place m n m s i j (omega arith) h ∙ sym (tall-place m n r s i j tall h)) ∙ t .placed i j h g;
-}
-
--- the computed tiles are the tiles
-pub tiled-is : (m n r s : ℕ) (xs : List ℕ) → length xs ≡ m * n → 0 < r → 0 < s → Tiled m n r s xs (tiled m n r s xs)
-unfolding tiled
-tiled-is m n r s xs whole high step = record {
-  same = length-tab (m * n) (λ p. getD xs (tileHome m n r s p) 0) ∙ sym whole;
-  placed = λ i j h g.
-      getD-tab (m * n) (λ p. getD xs (tileHome m n r s p) 0) (tilePlace m n r s i j) 0 (tile-place-lt m n r s high step i j h g)
-      ∙ at xs (home-of-tile m n r s high step i j h g);
 }

@@ -3,7 +3,7 @@ use mathlib.Core.Path.{_≡_}
 use mathlib.Core.List.{List, [], _∷_, List·Memᴰ}
 use Prim.Native.Nat.{ℕ, _*_}
 use Rattle.lists.specs.Tab.{upto}
-use Rattle.wall.specs.Homes.{tiled}
+use Rattle.wall.specs.Bands.{tilesOf}
 
 -- a row: the sides, the tile's sides, and the words afterwards
 pub record Row : Type 0 where
@@ -32,4 +32,4 @@ benches =
 
 -- what the table says: every row of it holds
 abbrev pub Benches : Type 0
-Benches = (b : Row) → List·Memᴰ b benches → tiled (b .m) (b .n) (b .r) (b .s) (upto (b .m * b .n)) ≡ b .says
+Benches = (b : Row) → List·Memᴰ b benches → tilesOf (b .m) (b .n) (b .r) (b .s) (upto (b .m * b .n)) ≡ b .says

@@ -1,9 +1,6 @@
--- These definitions serve benches and the contracts of private functions: a reader of the promises can pass over them.
+-- These definitions serve only the contracts of private functions: a reader of the promises can pass over them.
 -- The places of tiles read backwards. Assumes nothing: these are definitions.
-use mathlib.Core.List.{List}
 use Prim.Native.Nat.{ℕ, _+_, _*_, _/_, _%_}
-use lib.ListN.{getD}
-use Rattle.lists.specs.Tab.{tab}
 use Rattle.wall.specs.Tiles.{part}
 
 -- the offset row by row of the word at offset q of a tile of width w whose first column is j, in a band of n columns
@@ -17,7 +14,3 @@ bandHome h n s k = inTile n (part n s (k / (h * s))) (k / (h * s) * s) (k % (h *
 -- the offset row by row of the word at offset p of a block as tiles
 unfoldable pub tileHome : ℕ → ℕ → ℕ → ℕ → ℕ → ℕ
 tileHome m n r s p = p / (r * n) * (r * n) + bandHome (part m r (p / (r * n))) n s (p % (r * n))
-
--- a block as tiles, computed
-unfoldable pub tiled : ℕ → ℕ → ℕ → ℕ → List ℕ → List ℕ
-tiled m n r s xs = tab (m * n) (λ p. getD xs (tileHome m n r s p) 0)

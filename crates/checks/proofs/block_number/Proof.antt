@@ -12,7 +12,6 @@ use Rattle.refusals.specs.FirstOf.{firstOf}
 use Rattle.refusals.specs.Calls.{sizeChecks, exactChecks, blockChecks}
 use Rattle.refusals.proofs.FirstOf.{refused-by, through}
 use Rattle.refusals.proofs.Conditions.{size-valid, not-short, not-long}
-use Rattle.refusals.proofs.Calls.{size-refusing}
 use Rattle.checks.specs.Words.{capped}
 use Rattle.checks.proofs.Capped.{capped-few}
 use Rattle.checks.proofs.block_number.Statement.{statement}
@@ -21,7 +20,7 @@ use Rattle.checks.proofs.block_number.Tie as tie
 -- once the size is accepted 3 and 13 decide, and the words are not cut
 module _ (s : tie.Start) (e : firstOf (sizeChecks (s .args .lens .now)) ≡ 0) where
   size-passed : firstOf (blockChecks (s .args .lens .now) (s .args .buf .now)) ≡ firstOf (exactChecks (s .args .lens .now) (s .args .buf .now))
-  size-passed = through (exactChecks (s .args .lens .now) (s .args .buf .now)) (size-refusing (s .args .lens .now)) e
+  size-passed = through (sizeChecks (s .args .lens .now)) (exactChecks (s .args .lens .now) (s .args .buf .now)) tt e
 
   words : capped (volume (s .args .lens .now)) ≡ volume (s .args .lens .now)
   words = capped-few (volume (s .args .lens .now)) (size-valid (s .args .lens .now) [] e .0 .few)

@@ -2,22 +2,27 @@
 use native.Mathlib.Omega.{arith}
 use borrow.Author.Needs.{needs}
 use Rattle.lists.proofs.Via.{via}
+use Rattle.text.specs.Right.{SheetNumbers}
+use Rattle.text.proofs.Rows.{words-held}
 use Rattle.blocks.proofs.Block.{on-sheet}
 use Rattle.printer.proofs.Writes.{refused-block, refused-order, accepted}
 use Rattle.printer.proofs.write.Statement.{statement}
 use Rattle.printer.proofs.write.Tie as tie
 
+held : (x : tie.After-shared-slice-known) → SheetNumbers (x .before .args .words .now)
+held x = words-held (x .before .args .words .now) (λ k. omega (arith, x .shared-slice-known .given k))
+
 returns : tie.Need-returns
-returns c = let n : tie.After-sheet-number = search in refused-block (n .sheet-number .ensures) (search) (search)
+returns c = let n : tie.After-sheet-number = search in refused-block (held (search)) (n .sheet-number .ensures) (search) (search)
 
 returns-2 : tie.Need-returns-2
-returns-2 c = refused-order (search via) (search) (search)
+returns-2 c = refused-order (held (search)) (search via) (search) (search)
 
 put-result-requires : tie.Need-put-result-requires
 put-result-requires c κs = (on-sheet _ _ (search via), omega arith, search)
 
 returns-3 : tie.Need-returns-3
-returns-3 c = let r : tie.After-put-result = search in accepted (search via) (search) (r .put-result .ensures)
+returns-3 c = let r : tie.After-put-result = search in accepted (held (search)) (search via) (search) (r .put-result .ensures)
 
 pub write-spec : {M : Type 1} → statement M
 write-spec =

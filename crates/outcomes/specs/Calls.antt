@@ -1,0 +1,101 @@
+-- Calls as a caller sees them: what was lent and given, what was answered, what the lent slices hold afterwards, and the promise that the checker reads
+-- from the source. Assumes nothing: these are definitions.
+use mathlib.Core.Path.{_≡_}
+use mathlib.Core.List.{List}
+use Prim.Native.Nat.{ℕ}
+use lib.ListN.{length}
+use Rattle.passes.specs.Promises.{TurnPromise, TurnBackPromise}
+use Rattle.halves.specs.Promise as halves
+use Rattle.axes.specs.declared.Answer.{Answer}
+use Rattle.axes.specs.Promises.{ChainPromise, RequestPromise}
+use Rattle.printer.specs.declared.Written.{Written}
+use Rattle.printer.specs.Writer.{WrittenAs, ReleaseWrittenAs}
+use Rattle.sheet.specs.declared.ResultSheet.{ResultSheet}
+use Rattle.sheet.specs.ResultReader.{ResultReadAs}
+
+-- a call of the flat turn by passes
+pub record TurnCall : Type 0 where
+  pub m : ℕ
+  pub n : ℕ
+  pub words : List ℕ
+  pub scratch : List ℕ
+  pub number : ℕ
+  pub words-after : List ℕ
+  pub scratch-after : List ℕ
+  pub post : TurnPromise m n words scratch number words-after scratch-after
+
+-- a call of the reverse turn
+pub record TurnBackCall : Type 0 where
+  pub m : ℕ
+  pub n : ℕ
+  pub words : List ℕ
+  pub scratch : List ℕ
+  pub number : ℕ
+  pub words-after : List ℕ
+  pub scratch-after : List ℕ
+  pub post : TurnBackPromise m n words scratch number words-after scratch-after
+
+-- a call of the flat turn by recursion
+pub record RecursionCall : Type 0 where
+  pub m : ℕ
+  pub n : ℕ
+  pub words : List ℕ
+  pub number : ℕ
+  pub words-after : List ℕ
+  pub post : halves.TurnPromise m n words number words-after
+
+-- a call of a chain of swaps on r axes, with the lengths that it reads
+pub record ChainCall (r : ℕ) : Type 0 where
+  pub lengths : List ℕ
+  pub swaps : List ℕ
+  pub words : List ℕ
+  pub scratch : List ℕ
+  pub answer : Answer
+  pub words-after : List ℕ
+  pub scratch-after : List ℕ
+  pub axes : length lengths ≡ r
+  pub post : ChainPromise r lengths swaps words scratch answer words-after scratch-after
+
+-- a call of a direct request on r axes, with the lengths that it reads
+pub record RequestCall (r : ℕ) : Type 0 where
+  pub lengths : List ℕ
+  pub release : ℕ
+  pub order : ℕ
+  pub words : List ℕ
+  pub scratch : List ℕ
+  pub answer : Answer
+  pub words-after : List ℕ
+  pub scratch-after : List ℕ
+  pub axes : length lengths ≡ r
+  pub post : RequestPromise r lengths release order words scratch answer words-after scratch-after
+
+-- a call of the writer that names no release
+pub record WriteCall : Type 0 where
+  pub lengths : List ℕ
+  pub order : ℕ
+  pub words : List ℕ
+  pub out : List ℕ
+  pub answer : Written
+  pub out-after : List ℕ
+  pub four : length lengths ≡ 4
+  pub post : WrittenAs lengths order words out answer out-after
+
+-- a call of the writer that names a release
+pub record WriteReleaseCall : Type 0 where
+  pub lengths : List ℕ
+  pub release : ℕ
+  pub order : ℕ
+  pub words : List ℕ
+  pub out : List ℕ
+  pub answer : Written
+  pub out-after : List ℕ
+  pub four : length lengths ≡ 4
+  pub post : ReleaseWrittenAs lengths release order words out answer out-after
+
+-- a call of the reader of result sheets
+pub record ReadResultCall : Type 0 where
+  pub bytes : List ℕ
+  pub buffer : List ℕ
+  pub answer : ResultSheet
+  pub buffer-after : List ℕ
+  pub post : ResultReadAs buffer bytes answer buffer-after

@@ -1,0 +1,4 @@
+-- calls as a caller sees them
+pub mod Calls
+-- the writer for a release, and the texts of the writers
+pub mod Writers
