@@ -11,7 +11,7 @@ use denote.Triple.Clauses.{AtExit}
 use borrow.Fn.Kinds.{endedOf, Dens}
 use Rattle.layout.specs.Layout.{volume}
 use Rattle.orders.specs.Chains.{exchange}
-use Rattle.orders.specs.Needs.{exchanged, chainNeed}
+use Rattle.orders.specs.Needs.{swapNeed, chainNeed}
 use Rattle.refusals.specs.FirstOf.{firstOf}
 use Rattle.refusals.specs.Conditions.{longest, firstPlace}
 use Rattle.refusals.specs.Calls.{sizeChecks, blockChecks, passesChecks, namedChecks}
@@ -89,7 +89,7 @@ unfolding longest
 last-for-longest p = other-number p tt
 
 pub longest-for-exchanged : chainNeed (4096 ∷ 1 ∷ 2 ∷ 3 ∷ []) (2 ∷ []) ≡ 4096 → ⊥
-unfolding chainNeed exchanged
+unfolding chainNeed swapNeed
 longest-for-exchanged p = other-number p tt
 
 -- the place of a swap that is right; 2 before 1, 3 before 2, 4 before 3

@@ -9,7 +9,7 @@ use Rattle.layout.specs.Layout.{volume, at, pick}
 use Rattle.orders.specs.Chains.{exchange, follow, named}
 use Rattle.orders.specs.Numbers.{arrangements, orders, orderOf, rank, numberOf}
 use Rattle.orders.specs.Plans.{under, falling, planned, planOf}
-use Rattle.orders.specs.Needs.{exchanged, chainNeed}
+use Rattle.orders.specs.Needs.{swapNeed, chainNeed}
 use Rattle.refusals.specs.FirstOf.{firstOf}
 use Rattle.refusals.specs.Conditions.{firstPlace}
 use Rattle.refusals.specs.Calls.{chainChecks}
@@ -31,7 +31,7 @@ Leaves a buffer scratch′ = ChainPromise 4 lengths (2 ∷ []) block scratch a b
 
 -- what an accepted chain of the case answers
 accepts : {a : Answer} {b s : List ℕ} → Leaves a b s → a .number ≡ 0
-unfolding volume exchanged chainNeed
+unfolding volume swapNeed chainNeed
 accepts p = p .block .number-is
 
 -- one that refuses always: wherever no condition holds
@@ -45,13 +45,13 @@ fixed-answer p q = other-number (sym (accepts p) ∙ q .block .number-is) tt
 
 -- one that moves nothing and relabels the shape
 pub moves-nothing : {a : Answer} {s : List ℕ} → Leaves a block s → ⊥
-unfolding named follow exchange at pick volume exchanged chainNeed
+unfolding named follow exchange at pick volume swapNeed chainNeed
 moves-nothing p = misplaced (p .block .words (accepts p)) (0 ∷ 0 ∷ 0 ∷ 1 ∷ []) tt tt
 
 -- one that moves words at the first swap and afterwards only relabels: 2, 2 leaves the words as they were
 pub first-swap-moves-the-rest-relabel : {a : Answer} {s : List ℕ}
     → ChainPromise 4 lengths (2 ∷ 2 ∷ []) block scratch a (0 ∷ 3 ∷ 1 ∷ 4 ∷ 2 ∷ 5 ∷ []) s → ⊥
-unfolding named follow exchange at pick volume exchanged chainNeed
+unfolding named follow exchange at pick volume swapNeed chainNeed
 first-swap-moves-the-rest-relabel p = misplaced (p .block .words (p .block .number-is)) (0 ∷ 0 ∷ 0 ∷ 1 ∷ []) tt tt
 
 -- one that invents the swap count
@@ -61,7 +61,7 @@ swap-count-invented p e = other-number (sym e ∙ ap (λ (r : Answer). r .swaps)
 -- a swap of equal lengths skipped as if nothing moved
 pub equal-lengths-skipped : {a : Answer} {s : List ℕ}
     → ChainPromise 4 (1 ∷ 1 ∷ 2 ∷ 2 ∷ []) (2 ∷ []) (0 ∷ 1 ∷ 2 ∷ 3 ∷ []) scratch a (0 ∷ 1 ∷ 2 ∷ 3 ∷ []) s → ⊥
-unfolding named follow exchange at pick volume exchanged chainNeed
+unfolding named follow exchange at pick volume swapNeed chainNeed
 equal-lengths-skipped p = misplaced (p .block .words (p .block .number-is)) (0 ∷ 0 ∷ 0 ∷ 1 ∷ []) tt tt
 
 -- an order read as where each axis goes: 0, 1, 2 names order 9, and not order 18 with its words, lengths and number
@@ -69,11 +69,11 @@ abbrev Ninth : Answer → List ℕ → Type 0
 Ninth a b = ChainPromise 4 (2 ∷ 3 ∷ 1 ∷ 1 ∷ []) (0 ∷ 1 ∷ 2 ∷ []) block scratch a b (0 ∷ 0 ∷ 0 ∷ 9 ∷ [])
 
 nine : {a : Answer} {b : List ℕ} → Ninth a b → a .number ≡ 0
-unfolding volume exchange exchanged chainNeed
+unfolding volume exchange swapNeed chainNeed
 nine p = p .block .number-is
 
 pub words-of-the-inverse : {a : Answer} → Ninth a block → ⊥
-unfolding named follow exchange at pick volume exchanged chainNeed
+unfolding named follow exchange at pick volume swapNeed chainNeed
 words-of-the-inverse p = misplaced (p .block .words (nine p)) (0 ∷ 1 ∷ 0 ∷ 0 ∷ []) tt tt
 
 pub lengths-of-the-inverse : {a : Answer} {b : List ℕ} → Ninth a b → a .lens ≡ 1 ∷ 2 ∷ 3 ∷ 1 ∷ 0 ∷ [] → ⊥
@@ -86,16 +86,16 @@ number-of-the-inverse p e = other-number (sym e ∙ ap (λ (r : Answer). r .orde
 
 -- scratch left as it was, and cleared one word too far
 pub scratch-left : {a : Answer} {b : List ℕ} → Leaves a b scratch → ⊥
-unfolding exchanged chainNeed
+unfolding swapNeed chainNeed
 scratch-left p = other-list (p .block .zeroed (accepts p)) tt
 
 pub scratch-too-far : {a : Answer} {b : List ℕ} → Leaves a b (replicate 4 0) → ⊥
-unfolding exchanged chainNeed
+unfolding swapNeed chainNeed
 scratch-too-far p = other-list (p .block .zeroed (accepts p)) tt
 
 -- scratch cleared as far as the longest axis, where the chain exchanges shorter ones; an empty chain clears none
 pub zeroed-by-the-longest-axis : {a : Answer} {b : List ℕ} → ChainPromise 4 lengths (1 ∷ []) block scratch a b (0 ∷ 0 ∷ 0 ∷ 9 ∷ []) → ⊥
-unfolding volume exchanged chainNeed
+unfolding volume swapNeed chainNeed
 zeroed-by-the-longest-axis p = other-list (p .block .zeroed (p .block .number-is)) tt
 
 pub empty-chain-clears-scratch : {a : Answer} {b : List ℕ} → ChainPromise 4 lengths [] block scratch a b (0 ∷ 0 ∷ 0 ∷ 9 ∷ []) → ⊥
@@ -104,23 +104,23 @@ empty-chain-clears-scratch p = other-list (p .block .zeroed (p .block .number-is
 
 -- scratch cleared by the need of the last swap alone, and of the first
 pub zeroed-by-the-last-swap : {a : Answer} {b : List ℕ} → ChainPromise 4 lengths (2 ∷ 0 ∷ []) block scratch a b (0 ∷ 9 ∷ 9 ∷ 9 ∷ []) → ⊥
-unfolding volume exchange exchanged chainNeed
+unfolding volume exchange swapNeed chainNeed
 zeroed-by-the-last-swap p = other-list (p .block .zeroed (p .block .number-is)) tt
 
 pub zeroed-by-the-first-swap : {a : Answer} {b : List ℕ} → ChainPromise 4 lengths (0 ∷ 2 ∷ []) block scratch a b (0 ∷ 9 ∷ 9 ∷ 9 ∷ []) → ⊥
-unfolding volume exchange exchanged chainNeed
+unfolding volume exchange swapNeed chainNeed
 zeroed-by-the-first-swap p = other-list (p .block .zeroed (p .block .number-is)) tt
 
 -- what no demand says: chains that name one order need not leave scratch the same, nor do as many swaps. 2, 2 names order 0 and zeroes three words,
 -- and the request for order 0 none
 pub one-order-other-scratch : {a a′ : Answer} {b b′ s s′ : List ℕ} → ChainPromise 4 lengths (2 ∷ 2 ∷ []) block scratch a b s
     → RequestPromise 4 lengths 1 0 block scratch a′ b′ s′ → s ≡ s′ → ⊥
-unfolding volume exchange exchanged chainNeed arrangements orders orderOf under falling planned planOf
+unfolding volume exchange swapNeed chainNeed arrangements orders orderOf under falling planned planOf
 one-order-other-scratch p q e = other-list (sym (p .block .zeroed (p .block .number-is)) ∙ e ∙ q .block .zeroed (q .block .number-is)) tt
 
 pub one-order-other-count : {a a′ : Answer} {b b′ s s′ : List ℕ} → ChainPromise 4 lengths (2 ∷ 2 ∷ []) block scratch a b s
     → ChainPromise 4 lengths [] block scratch a′ b′ s′ → a .swaps ≡ a′ .swaps → ⊥
-unfolding volume exchange exchanged chainNeed
+unfolding volume exchange swapNeed chainNeed
 one-order-other-count p q e =
     other-number
     (sym (ap (λ (r : Answer). r .swaps) (p .given (p .block .number-is))) ∙ e ∙ ap (λ (r : Answer). r .swaps) (q .given (q .block .number-is)))
@@ -131,7 +131,7 @@ abbrev Refused : Answer → List ℕ → Type 0
 Refused a b = ChainPromise 4 lengths (3 ∷ 3 ∷ []) block scratch a b scratch
 
 six : {a : Answer} {b : List ℕ} → Refused a b → a .number ≡ 6
-unfolding volume exchanged chainNeed
+unfolding volume swapNeed chainNeed
 six p = p .block .number-is
 
 pub place-of-the-last-bad-swap : {a : Answer} {b : List ℕ} → Refused a b → a .place ≡ 1 → ⊥
@@ -167,30 +167,30 @@ unfolding volume
 four-before-six = broken (chainChecks 4 lengths block [] (2 ∷ 3 ∷ [])) 4 tt
 
 pub six-before-five : Broken (chainChecks 4 lengths block scratch (3 ∷ replicate 32 0)) 6
-unfolding volume exchanged chainNeed
+unfolding volume swapNeed chainNeed
 six-before-five = broken (chainChecks 4 lengths block scratch (3 ∷ replicate 32 0)) 6 tt
 
 -- 32 swaps refused, 33 accepted
 pub thirty-two-refused : Broken (chainChecks 4 lengths block scratch (replicate 32 0)) 5
-unfolding volume exchange exchanged chainNeed
+unfolding volume exchange swapNeed chainNeed
 thirty-two-refused = broken (chainChecks 4 lengths block scratch (replicate 32 0)) 5 tt
 
 pub thirty-three-accepted : Broken (chainChecks 4 lengths block scratch (replicate 33 0)) 0
-unfolding volume exchanged chainNeed
+unfolding volume swapNeed chainNeed
 thirty-three-accepted = broken (chainChecks 4 lengths block scratch (replicate 33 0)) 0 tt
 
 -- the need of scratch: a partner of length 1 makes a swap need nothing; the length 1 itself is not counted; the longest axis is asked for where the
 -- chain does not exchange it, or by an empty chain; only the last swap, or the first, is looked at
 pub short-partner-needs-nothing : Broken (chainChecks 4 lengths block [] (1 ∷ [])) 0
-unfolding volume exchanged chainNeed
+unfolding volume swapNeed chainNeed
 short-partner-needs-nothing = broken (chainChecks 4 lengths block [] (1 ∷ [])) 0 tt
 
 pub length-1-not-counted : Broken (chainChecks 4 (1 ∷ 1 ∷ 1 ∷ 1 ∷ []) (7 ∷ []) [] (0 ∷ [])) 0
-unfolding volume exchanged chainNeed
+unfolding volume swapNeed chainNeed
 length-1-not-counted = broken (chainChecks 4 (1 ∷ 1 ∷ 1 ∷ 1 ∷ []) (7 ∷ []) [] (0 ∷ [])) 0 tt
 
 pub longest-axis-asked-for : Broken (chainChecks 4 (6 ∷ 1 ∷ 1 ∷ 1 ∷ []) block (9 ∷ []) (2 ∷ [])) 4
-unfolding volume exchanged chainNeed
+unfolding volume swapNeed chainNeed
 longest-axis-asked-for = broken (chainChecks 4 (6 ∷ 1 ∷ 1 ∷ 1 ∷ []) block (9 ∷ []) (2 ∷ [])) 4 tt
 
 pub empty-chain-asks-for-scratch : Broken (chainChecks 4 lengths block [] []) 4
@@ -198,11 +198,11 @@ unfolding volume chainNeed
 empty-chain-asks-for-scratch = broken (chainChecks 4 lengths block [] []) 4 tt
 
 pub last-swap-alone : Broken (chainChecks 4 lengths block (9 ∷ []) (2 ∷ 0 ∷ [])) 0
-unfolding volume exchange exchanged chainNeed
+unfolding volume exchange swapNeed chainNeed
 last-swap-alone = broken (chainChecks 4 lengths block (9 ∷ []) (2 ∷ 0 ∷ [])) 0 tt
 
 pub first-swap-alone : Broken (chainChecks 4 lengths block (9 ∷ []) (0 ∷ 2 ∷ [])) 0
-unfolding volume exchange exchanged chainNeed
+unfolding volume exchange swapNeed chainNeed
 first-swap-alone = broken (chainChecks 4 lengths block (9 ∷ []) (0 ∷ 2 ∷ [])) 0 tt
 
 -- a pool buffer with last week's frame count accepted: seven words for 1 by 1 by 2 by 3; 5 before 13; 13 before 1, where a length is 0; 13 for a
@@ -219,5 +219,5 @@ pub thirteen-before-one : (s c : List ℕ) → Broken (chainChecks 4 (0 ∷ 1 �
 thirteen-before-one s c = broken (chainChecks 4 (0 ∷ 1 ∷ 1 ∷ 1 ∷ []) block s c) 13 tt
 
 pub exact-buffer-refused : Broken (chainChecks 4 lengths block scratch (2 ∷ [])) 13
-unfolding volume exchanged chainNeed
+unfolding volume swapNeed chainNeed
 exact-buffer-refused = broken (chainChecks 4 lengths block scratch (2 ∷ [])) 13 tt

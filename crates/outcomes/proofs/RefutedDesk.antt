@@ -16,7 +16,7 @@ use Rattle.desk.specs.declared.Frames.{Frames}
 use Rattle.desk.specs.declared.Joined.{Joined}
 use Rattle.desk.specs.Conditions.{farReading}
 use Rattle.desk.specs.Promises.{Answers, MeasuredAs, FramesAs, JoinedAs}
-use Rattle.choice.specs.Choice.{exchanges, exchange, delayAt, FirstWins, SecondWins}
+use Rattle.choice.specs.Choice.{exchanges, fourAt, delayAt, FirstWins, SecondWins}
 use Rattle.choice.specs.Conditions.{chooseChecks}
 use Rattle.choice.specs.Parts.{PartOf}
 use Rattle.choice.specs.Promises.{Four, ChosenAs, NumberAs}
@@ -213,7 +213,7 @@ module _ (first second r : RefT (List ℤ)) (p : ChosenAs first second r) where
   unfolding delayAt
   nothing-handed-back e f q = go (p .given (rw (e, f)))
     where
-      count : (j : ℕ) → j < exchanges delay-0 → 0 ≡ length (exchange delay-0 j) → ⊥
+      count : (j : ℕ) → j < exchanges delay-0 → 0 ≡ length (fourAt delay-0 j) → ⊥
       count j h l = let z : j ≡ 0 = omega arith in other-number (rw z at l) tt
 
       go : Four first second r → ⊥

@@ -11,7 +11,7 @@ use Rattle.orders.specs.Chains.{exchange, follow, named}
 use Rattle.orders.specs.Numbers.{arrangements, orders, orderOf, orderCount, rank, numberOf}
 use Rattle.orders.specs.Releases.{numberBy}
 use Rattle.orders.specs.Plans.{under, falling, relabelled, firstBack, planned, planOf}
-use Rattle.orders.specs.Needs.{exchanged, chainNeed}
+use Rattle.orders.specs.Needs.{swapNeed, chainNeed}
 use Rattle.refusals.specs.Calls.{chainChecks, requestChecks}
 use Rattle.plans.specs.declared.Planned.{Planned}
 use Rattle.plans.specs.Promise.{PlanPromise}
@@ -33,7 +33,7 @@ Leaves fifth a b = ChainPromise 4 (take 4 (1 ∷ 1 ∷ 2 ∷ 3 ∷ fifth ∷ [])
 
 -- it is the same whatever that length is: the promise does not speak of it
 accepts : {a : Answer} {b : List ℕ} → Leaves 7 a b → a .number ≡ 0
-unfolding volume exchanged chainNeed
+unfolding volume swapNeed chainNeed
 accepts p = p .block .number-is
 
 -- the fifth length multiplied in by a call on four axes: 42 words asked for; or it is held to be an axis length: 0, and the greatest that a caller can give
@@ -64,15 +64,15 @@ abbrev five : List ℕ
 five = 1 ∷ 1 ∷ 1 ∷ 2 ∷ 3 ∷ []
 
 pub four-axes-swap-3-accepted : Broken (chainChecks 4 four block scratch (3 ∷ [])) 0
-unfolding volume exchanged chainNeed
+unfolding volume swapNeed chainNeed
 four-axes-swap-3-accepted = broken (chainChecks 4 four block scratch (3 ∷ [])) 0 tt
 
 pub five-axes-swap-3-refused : Broken (chainChecks 5 five block scratch (3 ∷ [])) 6
-unfolding volume exchanged chainNeed
+unfolding volume swapNeed chainNeed
 five-axes-swap-3-refused = broken (chainChecks 5 five block scratch (3 ∷ [])) 6 tt
 
 pub five-axes-swap-4-accepted : Broken (chainChecks 5 five block scratch (4 ∷ [])) 0
-unfolding volume exchanged chainNeed
+unfolding volume swapNeed chainNeed
 five-axes-swap-4-accepted = broken (chainChecks 5 five block scratch (4 ∷ [])) 0 tt
 
 pub five-axes-fifth-not-read : (s c : List ℕ) → Broken (chainChecks 5 (1 ∷ 1 ∷ 2 ∷ 3 ∷ 0 ∷ []) block s c) 0
@@ -80,7 +80,7 @@ five-axes-fifth-not-read s c = broken (chainChecks 5 (1 ∷ 1 ∷ 2 ∷ 3 ∷ 0 
 
 -- 33 swaps accepted of five axes; 5 before 6, 4 before 6
 pub five-axes-33-accepted : Broken (chainChecks 5 five block scratch (replicate 33 0)) 0
-unfolding volume exchanged chainNeed
+unfolding volume swapNeed chainNeed
 five-axes-33-accepted = broken (chainChecks 5 five block scratch (replicate 33 0)) 0 tt
 
 pub five-axes-four-before-six : Broken (chainChecks 5 five block [] (3 ∷ 4 ∷ [])) 4
@@ -92,7 +92,7 @@ abbrev Swapped : Answer → List ℕ → Type 0
 Swapped a b = ChainPromise 5 five (3 ∷ []) block scratch a b (0 ∷ 0 ∷ 0 ∷ 9 ∷ [])
 
 swaps : {a : Answer} {b : List ℕ} → Swapped a b → a .number ≡ 0
-unfolding volume exchanged chainNeed
+unfolding volume swapNeed chainNeed
 swaps p = p .block .number-is
 
 pub five-moves-nothing : {a : Answer} → Swapped a block → ⊥
@@ -105,7 +105,7 @@ five-gives-four-lengths p e = other-list (sym e ∙ ap (λ (r : Answer). r .lens
 
 pub five-first-swap-moves-the-rest-relabel : {a : Answer} {s : List ℕ}
     → ChainPromise 5 five (3 ∷ 3 ∷ []) block scratch a (0 ∷ 3 ∷ 1 ∷ 4 ∷ 2 ∷ 5 ∷ []) s → ⊥
-unfolding named follow exchange at pick volume exchanged chainNeed
+unfolding named follow exchange at pick volume swapNeed chainNeed
 five-first-swap-moves-the-rest-relabel p = misplaced (p .block .words (p .block .number-is)) (0 ∷ 0 ∷ 0 ∷ 0 ∷ 1 ∷ []) tt tt
 
 -- orders of five axes by another list: 1 is 01243, and not 01324, four's order 1 before axis 4; 24 is 10234, and not 02134; in release 2 9 names 04123, and not 02341
@@ -117,17 +117,17 @@ abbrev Asked : ℕ → ℕ → Answer → List ℕ → Type 0
 Asked release order a b = RequestPromise 5 (2 ∷ 3 ∷ 1 ∷ 1 ∷ 1 ∷ []) release order block scratch a b (0 ∷ 0 ∷ 0 ∷ 9 ∷ [])
 
 pub five-order-24-moves-nothing : {a : Answer} → Asked 1 24 a block → ⊥
-unfolding volume exchange exchanged chainNeed arrangements orders orderOf under falling relabelled firstBack planned planOf placeOf at pick
+unfolding volume exchange swapNeed chainNeed arrangements orders orderOf under falling relabelled firstBack planned planOf placeOf at pick
 five-order-24-moves-nothing p = misplaced (p .block .words (p .block .number-is)) (0 ∷ 1 ∷ 0 ∷ 0 ∷ 0 ∷ []) tt tt
 
 pub five-release-2-read-as-1 : {a : Answer} {b : List ℕ} → RequestPromise 5 (1 ∷ 2 ∷ 3 ∷ 1 ∷ 1 ∷ []) 2 9 block scratch a b (0 ∷ 0 ∷ 0 ∷ 9 ∷ [])
     → a .lens ≡ 1 ∷ 3 ∷ 1 ∷ 1 ∷ 2 ∷ [] → ⊥
-unfolding volume exchange exchanged chainNeed arrangements orders orderOf under falling relabelled firstBack planned planOf placeOf places pick
+unfolding volume exchange swapNeed chainNeed arrangements orders orderOf under falling relabelled firstBack planned planOf placeOf places pick
 five-release-2-read-as-1 p e = other-list (sym e ∙ ap (λ (r : Answer). r .lens) (p .given (p .block .number-is))) tt
 
 -- order 24 of five axes refused, order 120 accepted; 7 before 14
 pub five-order-24-refused : Broken (requestChecks 5 (2 ∷ 3 ∷ 1 ∷ 1 ∷ 1 ∷ []) block scratch 1 24) 7
-unfolding volume exchange exchanged chainNeed arrangements orders orderOf under falling relabelled firstBack planned planOf placeOf
+unfolding volume exchange swapNeed chainNeed arrangements orders orderOf under falling relabelled firstBack planned planOf placeOf
 five-order-24-refused = broken (requestChecks 5 (2 ∷ 3 ∷ 1 ∷ 1 ∷ 1 ∷ []) block scratch 1 24) 7 tt
 
 pub five-order-120-accepted : Broken (requestChecks 5 (2 ∷ 3 ∷ 1 ∷ 1 ∷ 1 ∷ []) block scratch 1 120) 0

@@ -6,7 +6,7 @@ use lib.ListN.{replicate}
 use Rattle.layout.specs.Layout.{volume, at, pick, coords, placeOf, places, laid}
 use Rattle.orders.specs.Chains.{exchange, follow, named}
 use Rattle.orders.specs.Numbers.{arrangements, orders, rank, numberOf}
-use Rattle.orders.specs.Needs.{exchanged, chainNeed}
+use Rattle.orders.specs.Needs.{swapNeed, chainNeed}
 use Rattle.refusals.specs.Conditions.{firstPlace}
 use Rattle.text.specs.Print.{digits, decimal, field, fields, line}
 use Rattle.text.specs.Read.{readMore, readNumber, readField, readFields, closed, readLine, tabs}
@@ -85,16 +85,16 @@ later-byte-changed p = other-list (p .text-is) tt
 
 -- scratch left as it was, and cleared one word too far
 pub scratch-left : {number place count : ℕ} {words out′ : List ℕ} → Leaves number place count words lent out′ → ⊥
-unfolding sheetText resultBy refusalText rowsText rowCount rowWidth volume line fields field decimal digits readMore readNumber readField readFields closed readLine tabs shapeLine chainLine rowLines ended meaningBy firstPlace at pick coords placeOf places laid exchange follow named arrangements orders rank numberOf exchanged chainNeed
+unfolding sheetText resultBy refusalText rowsText rowCount rowWidth volume line fields field decimal digits readMore readNumber readField readFields closed readLine tabs shapeLine chainLine rowLines ended meaningBy firstPlace at pick coords placeOf places laid exchange follow named arrangements orders rank numberOf swapNeed chainNeed
 scratch-left p = other-list (p .scratch-is) tt
 
 pub scratch-too-far : {number place count : ℕ} {words out′ : List ℕ} → Leaves number place count words (0 ∷ 0 ∷ 0 ∷ 9 ∷ []) out′ → ⊥
-unfolding sheetText resultBy refusalText rowsText rowCount rowWidth volume line fields field decimal digits readMore readNumber readField readFields closed readLine tabs shapeLine chainLine rowLines ended meaningBy firstPlace at pick coords placeOf places laid exchange follow named arrangements orders rank numberOf exchanged chainNeed
+unfolding sheetText resultBy refusalText rowsText rowCount rowWidth volume line fields field decimal digits readMore readNumber readField readFields closed readLine tabs shapeLine chainLine rowLines ended meaningBy firstPlace at pick coords placeOf places laid exchange follow named arrangements orders rank numberOf swapNeed chainNeed
 scratch-too-far p = other-list (p .scratch-is) tt
 
 -- scratch cleared as far as the longest axis, where the chain exchanges shorter ones
 pub zeroed-by-the-longest-axis : {number place count : ℕ} {words out′ : List ℕ} → Done thin lent lent out number place count words (0 ∷ 0 ∷ 9 ∷ 9 ∷ []) out′ → ⊥
-unfolding sheetText resultBy refusalText rowsText rowCount rowWidth volume line fields field decimal digits readMore readNumber readField readFields closed readLine tabs shapeLine chainLine rowLines ended meaningBy firstPlace at pick coords placeOf places laid exchange follow named arrangements orders rank numberOf exchanged chainNeed
+unfolding sheetText resultBy refusalText rowsText rowCount rowWidth volume line fields field decimal digits readMore readNumber readField readFields closed readLine tabs shapeLine chainLine rowLines ended meaningBy firstPlace at pick coords placeOf places laid exchange follow named arrangements orders rank numberOf swapNeed chainNeed
 zeroed-by-the-longest-axis p = other-list (p .scratch-is) tt
 
 -- a sheet that is refused: its words stored, and another place in the line `refused`

@@ -9,7 +9,7 @@ use Rattle.layout.specs.Layout.{volume, at, pick, placeOf, places}
 use Rattle.orders.specs.Chains.{exchange}
 use Rattle.orders.specs.Numbers.{arrangements, orders, orderOf}
 use Rattle.orders.specs.Plans.{under, falling, relabelled, firstBack, planned, planOf}
-use Rattle.orders.specs.Needs.{exchanged, chainNeed}
+use Rattle.orders.specs.Needs.{swapNeed, chainNeed}
 use Rattle.refusals.specs.Calls.{requestChecks}
 use Rattle.axes.specs.declared.Answer.{Answer}
 use Rattle.axes.specs.Promises.{RequestPromise}
@@ -24,7 +24,7 @@ abbrev Leaves : Answer → List ℕ → List ℕ → Type 0
 Leaves a buffer scratch′ = RequestPromise 4 lengths 2 18 block scratch a buffer scratch′
 
 accepts : {a : Answer} {b s : List ℕ} → Leaves a b s → a .number ≡ 0
-unfolding volume exchange exchanged chainNeed arrangements orders orderOf under falling relabelled firstBack planned planOf placeOf places
+unfolding volume exchange swapNeed chainNeed arrangements orders orderOf under falling relabelled firstBack planned planOf placeOf places
 accepts p = p .block .number-is
 
 -- release 2 read as release 1: order 18 moves no word of this block, and leaves other lengths
@@ -42,12 +42,12 @@ number-of-the-inverse p e = other-number (sym e ∙ ap (λ (r : Answer). r .orde
 
 -- scratch cleared as far as four words
 pub scratch-too-far : {a : Answer} {b : List ℕ} → Leaves a b (replicate 4 0) → ⊥
-unfolding exchange exchanged chainNeed arrangements orders orderOf under falling relabelled firstBack planned planOf placeOf places
+unfolding exchange swapNeed chainNeed arrangements orders orderOf under falling relabelled firstBack planned planOf placeOf places
 scratch-too-far p = other-list (p .block .zeroed (accepts p)) tt
 
 -- release 1 read as release 2: number 18 names order 18
 pub release-1-turned : {a : Answer} {b s : List ℕ} → RequestPromise 4 lengths 1 18 block scratch a b s → a .lens ≡ 3 ∷ 1 ∷ 1 ∷ 2 ∷ 0 ∷ [] → ⊥
-unfolding volume exchange exchanged chainNeed arrangements orders orderOf under falling relabelled firstBack planned planOf placeOf pick
+unfolding volume exchange swapNeed chainNeed arrangements orders orderOf under falling relabelled firstBack planned planOf placeOf pick
 release-1-turned p e = other-list (sym e ∙ ap (λ (r : Answer). r .lens) (p .given (p .block .number-is))) tt
 
 -- the order of checks: 7 before 14, 14 before 13, 4 before 14; and releases 0, 3 and a huge one accepted

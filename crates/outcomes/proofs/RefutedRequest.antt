@@ -10,7 +10,7 @@ use Rattle.layout.specs.Layout.{volume, at, pick, placeOf}
 use Rattle.orders.specs.Chains.{exchange}
 use Rattle.orders.specs.Numbers.{arrangements, orders, orderOf}
 use Rattle.orders.specs.Plans.{under, falling, relabelled, firstBack, planned, planOf}
-use Rattle.orders.specs.Needs.{exchanged, chainNeed}
+use Rattle.orders.specs.Needs.{swapNeed, chainNeed}
 use Rattle.refusals.specs.FirstOf.{firstOf}
 use Rattle.refusals.specs.Calls.{requestChecks}
 use Rattle.axes.specs.declared.Answer.{Answer}
@@ -30,7 +30,7 @@ abbrev Leaves : Answer → List ℕ → List ℕ → Type 0
 Leaves a buffer scratch′ = RequestPromise 4 lengths 1 9 block scratch a buffer scratch′
 
 accepts : {a : Answer} {b s : List ℕ} → Leaves a b s → a .number ≡ 0
-unfolding volume exchange exchanged chainNeed arrangements orders orderOf under falling relabelled firstBack planned planOf placeOf
+unfolding volume exchange swapNeed chainNeed arrangements orders orderOf under falling relabelled firstBack planned planOf placeOf
 accepts p = p .block .number-is
 
 -- one that refuses always: wherever no condition holds
@@ -62,20 +62,20 @@ swap-count-invented p e = other-number (sym e ∙ ap (λ (r : Answer). r .swaps)
 
 -- scratch left as it was, and cleared one word too far
 pub scratch-left : {a : Answer} {b : List ℕ} → Leaves a b scratch → ⊥
-unfolding exchange exchanged chainNeed arrangements orders orderOf under falling relabelled firstBack planned planOf placeOf
+unfolding exchange swapNeed chainNeed arrangements orders orderOf under falling relabelled firstBack planned planOf placeOf
 scratch-left p = other-list (p .block .zeroed (accepts p)) tt
 
 pub scratch-too-far : {a : Answer} {b : List ℕ} → Leaves a b (replicate 4 0) → ⊥
-unfolding exchange exchanged chainNeed arrangements orders orderOf under falling relabelled firstBack planned planOf placeOf
+unfolding exchange swapNeed chainNeed arrangements orders orderOf under falling relabelled firstBack planned planOf placeOf
 scratch-too-far p = other-list (p .block .zeroed (accepts p)) tt
 
 -- scratch cleared as far as the longest axis by order 1, which exchanges two axes of length 1, and by order 0, which exchanges none
 pub zeroed-by-the-longest-axis : {a : Answer} {b : List ℕ} → RequestPromise 4 lengths 1 1 block scratch a b (0 ∷ 0 ∷ 0 ∷ 9 ∷ []) → ⊥
-unfolding volume exchange exchanged chainNeed arrangements orders orderOf under falling relabelled firstBack planned planOf placeOf
+unfolding volume exchange swapNeed chainNeed arrangements orders orderOf under falling relabelled firstBack planned planOf placeOf
 zeroed-by-the-longest-axis p = other-list (p .block .zeroed (p .block .number-is)) tt
 
 pub order-0-clears-scratch : {a : Answer} {b : List ℕ} → RequestPromise 4 lengths 1 0 block scratch a b (0 ∷ 0 ∷ 0 ∷ 9 ∷ []) → ⊥
-unfolding volume exchange exchanged chainNeed arrangements orders orderOf under falling relabelled firstBack planned planOf placeOf
+unfolding volume exchange swapNeed chainNeed arrangements orders orderOf under falling relabelled firstBack planned planOf placeOf
 order-0-clears-scratch p = other-list (p .block .zeroed (p .block .number-is)) tt
 
 -- order 24: a refusal that touches a word, and one that answers the number that was asked
@@ -110,15 +110,15 @@ four-before-seven = broken (requestChecks 4 lengths block [] 1 24) 4 tt
 
 -- the need of scratch: order 0 asks for some, order 1 asks for as much as the longest axis, order 9 for none
 pub order-0-asks-for-scratch : Broken (requestChecks 4 lengths block [] 1 0) 4
-unfolding volume exchange exchanged chainNeed arrangements orders orderOf under falling relabelled firstBack planned planOf placeOf
+unfolding volume exchange swapNeed chainNeed arrangements orders orderOf under falling relabelled firstBack planned planOf placeOf
 order-0-asks-for-scratch = broken (requestChecks 4 lengths block [] 1 0) 4 tt
 
 pub longest-axis-asked-for : Broken (requestChecks 4 lengths block (9 ∷ []) 1 1) 4
-unfolding volume exchange exchanged chainNeed arrangements orders orderOf under falling relabelled firstBack planned planOf placeOf
+unfolding volume exchange swapNeed chainNeed arrangements orders orderOf under falling relabelled firstBack planned planOf placeOf
 longest-axis-asked-for = broken (requestChecks 4 lengths block (9 ∷ []) 1 1) 4 tt
 
 pub asks-for-no-scratch : Broken (requestChecks 4 lengths block [] 1 9) 0
-unfolding volume exchange exchanged chainNeed arrangements orders orderOf under falling relabelled firstBack planned planOf placeOf
+unfolding volume exchange swapNeed chainNeed arrangements orders orderOf under falling relabelled firstBack planned planOf placeOf
 asks-for-no-scratch = broken (requestChecks 4 lengths block [] 1 9) 0 tt
 
 -- a longer buffer accepted; 7 before 13; 13 before 1, where a length is 0; 13 for a buffer of exactly the block's size
@@ -134,5 +134,5 @@ pub thirteen-before-one : (s : List ℕ) (order : ℕ) → Broken (requestChecks
 thirteen-before-one s order = broken (requestChecks 4 (0 ∷ 1 ∷ 1 ∷ 1 ∷ []) block s 1 order) 13 tt
 
 pub exact-buffer-refused : Broken (requestChecks 4 lengths block scratch 1 9) 13
-unfolding volume exchange exchanged chainNeed arrangements orders orderOf under falling relabelled firstBack planned planOf placeOf
+unfolding volume exchange swapNeed chainNeed arrangements orders orderOf under falling relabelled firstBack planned planOf placeOf
 exact-buffer-refused = broken (requestChecks 4 lengths block scratch 1 9) 13 tt
