@@ -10,7 +10,7 @@ use Rattle.lists.specs.Tab.{upto}
 use Rattle.layout.specs.Layout.{Laid}
 use Rattle.orders.specs.Chains.{exchange, follow, named}
 use Rattle.orders.specs.Numbers.{orderOf, numberOf}
-use Rattle.orders.specs.Needs.{exchanged, chainNeed}
+use Rattle.orders.specs.Needs.{swapNeed, chainNeed}
 use Rattle.orders.proofs.Swaps.{length-exchange}
 use Rattle.orders.proofs.Chains.{length-follow, follow-more, named-more, pick-named}
 use Rattle.orders.proofs.Distinct.{count-pos, first-order}
@@ -46,7 +46,7 @@ module _ {r : ℕ} (ds : List ℕ) (axes : length ds ≡ r) (chain xs ss : List 
 
   module _ {i : ℕ} {ys ts lens : List ℕ} {order : ℕ} (p : Progress r ds chain xs ss i ys ts lens order) where
     -- the swaps made need no more than the chain, and so does the next
-    few : i < length chain → max (chainNeed ds (take i chain)) (exchanged (getD chain i 0) (follow ds (take i chain))) ≤ chainNeed ds chain
+    few : i < length chain → max (chainNeed ds (take i chain)) (swapNeed (getD chain i 0) (follow ds (take i chain))) ≤ chainNeed ds chain
     few h = rw (← need-more ds chain i h) (need-part ds chain (i + 1))
 
     as-long : ChainAccepted r ds xs ss chain → i < length chain → length ts ≡ length ss
@@ -64,16 +64,16 @@ module _ {r : ℕ} (ds : List ℕ) (axes : length ds ≡ r) (chain xs ss : List 
     still-accepted a =
         ap (λ (l : List ℕ). firstOf (blockChecks l ys)) (p .shape) ∙ block-zero {xs = ys} (block-after (a .block) (take i chain) (p .words .same))
 
-    pub still-room : ChainAccepted r ds xs ss chain → i < length chain → exchanged (getD chain i 0) (take r lens) ≤ length ts
+    pub still-room : ChainAccepted r ds xs ss chain → i < length chain → swapNeed (getD chain i 0) (take r lens) ≤ length ts
     still-room a h = rw (p .shape) (omega (arith, few h, a .room, as-long a h))
 
     pub one-swap : ChainAccepted r ds xs ss chain → i < length chain → {zs us lens′ : List ℕ} {order′ : ℕ}
-        → Laid (take r lens) (exchange (getD chain i 0) (upto (length (take r lens)))) ys zs → us ≡ cleared (exchanged (getD chain i 0) (take r lens)) ts
+        → Laid (take r lens) (exchange (getD chain i 0) (upto (length (take r lens)))) ys zs → us ≡ cleared (swapNeed (getD chain i 0) (take r lens)) ts
         → lens′ ≡ fiveLengths (exchange (getD chain i 0) (take r lens)) → order′ ≡ numberOf r (exchange (getD chain i 0) (orderOf r order))
         → Progress r ds chain xs ss (i + 1) zs us lens′ order′
     one-swap a h {zs} {us} f u s o =
         let k = getD chain i 0 in
-        let v = exchanged k (follow ds (take i chain)) in
+        let v = swapNeed k (follow ds (take i chain)) in
         record {
           words = one-more ds axes chain i h (p .words)
               (subst₂ (λ (e : List ℕ) (n : ℕ). Laid e (exchange k (upto n)) ys zs) (p .shape) as-many f);
@@ -86,7 +86,7 @@ module _ {r : ℕ} (ds : List ℕ) (axes : length ds ≡ r) (chain xs ss : List 
               ∙ ap (λ (l : List ℕ). numberOf r (exchange k l)) (order-number r (take i chain))
               ∙ ap (numberOf r) (sym (named-more r chain i h));
           room = u
-              ∙ ap₂ (λ (l t : List ℕ). cleared (exchanged k l) t) (p .shape) (p .room)
+              ∙ ap₂ (λ (l t : List ℕ). cleared (swapNeed k l) t) (p .shape) (p .room)
               ∙ cleared-twice v (chainNeed ds (take i chain)) ss (omega (arith, few h, a .room))
               ∙ ap (λ (w : ℕ). cleared w ss) (sym (need-more ds chain i h));
         }

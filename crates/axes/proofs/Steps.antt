@@ -17,7 +17,7 @@ use Rattle.layout.specs.Layout.{volume, pick, Laid}
 use Rattle.layout.proofs.Offsets.{within-length}
 use Rattle.layout.proofs.Picks.{pick-upto}
 use Rattle.orders.specs.Chains.{exchange, follow, named}
-use Rattle.orders.specs.Needs.{exchanged}
+use Rattle.orders.specs.Needs.{swapNeed}
 use Rattle.orders.proofs.Chains.{pick-named}
 use Rattle.flat.specs.Turn.{sides}
 use Rattle.refusals.specs.FirstOf.{firstOf, Silent}
@@ -114,12 +114,12 @@ module _ {r : ℕ} (ds : List ℕ) (axes : length ds ≡ r) (k : ℕ) (h : k + 1
       rw (mul-one chunk, ← mul-assoc m n chunk, ← mul-assoc outer (m * n) chunk, mul-comm (outer * (m * n)) chunk) in
       capped-few chunk (omega (arith, le-mul chunk (outer * (m * n)) before, in-all, few))
 
-  swap-need : need (sides m n) ≡ exchanged k ds
+  swap-need : need (sides m n) ≡ swapNeed k ds
   unfolding m n
   swap-need = sym (need-swap ds k (omega arith))
 
   -- the adjacent swap accepts it
-  swap-accepted : (ss : List ℕ) → exchanged k ds ≤ length ss → firstOf (swapChecks outer m n chunk xs ss) ≡ 0
+  swap-accepted : (ss : List ℕ) → swapNeed k ds ≤ length ss → firstOf (swapChecks outer m n chunk xs ss) ≡ 0
   unfolding outer chunk m n
   swap-accepted ss room =
       let lengths : (badLength (sides m n) || (eqb outer 0 || eqb chunk 0)) ≡ false =
@@ -150,9 +150,9 @@ module _ {r : ℕ} (ds : List ℕ) (axes : length ds ≡ r) (k : ℕ) (h : k + 1
       rw axes at whole
 
   -- what the adjacent swap leaves, told the words before and after the two axes: the words of the swapped shape, and scratch cleared
-  pub swap-leaves : (ss : List ℕ) → exchanged k ds ≤ length ss → {before after number : ℕ} {ys ts : List ℕ} → before ≡ capped (volume (take k ds))
+  pub swap-leaves : (ss : List ℕ) → swapNeed k ds ≤ length ss → {before after number : ℕ} {ys ts : List ℕ} → before ≡ capped (volume (take k ds))
       → after ≡ capped (volume (drop (k + 2) ds)) → SwapPromise before (getD ds k 0) (getD ds (k + 1) 0) after xs ss number ys ts
-      → Laid ds (exchange k (upto r)) xs ys × (ts ≡ cleared (exchanged k ds) ss)
+      → Laid ds (exchange k (upto r)) xs ys × (ts ≡ cleared (swapNeed k ds) ss)
   unfolding outer chunk m n
   swap-leaves ss room {number = number} {ys = ys} {ts = ts} e d p =
       let q : SwapPromise outer m n chunk xs ss number ys ts =

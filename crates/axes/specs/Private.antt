@@ -5,7 +5,7 @@ use mathlib.Core.List.{List}
 use Prim.Native.Nat.{ℕ, _+_, _<_, _≤_}
 use lib.Dec.{eqb}
 use lib.ListN.{length}
-use Rattle.orders.specs.Needs.{exchanged}
+use Rattle.orders.specs.Needs.{swapNeed}
 use Rattle.refusals.specs.FirstOf.{firstOf}
 use Rattle.refusals.specs.Calls.{blockChecks}
 use Rattle.axes.specs.declared.Answer.{Answer}
@@ -18,4 +18,4 @@ FourOrFive r = (4 ≤ r) × (r ≤ 5)
 pub record SwapAccepted (k : ℕ) (ds buffer scratch : List ℕ) : Type 0 where
   pub place : k + 1 < length ds
   pub block : firstOf (blockChecks ds buffer) ≡ 0
-  pub room : exchanged k ds ≤ length scratch
+  pub room : swapNeed k ds ≤ length scratch

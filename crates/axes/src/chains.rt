@@ -8,7 +8,7 @@ ghost use lib.ListN.{length, take};
 ghost use Rattle.lists.specs.Tab.{upto};
 ghost use Rattle.layout.specs.Layout.{Laid};
 ghost use Rattle.orders.specs.Chains.{exchange};
-ghost use Rattle.orders.specs.Needs.{exchanged};
+ghost use Rattle.orders.specs.Needs.{swapNeed};
 ghost use Rattle.refusals.specs.FirstOf.{firstOf};
 ghost use Rattle.refusals.specs.Calls.{chainChecks};
 ghost use Rattle.refusals.specs.Scratch.{cleared};
@@ -43,7 +43,7 @@ pub(crate) fn chain_number(lens: &[usize], buf: &[u32], scratch: &[u32], swaps: 
 fn swap_at(buf: &mut [u32], scratch: &mut [u32], lens: &[usize], k: usize)
     requires { ⌜ SwapAccepted k (now lens) (now buf) (now scratch) ⌝ }
     ensures { λ _. ⌜ Laid (now (lens .entry)) (exchange k (upto (length (now (lens .entry))))) (now (buf .entry)) (now (buf .exit)) ⌝ }
-    ensures { λ _. ⌜ now (scratch .exit) ≡ cleared (exchanged k (now (lens .entry))) (now (scratch .entry)) ⌝ }
+    ensures { λ _. ⌜ now (scratch .exit) ≡ cleared (swapNeed k (now (lens .entry))) (now (scratch .entry)) ⌝ }
 {
     let outer = checks::words_of(&lens[..k]);
     let chunk = checks::words_of(&lens[k + 2..]);

@@ -22,7 +22,7 @@ use Rattle.text.specs.Meaning.{bigSheet}
 use Rattle.text.proofs.Length.{rows-le-words}
 use Rattle.text.proofs.Rows.{rows-volume}
 use Rattle.blocks.specs.Checks.{sheetChecks}
-use Rattle.blocks.specs.OnSheet.{OnSheet}
+use Rattle.blocks.specs.Private.{OnSheet}
 
 -- a cut count of more than 1,024 words is one of such a count
 more : (v : ℕ) → 1024 < capped v → 1024 < v

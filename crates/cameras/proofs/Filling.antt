@@ -8,7 +8,7 @@ use native.Mathlib.Omega.{arith}
 use lib.ListN.{length, getD, set, length-set}
 use lib.Seq.{getD-set-same, getD-set-other}
 use Rattle.lists.proofs.Decide.{eq-or-ne, lt-or-ge}
-use Rattle.cameras.specs.Moves.{Stretch}
+use Rattle.cameras.specs.Private.{Stretch}
 use Rattle.cameras.proofs.Runs.{at}
 
 -- the places from lo up to hi are filled

@@ -5,7 +5,7 @@ use mathlib.Core.List.{List}
 use Prim.Native.Nat.{ℕ, suc, _+_, _<_, _≤_}
 use native.Mathlib.Omega.{arith}
 use lib.ListN.{length, getD}
-use Rattle.cameras.specs.Moves.{RunsClosed, RunsOpened}
+use Rattle.cameras.specs.Private.{RunsClosed, RunsOpened}
 use Rattle.cameras.proofs.Runs.{RunClosed, RunOpened, closed-also, closed-more, opened-also, opened-more}
 
 -- of the runs from low up to high, those before r have closed up

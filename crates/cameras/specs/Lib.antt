@@ -1,3 +1,3 @@
 pub mod Columns
 pub mod Promises
-pub mod Moves
+pub mod Private

@@ -7,7 +7,7 @@ ghost use mathlib.Core.Path.{_≡_};
 ghost use Prim.Native.Nat.{suc, _+_, _*_, _<_, _≤_};
 ghost use lib.ListN.{length};
 ghost use Rattle.cameras.specs.Columns.{Added};
-ghost use Rattle.cameras.specs.Moves.{RunsClosed, RunsOpened, Closed};
+ghost use Rattle.cameras.specs.Private.{RunsClosed, RunsOpened, Closed};
 
 // The smaller of two numbers.
 fn smaller(x: usize, y: usize) -> usize

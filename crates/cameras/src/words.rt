@@ -2,7 +2,7 @@
 ghost use mathlib.Core.Path.{_≡_};
 ghost use Prim.Native.Nat.{ℕ, _+_, _*_, _<_, _≤_};
 ghost use lib.ListN.{length, getD};
-ghost use Rattle.cameras.specs.Moves.{Stretch};
+ghost use Rattle.cameras.specs.Private.{Stretch};
 
 // The sixteen words from an offset on.
 fn held(buf: &[u32], from: usize) -> [u32; 16]

@@ -6,20 +6,20 @@ ghost use mathlib.Core.List.{[], _∷_};
 ghost use Prim.Native.Nat.{_*_, _≤_, max};
 ghost use lib.Dec.{ltb};
 ghost use Rattle.layout.specs.Layout.{volume};
-ghost use Rattle.orders.specs.Needs.{exchanged, chainNeed};
+ghost use Rattle.orders.specs.Needs.{swapNeed, chainNeed};
 ghost use Rattle.refusals.specs.FirstOf.{check, firstOf};
 ghost use Rattle.refusals.specs.Conditions.{outOfRange, badLength, longest, firstPlace, noRelease};
 ghost use Rattle.refusals.specs.Calls.{sizeChecks, blockChecks, passesChecks};
 ghost use Rattle.checks.specs.Words.{capped};
 
 // Whether no axis may have this length: 0 or above 4,096.
-fn out_of_range(length: usize) -> bool
-    ensures { λ r. ⌜ r ≡ outOfRange length ⌝ }
+fn out_of_range(axis: usize) -> bool
+    ensures { λ r. ⌜ r ≡ outOfRange axis ⌝ }
 {
-    if length == 0 {
+    if axis == 0 {
         return true;
     }
-    4096 < length
+    4096 < axis
 }
 
 // Whether an axis length is 0 or above 4,096.
@@ -35,17 +35,17 @@ pub fn bad_length(lens: &[usize]) -> bool
 }
 
 // A count of words times a length, cut to one more than a block may have.
-fn times(words: usize, length: usize) -> usize
+fn times(words: usize, axis: usize) -> usize
     requires { ⌜ words ≤ 1048577 ⌝ }
-    ensures { λ r. ⌜ r ≡ capped (words * length) ⌝ }
+    ensures { λ r. ⌜ r ≡ capped (words * axis) ⌝ }
 {
     if words == 0 {
         return 0;
     }
-    if 1048576 < length {
+    if 1048576 < axis {
         return 1048577;
     }
-    let product = words * length;
+    let product = words * axis;
     if 1048576 < product {
         return 1048577;
     }
@@ -86,7 +86,7 @@ pub fn longest_of(lens: &[usize]) -> usize
 
 // The longer of the two axes that swap k exchanges; 0 where there are no such places.
 fn exchanged_by(lens: &[usize], k: usize) -> usize
-    ensures { λ r. ⌜ r ≡ exchanged k (now (lens .entry)) ⌝ }
+    ensures { λ r. ⌜ r ≡ swapNeed k (now (lens .entry)) ⌝ }
 {
     let count = lens.len();
     if count <= k {

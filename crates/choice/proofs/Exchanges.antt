@@ -12,7 +12,7 @@ use Rattle.refusals.specs.FirstOf.{firstOf}
 use Rattle.desk.specs.Exchange.{reading}
 use Rattle.desk.specs.Conditions.{farReading, measureChecks}
 use Rattle.desk.proofs.Accepted.{all-near, measures}
-use Rattle.choice.specs.Choice.{exchanges, exchange}
+use Rattle.choice.specs.Choice.{exchanges, fourAt}
 
 near-front : (n : ℕ) (run : List ℤ) → ((k : ℕ) → natAbs (reading run k) ≤ 2 ^ 60) → (k : ℕ) → natAbs (reading (take n run) k) ≤ 2 ^ 60
 near-front zero run near k = omega arith
@@ -20,13 +20,13 @@ near-front (suc n) [] near k = omega arith
 near-front (suc n) (z ∷ zs) near zero = near 0
 near-front (suc n) (z ∷ zs) near (suc k) = near-front n zs (λ i. near (suc i)) k
 
-pub exchange-measured : (run : List ℤ) (j : ℕ) → farReading run ≡ false → j < exchanges run → firstOf (measureChecks (exchange run j)) ≡ 0
+pub exchange-measured : (run : List ℤ) (j : ℕ) → farReading run ≡ false → j < exchanges run → firstOf (measureChecks (fourAt run j)) ≡ 0
 exchange-measured run j none h =
-    measures (exchange run j) (record {
+    measures (fourAt run j) (record {
       near = near-front 4 (drop (4 * j) run) (λ k. rw (getD-drop (4 * j) run k (pos 0)) (all-near (2 ^ 60) run none (4 * j + k)));
       four = length-take-le 4 (drop (4 * j) run) (rw length-drop (omega arith));
     })
 
 -- from its place to its end
-pub exchange-is : (run : List ℤ) (j : ℕ) → take ((4 * j + 4) - 4 * j) (drop (4 * j) run) ≡ exchange run j
+pub exchange-is : (run : List ℤ) (j : ℕ) → take ((4 * j + 4) - 4 * j) (drop (4 * j) run) ≡ fourAt run j
 exchange-is run j = let four : (4 * j + 4) - 4 * j ≡ 4 = omega arith in rw four

@@ -16,7 +16,7 @@ use Rattle.refusals.proofs.Some.{none-at, none-some}
 use Rattle.signed.proofs.Ends.{holds, fails, le, lt, of-le, of-lt}
 use Rattle.choice.specs.Choice.{exchanges, delayAt, usable, Best, FirstWins, SecondWins}
 use Rattle.choice.specs.Conditions.{anyUsable}
-use Rattle.choice.specs.Search.{taken, HeldAs}
+use Rattle.choice.specs.Private.{taken, HeldAs}
 
 -- two outcomes of one test
 pub clash {ℓ} : {X : Type ℓ} {t : Bool} → t ≡ true → t ≡ false → X

@@ -13,12 +13,12 @@ abbrev pub exchanges : List ℤ → ℕ
 exchanges run = length run / 4
 
 -- the four readings of exchange j of a run, from 0
-abbrev pub exchange : List ℤ → ℕ → List ℤ
-exchange run j = take 4 (drop (4 * j) run)
+abbrev pub fourAt : List ℤ → ℕ → List ℤ
+fourAt run j = take 4 (drop (4 * j) run)
 
 -- its delay
 unfoldable pub delayAt : List ℤ → ℕ → ℤ
-delayAt run j = delayOf (exchange run j)
+delayAt run j = delayOf (fourAt run j)
 
 -- it can be used: negative delays are unusable
 abbrev pub usable : List ℤ → ℕ → Bool

@@ -23,9 +23,9 @@ abbrev pub noUsable : List ℤ → List ℤ → Bool
 noUsable first second = not (anyUsable first || anyUsable second)
 
 -- two runs: 26 for a run whose length isn't a multiple of four, then 18 for a reading
-abbrev pub runChecks : List ℤ → List ℤ → List Check
-runChecks first second = check 26 (badRun fours first || badRun fours second) ∷ check 18 (farReading first || farReading second) ∷ []
+abbrev pub pathChecks : List ℤ → List ℤ → List Check
+pathChecks first second = check 26 (badRun fours first || badRun fours second) ∷ check 18 (farReading first || farReading second) ∷ []
 
 -- choosing: 26, 18, then 19
 abbrev pub chooseChecks : List ℤ → List ℤ → List Check
-chooseChecks first second = runChecks first second ++ (check 19 (noUsable first second) ∷ [])
+chooseChecks first second = pathChecks first second ++ (check 19 (noUsable first second) ∷ [])

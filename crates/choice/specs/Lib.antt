@@ -2,4 +2,4 @@ pub mod Choice
 pub mod Conditions
 pub mod Parts
 pub mod Promises
-pub mod Search
+pub mod Private

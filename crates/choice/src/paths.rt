@@ -3,8 +3,8 @@ use crate::search::beats;
 use crate::search::best;
 ghost use mathlib.Core.Path.{_≡_};
 ghost use Rattle.refusals.specs.FirstOf.{firstOf};
-ghost use Rattle.choice.specs.Conditions.{runChecks};
-ghost use Rattle.choice.specs.Search.{PlaceAs};
+ghost use Rattle.choice.specs.Conditions.{pathChecks};
+ghost use Rattle.choice.specs.Private.{PlaceAs};
 
 // On the first path, 0, or the second, 1, and the exchange's number in that run, from 0.
 pub(crate) struct Place {
@@ -15,7 +15,7 @@ pub(crate) struct Place {
 
 // The checks that come before any exchange is looked at: 26, 18.
 fn runs_number(first: &[i64], second: &[i64]) -> u32
-    ensures { λ r. ⌜ r ≡ firstOf (runChecks (now (first .entry)) (now (second .entry))) ⌝ }
+    ensures { λ r. ⌜ r ≡ firstOf (pathChecks (now (first .entry)) (now (second .entry))) ⌝ }
 {
     if first.len() % 4 != 0 {
         return 26;

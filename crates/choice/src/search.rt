@@ -4,7 +4,7 @@ ghost use mathlib.Core.Path.{_≡_};
 ghost use mathlib.Core.Bool.{false};
 ghost use Rattle.desk.specs.Conditions.{farReading};
 ghost use Rattle.choice.specs.Choice.{exchanges};
-ghost use Rattle.choice.specs.Search.{taken, HeldAs};
+ghost use Rattle.choice.specs.Private.{taken, HeldAs};
 
 // The usable exchange of a run with the smallest delay. Where there is none, the delay is negative.
 pub(crate) struct Held {

@@ -7,7 +7,7 @@ use native.Mathlib.Omega.{arith}
 use lib.ListN.{length, getD, set, drop, length-set, length-drop}
 use Rattle.lists.proofs.Front.{drop-next}
 use Rattle.orbits.specs.Cycles.{takes, cycles}
-use Rattle.orbits.specs.Along.{carried, alongCycles}
+use Rattle.orbits.specs.Along.{handedOn, alongCycles}
 use Rattle.orbits.proofs.Pairs.{pair-words}
 use Rattle.orbits.proofs.Takes.{takes-permutes}
 use Rattle.orbits.proofs.Along.{carried-length}
@@ -17,7 +17,7 @@ pub record Carries (m n count start : ℕ) (before words : List ℕ) (at word k 
   pub low : at < m * n
   pub long : length words ≡ m * n
   pub few : k ≤ count
-  pub left : carried (takes m n) (count - k) at word words ≡ carried (takes m n) count start (getD before start 0) before
+  pub left : handedOn (takes m n) (count - k) at word words ≡ handedOn (takes m n) count start (getD before start 0) before
 
 -- where the next word goes is a place of the block
 pub next-low : {m n count start at word k next : ℕ} {before words : List ℕ} → Carries m n count start before words at word k → next ≡ takes m n at
@@ -30,21 +30,21 @@ module _ (m n count start : ℕ) (before : List ℕ) where
 
   module _ {words : List ℕ} {at word k : ℕ} (c : Carries m n count start before words at word k) where
     pub carries-more : {next : ℕ} → k < count → next ≡ takes m n at → Carries m n count start before (set words next word) next (getD words next 0) (k + 1)
-    unfolding carried
+    unfolding handedOn
     carries-more {next} h e =
         let one : count - k ≡ suc (count - (k + 1)) = omega arith in
         record {
           low = omega (arith, e, takes-permutes m n .within at (c .low));
           long = length-set words next word ∙ c .long;
           few = omega arith;
-          left = rw e (sym (ap (λ (z : ℕ). carried (takes m n) z at word words) one) ∙ c .left);
+          left = rw e (sym (ap (λ (z : ℕ). handedOn (takes m n) z at word words) one) ∙ c .left);
         }
 
-    pub carries-all : count ≤ k → words ≡ carried (takes m n) count start (getD before start 0) before
-    unfolding carried
+    pub carries-all : count ≤ k → words ≡ handedOn (takes m n) count start (getD before start 0) before
+    unfolding handedOn
     carries-all h =
         let none : count - k ≡ 0 = omega arith in
-        sym (ap (λ (z : ℕ). carried (takes m n) z at word words) none) ∙ c .left
+        sym (ap (λ (z : ℕ). handedOn (takes m n) z at word words) none) ∙ c .left
 
 pub record Runs (m n : ℕ) (list before words : List ℕ) (k : ℕ) : Type 0 where
   pub long : length words ≡ m * n
@@ -60,7 +60,7 @@ module _ (m n : ℕ) (list : List ℕ) (right : list ≡ cycles m n) (before : L
 
   module _ {words : List ℕ} {k : ℕ} (r : Runs m n list before words k) where
     pub runs-more : {after : List ℕ} {start count : ℕ} → 2 * k + 1 < length list → start ≡ getD list (2 * k) 0 → count ≡ getD list (2 * k + 1) 0
-        → after ≡ carried (takes m n) count start (getD words start 0) words → Runs m n list before after (k + 1)
+        → after ≡ handedOn (takes m n) count start (getD words start 0) words → Runs m n list before after (k + 1)
     unfolding alongCycles
     runs-more {after} {start} {count} h s c e =
         let next : 2 * k + 1 + 1 ≡ 2 * (k + 1) = omega arith in

@@ -21,8 +21,8 @@ use Rattle.orbits.specs.Along.{alongCycles}
 use Rattle.orbits.proofs.Along.{along-turns}
 use Rattle.orbits.proofs.Pairs.{none-other}
 use Rattle.cycles.specs.declared.Judged.{Judged}
-use Rattle.cycles.specs.Promise.{wrongCycles, Answers, JudgedAs, RunAs}
-use Rattle.orbits.specs.Steps.{Small}
+use Rattle.cycles.specs.Promise.{wrongCycles, JudgedAfter, JudgedAs, RunAs}
+use Rattle.orbits.specs.Private.{Small}
 use Rattle.cycles.specs.Private.{Compared}
 use Rattle.cycles.proofs.Comparing.{answer}
 
@@ -68,14 +68,14 @@ module _ (cs : List Check) (m n : ℕ) (list : List ℕ) where
   pub then-22 : T (refusing cs) → (t : Bool) → wrongCycles m n list ≡ t → firstOf cs ≡ 0 → firstOf all ≡ cond t 22 0
   then-22 r t w e = through cs (check 22 (wrongCycles m n list) ∷ []) r e ∙ ap (λ (b : Bool). cond {A = ℕ} b 22 0) w
 
-  pub refused : {number : ℕ} → number ≡ firstOf cs → (number ≡ 0 → ⊥) → (firstOf cs ≡ 22 → ⊥) → Answers all m n list (answer number 0)
+  pub refused : {number : ℕ} → number ≡ firstOf cs → (number ≡ 0 → ⊥) → (firstOf cs ≡ 22 → ⊥) → JudgedAfter all m n list (answer number 0)
   refused e z other = record {
     number-is = refused-by cs (check 22 (wrongCycles m n list) ∷ []) e z;
     differs = λ d. absurd (other (sym e ∙ d));
     otherwise = λ _. refl;
   }
 
-  pub accepted : {r : Judged} → T (refusing cs) → firstOf cs ≡ 0 → Compared m n list r → Answers all m n list r
+  pub accepted : {r : Judged} → T (refusing cs) → firstOf cs ≡ 0 → Compared m n list r → JudgedAfter all m n list r
   accepted {r} q e c = record {
     number-is =
         ⊎-elim

@@ -20,13 +20,13 @@ use Rattle.orbits.specs.Cycles.{cycles, takes, EveryCycleOnce}
 use Rattle.orbits.proofs.RightList.{every-cycle-once}
 use Rattle.orbits.proofs.Pairs.{one-other, none-other}
 use Rattle.cycles.specs.declared.Judged.{Judged}
-use Rattle.cycles.specs.Promise.{wrongCycles, Answers, JudgedAs, RunAs}
+use Rattle.cycles.specs.Promise.{wrongCycles, JudgedAfter, JudgedAs, RunAs}
 use Rattle.cycles.proofs.Judging.{right-list, then-22}
 use Rattle.cycles.proofs.Comparing.{answer}
 
 -- accepted exactly when no check before 22 holds and the list is the right list
 pub accepted-exactly : (cs : List Check) → T (refusing cs) → {m n : ℕ} {list : List ℕ} {a : Judged}
-    → Answers (cs ++ (check 22 (wrongCycles m n list) ∷ [])) m n list a → (a .number ≡ 0) ↔ ((firstOf cs ≡ 0) × (list ≡ cycles m n))
+    → JudgedAfter (cs ++ (check 22 (wrongCycles m n list) ∷ [])) m n list a → (a .number ≡ 0) ↔ ((firstOf cs ≡ 0) × (list ≡ cycles m n))
 accepted-exactly cs clear {m} {n} {list} {a} p = (there, λ q. p .number-is ∙ then-22 cs m n list clear false (right-list m n list (q .1)) (q .0))
   where
     there : a .number ≡ 0 → (firstOf cs ≡ 0) × (list ≡ cycles m n)
@@ -42,10 +42,10 @@ pub judged-exactly : {m n : ℕ} {list : List ℕ} {a : Judged} → JudgedAs m n
 judged-exactly {m} {n} p = accepted-exactly (sizeChecks (sides m n)) tt p
 
 -- refused with 22, the list is another
-pub refused-other : {checks : List Check} {m n : ℕ} {list : List ℕ} {a : Judged} → Answers checks m n list a → a .number ≡ 22 → list ≡ cycles m n → ⊥
+pub refused-other : {checks : List Check} {m n : ℕ} {list : List ℕ} {a : Judged} → JudgedAfter checks m n list a → a .number ≡ 22 → list ≡ cycles m n → ⊥
 refused-other p d = none-other (p .differs d)
 
-pub judge-once : {checks : List Check} {m n : ℕ} {list : List ℕ} {a b : Judged} → Answers checks m n list a → Answers checks m n list b → a ≡ b
+pub judge-once : {checks : List Check} {m n : ℕ} {list : List ℕ} {a b : Judged} → JudgedAfter checks m n list a → JudgedAfter checks m n list b → a ≡ b
 judge-once {a = a} {b} p q =
     let one : a .number ≡ b .number = p .number-is ∙ sym (q .number-is) in
     let place : a .place ≡ b .place =

@@ -1,4 +1,4 @@
--- Serves only the contracts of private functions. Assumes nothing: these are definitions.
+-- These definitions serve only the contracts of private functions: a reader of the promises can pass over them. Assumes nothing.
 use mathlib.Core.Path.{_≡_}
 use mathlib.Core.Bool.{cond}
 use mathlib.Core.List.{List}

@@ -23,17 +23,17 @@ abbrev pub runChecks : ℕ → ℕ → List ℕ → List ℕ → List Check
 runChecks m n list buffer = blockChecks (sides m n) buffer ++ (check 22 (wrongCycles m n list) ∷ [])
 
 -- the number is the first of the checks that holds; for 22 the place is that of the first pair that differs from the right list, elsewhere 0
-pub record Answers (checks : List Check) (m n : ℕ) (list : List ℕ) (answered : Judged) : Type 0 where
+pub record JudgedAfter (checks : List Check) (m n : ℕ) (list : List ℕ) (answered : Judged) : Type 0 where
   pub number-is : answered .number ≡ firstOf checks
   pub differs : answered .number ≡ 22 → FirstOther list (cycles m n) (answered .place)
   pub otherwise : (answered .number ≡ 22 → ⊥) → answered .place ≡ 0
 
 -- a list judged
 abbrev pub JudgedAs : ℕ → ℕ → List ℕ → Judged → Type 0
-JudgedAs m n list answered = Answers (cycleChecks m n list) m n list answered
+JudgedAs m n list answered = JudgedAfter (cycleChecks m n list) m n list answered
 
 -- a list run: accepted, the words are the flat turn; refused, not one has changed
 pub record RunAs (m n : ℕ) (list before : List ℕ) (answered : Judged) (after : List ℕ) : Type 0 where
-  pub answers : Answers (runChecks m n list before) m n list answered
+  pub answers : JudgedAfter (runChecks m n list before) m n list answered
   pub words : answered .number ≡ 0 → Turn m n before after
   pub kept : (answered .number ≡ 0 → ⊥) → after ≡ before

@@ -4,13 +4,13 @@ ghost use mathlib.Core.Path.{_≡_};
 ghost use Prim.Native.Nat.{_*_, _<_};
 ghost use lib.ListN.{length, getD};
 ghost use Rattle.orbits.specs.Cycles.{takes, cycles};
-ghost use Rattle.orbits.specs.Along.{carried, alongCycles};
-ghost use Rattle.orbits.specs.Steps.{Small, Inverse};
+ghost use Rattle.orbits.specs.Along.{handedOn, alongCycles};
+ghost use Rattle.orbits.specs.Private.{Small, Reciprocal};
 
 // Along one cycle: a word is put where the turn takes its offset, and the word that stood there goes on.
 fn one(buf: &mut [u32], m: usize, n: usize, inverse: usize, start: usize, count: usize)
-    requires { ⌜ Small m n × Inverse n inverse × (start < m * n) × (length (now buf) ≡ m * n) ⌝ }
-    ensures { λ _. ⌜ now (buf .exit) ≡ carried (takes m n) count start (getD (now (buf .entry)) start 0) (now (buf .entry)) ⌝ }
+    requires { ⌜ Small m n × Reciprocal n inverse × (start < m * n) × (length (now buf) ≡ m * n) ⌝ }
+    ensures { λ _. ⌜ now (buf .exit) ≡ handedOn (takes m n) count start (getD (now (buf .entry)) start 0) (now (buf .entry)) ⌝ }
 {
     let mut at = start;
     let mut word = buf[start];

@@ -8,7 +8,7 @@ ghost use Prim.Native.Nat.{_*_, _<_, _≤_};
 ghost use Rattle.lists.specs.Same.{same};
 ghost use Rattle.orbits.specs.Cycles.{takes, pairAt};
 ghost use Rattle.cycles.specs.Promise.{JudgedAs, RunAs};
-ghost use Rattle.orbits.specs.Steps.{Small, Inverse};
+ghost use Rattle.orbits.specs.Private.{Small, Reciprocal};
 ghost use Rattle.cycles.specs.Private.{lengthOf, Compared};
 
 // The number that the call answers, and for 22 the place of the first pair that differs.
@@ -19,7 +19,7 @@ pub struct Judged {
 
 // The length of the cycle of offset x where x is its least offset, else 0: the cycle is followed until it is home or a smaller offset shows.
 fn length_of(m: usize, n: usize, inverse: usize, x: usize) -> usize
-    requires { ⌜ Small m n × Inverse n inverse × (x < m * n) ⌝ }
+    requires { ⌜ Small m n × Reciprocal n inverse × (x < m * n) ⌝ }
     ensures { λ r. ⌜ r ≡ lengthOf (takes m n) (m * n) x ⌝ }
 {
     let mut at = steps::step(m, n, inverse, x);
@@ -35,9 +35,9 @@ fn length_of(m: usize, n: usize, inverse: usize, x: usize) -> usize
 }
 
 // Whether the pair at a place is this start and this length; a half pair or none is not.
-fn pair_is(list: &[u32], place: usize, start: usize, length: usize) -> bool
+fn pair_is(list: &[u32], place: usize, start: usize, count: usize) -> bool
     requires { ⌜ place ≤ 1048576 ⌝ }
-    ensures { λ r. ⌜ r ≡ same (pairAt place (now (list .entry))) (start ∷ length ∷ []) ⌝ }
+    ensures { λ r. ⌜ r ≡ same (pairAt place (now (list .entry))) (start ∷ count ∷ []) ⌝ }
 {
     let at = 2 * place;
     if list.len() <= at + 1 {
@@ -46,7 +46,7 @@ fn pair_is(list: &[u32], place: usize, start: usize, length: usize) -> bool
     if steps::wide(list[at]) != start {
         return false;
     }
-    steps::wide(list[at + 1]) == length
+    steps::wide(list[at + 1]) == count
 }
 
 // The list against the right one: offset by offset, each that is the least of its cycle must be the next pair, and no more may follow.

@@ -2,12 +2,12 @@
 ghost use mathlib.Core.Path.{_≡_};
 ghost use Prim.Native.Nat.{_*_, _<_};
 ghost use Rattle.orbits.specs.Cycles.{takes};
-ghost use Rattle.orbits.specs.Steps.{Small, Inverse};
+ghost use Rattle.orbits.specs.Private.{Small, Reciprocal};
 
 // The inverse of n that a step multiplies by: 2 to the 40th by n, rounded down, and one more.
 pub(crate) fn inverse_of(n: usize) -> usize
     requires { ⌜ 0 < n ⌝ }
-    ensures { λ r. ⌜ Inverse n r ⌝ }
+    ensures { λ r. ⌜ Reciprocal n r ⌝ }
 {
     1099511627776 / n + 1
 }
@@ -15,7 +15,7 @@ pub(crate) fn inverse_of(n: usize) -> usize
 // Where the turn takes offset x: m times x modulo mn - 1, which is counted off once for each row. The row is found by multiplication, so that no step
 // divides, and only one product waits for another.
 pub(crate) fn step(m: usize, n: usize, inverse: usize, x: usize) -> usize
-    requires { ⌜ Small m n × Inverse n inverse × (x < m * n) ⌝ }
+    requires { ⌜ Small m n × Reciprocal n inverse × (x < m * n) ⌝ }
     ensures { λ r. ⌜ r ≡ takes m n x ⌝ }
 {
     let row = (x * inverse) >> 40;

@@ -15,7 +15,7 @@ use Rattle.layout.specs.Layout.Within.{none, more}
 use Rattle.refusals.specs.Calls.{swapBlock}
 use Rattle.refusals.specs.Promise.{middle}
 use Rattle.refusals.proofs.Swap.{swap-volume}
-use Rattle.halves.specs.LentSlices.{ChunksTurned, TurnedAt}
+use Rattle.halves.specs.Private.{ChunksTurned, TurnedAt}
 use Rattle.halves.specs.Promise.{chunked, firstTwo}
 use Rattle.halves.proofs.Lent.{at-three}
 use Rattle.halves.proofs.Parts.{part-at, back-at, before-it, after-it}

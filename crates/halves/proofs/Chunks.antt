@@ -13,7 +13,7 @@ use Rattle.lists.proofs.Tab.{length-tab, getD-tab}
 use Rattle.lists.proofs.Decide.{eq-or-ne}
 use Rattle.flat.specs.Turn.{Turn}
 use Rattle.flat.proofs.Turn.{literally, from-literal}
-use Rattle.halves.specs.LentSlices.{ChunksTurned, swapped, Exchanged, ofChunks, CrossedChunks}
+use Rattle.halves.specs.Private.{ChunksTurned, swapped, Exchanged, ofChunks, CrossedChunks}
 use Rattle.halves.proofs.Diagonal.{at-first, at-second, elsewhere, crossed-more, Done, done-none, done-more, done-all}
 use Rattle.halves.proofs.Exchanges.{swapped-same}
 

@@ -8,7 +8,7 @@ use native.Mathlib.Nat.{add-mul, mul-add, mul-pos, mul-le-mul-left, mul-le-mul-r
 use lib.ListN.{length, take, drop, length-append}
 use lib.Seq.{length-take-le}
 use borrow.Rule.Slice.PartMut.{midOf, putMid}
-use Rattle.halves.specs.LentSlices.{Block, ChunksTurned}
+use Rattle.halves.specs.Private.{Block, ChunksTurned}
 use Rattle.halves.proofs.Parts.{whole, second, second-length, joined}
 
 -- the first k words are m₁ by n₁ chunks of w words, the others m₂ by n₂

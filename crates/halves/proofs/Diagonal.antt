@@ -12,7 +12,7 @@ use lib.Arith.{digits-lt, digits-div, digits-mod}
 use Rattle.lists.proofs.Decide.{lt-or-ge}
 use Rattle.flat.specs.Turn.{Turn}
 use Rattle.flat.proofs.Turn.{from-literal}
-use Rattle.halves.specs.LentSlices.{Crossed, swapped}
+use Rattle.halves.specs.Private.{Crossed, swapped}
 
 module _ (xs : List ℕ) (x y : ℕ) (apart : x ≡ y → ⊥) (hx : x < length xs) (hy : y < length xs) where
   pub at-first : getD (swapped xs x y) x 0 ≡ getD xs y 0

@@ -5,7 +5,7 @@ use Prim.Native.Nat.{ℕ, _+_, _<_}
 use native.Mathlib.Omega.{arith}
 use borrow.Author.Count.{below-none, below-more}
 use lib.ListN.{length, getD, length-set}
-use Rattle.halves.specs.LentSlices.{swapped, Exchanged}
+use Rattle.halves.specs.Private.{swapped, Exchanged}
 use Rattle.halves.proofs.Diagonal.{at-first, at-second, elsewhere}
 
 pub swapped-same : (xs : List ℕ) (a b : ℕ) → length (swapped xs a b) ≡ length xs

@@ -8,7 +8,7 @@ use native.Mathlib.Nat.{add-mul, mul-add, mul-comm, le-mul-of-pos-right}
 use lib.ListN.{length, take, drop, length-append, length-drop, take-append-drop}
 use lib.Seq.{length-take-le, take-at, drop-at}
 use borrow.Rule.Slice.PartMut.{midOf, putMid}
-use Rattle.halves.specs.LentSlices.{rotated}
+use Rattle.halves.specs.Private.{rotated}
 use Rattle.halves.proofs.Rotations.{rotated-parts}
 
 -- the middle part of three

@@ -7,7 +7,7 @@ use native.Mathlib.Omega.{arith}
 use lib.ListN.{length, take, drop, length-append, length-drop, take-append-drop}
 use lib.Seq.{length-take-le, take-at, drop-at}
 use borrow.Rule.Slice.PartMut.{midOf, putMid, mid-len}
-use Rattle.halves.specs.LentSlices.{rotated, Runs}
+use Rattle.halves.specs.Private.{rotated, Runs}
 use Rattle.halves.specs.Merge.{Merged}
 use Rattle.halves.proofs.Parts.{whole, second, second-length, joined}
 use Rattle.halves.proofs.Four.{Four, four, middle-turned, Halved, halved}

@@ -16,7 +16,7 @@ use Rattle.refusals.proofs.Conditions.{InRange, valid, range-in, not-short, not
 use Rattle.refusals.proofs.Conditions.InRange.{none, more}
 use Rattle.flat.specs.Turn.{sides}
 use Rattle.flat.proofs.Turn.{volume-two}
-use Rattle.halves.specs.LentSlices.{Block, ChunksTurned}
+use Rattle.halves.specs.Private.{Block, ChunksTurned}
 use Rattle.halves.proofs.Chunks.{words-turned}
 use Rattle.halves.specs.Promise.{TurnPromise, TurnChunksPromise, chunked, firstTwo}
 

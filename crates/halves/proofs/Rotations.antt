@@ -6,7 +6,7 @@ use Prim.Native.Nat.{ℕ, _+_, _-_, _≤_}
 use native.Mathlib.Omega.{arith}
 use lib.ListN.{length, take, drop, length-drop, take-append-drop, drop-of-length-le}
 use lib.Seq.{length-take-le, take-at, drop-at, take-take, drop-drop, take-all}
-use Rattle.halves.specs.LentSlices.{exchanged, rotated}
+use Rattle.halves.specs.Private.{traded, rotated}
 use borrow.Rule.Slice.PartMut.{midOf, putMid}
 use Rattle.halves.proofs.Parts.{rest-lent, rest-back, take-past, drop-past}
 
@@ -38,12 +38,12 @@ module _ (k w : ℕ) (xs : List ℕ) (low : w ≤ k) (high : k + w ≤ length xs
   long-m : length m ≡ k - w
   long-m = length-drop w (take k xs) ∙ ap (λ (n : ℕ). n - w) (length-take-le k xs (omega arith))
 
-  pub front-stands : take w (exchanged k w xs) ≡ b
-  unfolding exchanged
+  pub front-stands : take w (traded k w xs) ≡ b
+  unfolding traded
   front-stands = take-at b (m ++ (a ++ r)) w long-b
 
-  pub rest-is : drop w (exchanged k w xs) ≡ m ++ (a ++ r)
-  unfolding exchanged
+  pub rest-is : drop w (traded k w xs) ≡ m ++ (a ++ r)
+  unfolding traded
   rest-is = drop-at b (m ++ (a ++ r)) w long-b
 
   pub rotated-is : rotated k xs ≡ (b ++ r) ++ (a ++ m)
@@ -55,7 +55,7 @@ module _ (k w : ℕ) (xs : List ℕ) (low : w ≤ k) (high : k + w ≤ length xs
 
 -- the left side is not the longer one
 pub short-left : (k : ℕ) (xs : List ℕ) → k + k ≤ length xs
-    → rotated k xs ≡ take k (exchanged k k xs) ++ rotated k (drop k (exchanged k k xs))
+    → rotated k xs ≡ take k (traded k k xs) ++ rotated k (drop k (traded k k xs))
 short-left k xs h =
     let low : k ≤ k = omega arith in
     let none : drop k (take k xs) ≡ [] = drop-of-length-le (take k xs) {i = k} (rw (length-take-le k xs (omega arith)) low) in
@@ -65,7 +65,7 @@ short-left k xs h =
 
 -- the right side, of w words, is the shorter one
 pub short-right : (k w : ℕ) (xs : List ℕ) → w ≤ k → k + w ≡ length xs
-    → rotated k xs ≡ take w (exchanged k w xs) ++ rotated (k - w) (drop w (exchanged k w xs))
+    → rotated k xs ≡ take w (traded k w xs) ++ rotated (k - w) (drop w (traded k w xs))
 short-right k w xs low e =
     let high : k + w ≤ length xs = omega arith in
     let none : drop (k + w) xs ≡ [] = drop-of-length-le xs {i = k + w} (omega arith) in
@@ -83,11 +83,11 @@ rotated-none xs = append-nil xs
 
 -- one step of the loop: the words before place n stand; the rest is lent, comes back with two stretches exchanged, and w words more stand
 pub step : (n w left next : ℕ) (goal xs e : List ℕ) → n ≤ length xs → goal ≡ take n xs ++ rotated left (drop n xs)
-    → e ≡ exchanged left w (midOf n (length xs - n) xs)
-    → rotated left (drop n xs) ≡ take w (exchanged left w (drop n xs)) ++ rotated next (drop w (exchanged left w (drop n xs)))
+    → e ≡ traded left w (midOf n (length xs - n) xs)
+    → rotated left (drop n xs) ≡ take w (traded left w (drop n xs)) ++ rotated next (drop w (traded left w (drop n xs)))
     → goal ≡ take (n + w) (putMid n (length xs - n) xs e) ++ rotated next (drop (n + w) (putMid n (length xs - n) xs e))
 step n w left next goal xs e h stands came more =
     let long : length (take n xs) ≡ n = length-take-le n xs h in
-    let e′ = exchanged left w (drop n xs) in
+    let e′ = traded left w (drop n xs) in
     rw (rest-back n xs e, came, rest-lent n xs, take-past (take n xs) e′ n w long, drop-past (take n xs) e′ n w long, append-assoc)
     (stands ∙ ap (λ (l : List ℕ). take n xs ++ l) more)

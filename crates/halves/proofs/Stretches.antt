@@ -8,7 +8,7 @@ use native.Mathlib.Omega.{arith}
 use native.Mathlib.Nat.{add-suc, add-zero}
 use lib.ListN.{length, take, drop, getD, set, length-append, length-drop, take-append-drop}
 use lib.Seq.{length-take-le, take-suc, drop-cons, getD-take, getD-drop, getD-at, set-at}
-use Rattle.halves.specs.LentSlices.{exchanged}
+use Rattle.halves.specs.Private.{traded}
 
 -- two words of a list exchanged, the list being written around them
 module _ (p m q r : List ℕ) (x y i n : ℕ) (front : length p ≡ i) (back : length (p ++ (x ∷ (m ++ q))) ≡ n) where
@@ -39,19 +39,19 @@ module _ (k i : ℕ) (xs : List ℕ) (low : i < k) (high : k + i < length xs) wh
   next-back : drop (k + i) xs ≡ getD xs (k + i) 0 ∷ drop (suc (k + i)) xs
   next-back = drop-cons xs (k + i) 0 high
 
-  apart : exchanged k i xs
+  apart : traded k i xs
       ≡ take i (drop k xs) ++ (getD xs i 0 ∷ (drop (suc i) (take k xs) ++ (take i xs ++ (getD xs (k + i) 0 ∷ drop (suc (k + i)) xs))))
-  unfolding exchanged
+  unfolding traded
   apart = rw (next-middle, next-back)
 
   together : take i (drop k xs) ++ (getD xs (k + i) 0 ∷ (drop (suc i) (take k xs) ++ (take i xs ++ (getD xs i 0 ∷ drop (suc (k + i)) xs))))
-      ≡ exchanged k (suc i) xs
-  unfolding exchanged
+      ≡ traded k (suc i) xs
+  unfolding traded
   together =
       rw (take-suc (drop k xs) i 0 (rw length-drop (omega arith)), take-suc xs i 0 (omega arith), getD-drop k xs i 0, add-suc k i)
       (simp append-assoc)
 
-  pub exchange-more : set (set (exchanged k i xs) i (getD (exchanged k i xs) (k + i) 0)) (k + i) (getD (exchanged k i xs) i 0) ≡ exchanged k (i + 1) xs
+  pub exchange-more : set (set (traded k i xs) i (getD (traded k i xs) (k + i) 0)) (k + i) (getD (traded k i xs) i 0) ≡ traded k (i + 1) xs
   exchange-more =
       let front : length (take i (drop k xs)) ≡ i = length-take-le i (drop k xs) (rw length-drop (omega arith)) in
       let mid : length (drop (suc i) (take k xs)) ≡ k - suc i = length-drop (suc i) (take k xs) ∙ ap (λ (n : ℕ). n - suc i) (length-take-le k xs (omega arith)) in
@@ -63,6 +63,6 @@ module _ (k i : ℕ) (xs : List ℕ) (low : i < k) (high : k + i < length xs) wh
       (two-words (take i (drop k xs)) (drop (suc i) (take k xs)) (take i xs) (drop (suc (k + i)) xs) (getD xs i 0) (getD xs (k + i) 0) i (k + i) front back ∙ together)
 
 -- nothing exchanged yet
-pub exchange-none : (k : ℕ) (xs : List ℕ) → xs ≡ exchanged k 0 xs
-unfolding exchanged
+pub exchange-none : (k : ℕ) (xs : List ℕ) → xs ≡ traded k 0 xs
+unfolding traded
 exchange-none k xs = sym (rw add-zero (take-append-drop k xs))

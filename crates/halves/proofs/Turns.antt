@@ -10,7 +10,7 @@ use lib.Seq.{length-take-le, getD-take, getD-drop}
 use lib.Arith.{digits-lt}
 use Rattle.lists.proofs.Decide.{lt-or-ge}
 use Rattle.halves.specs.Merge.{Merged}
-use Rattle.halves.specs.LentSlices.{Runs, Block, ChunksTurned}
+use Rattle.halves.specs.Private.{Runs, Block, ChunksTurned}
 use Rattle.halves.proofs.Merges.{in-front, behind}
 use Rattle.halves.proofs.Cuts.{Parted, Both, rows-cut, columns-cut}
 

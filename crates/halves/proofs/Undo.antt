@@ -10,7 +10,7 @@ use lib.ListN.{length, getD}
 use lib.Seq.{ext-getD}
 use Rattle.lists.proofs.Decide.{lt-or-ge}
 use Rattle.halves.specs.Merge.{Merged}
-use Rattle.halves.specs.LentSlices.{Runs}
+use Rattle.halves.specs.Private.{Runs}
 
 -- an offset below n · d in its two digits
 module _ (n d : ℕ) {k : ℕ} (h : k < n * d) where

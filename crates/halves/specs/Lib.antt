@@ -1,3 +1,3 @@
 pub mod Merge
-pub mod LentSlices
+pub mod Private
 pub mod Promise

@@ -6,7 +6,7 @@ ghost use mathlib.Core.Path.{_≡_};
 ghost use Prim.Native.Nat.{_+_, _*_, _<_, _≤_};
 ghost use lib.ListN.{length};
 ghost use Rattle.flat.specs.Turn.{Turn};
-ghost use Rattle.halves.specs.LentSlices.{Block, Crossed, Exchanged, CrossedChunks, ChunksTurned};
+ghost use Rattle.halves.specs.Private.{Block, Crossed, Exchanged, CrossedChunks, ChunksTurned};
 
 // Exchanges row i of an n by n block with column i, beyond the diagonal.
 fn cross(s: &mut [u32], n: usize, i: usize)

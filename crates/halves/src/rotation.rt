@@ -2,12 +2,12 @@
 ghost use mathlib.Core.Path.{_≡_};
 ghost use Prim.Native.Nat.{_+_, _≤_};
 ghost use lib.ListN.{length};
-ghost use Rattle.halves.specs.LentSlices.{exchanged, rotated};
+ghost use Rattle.halves.specs.Private.{traded, rotated};
 
 // Exchanges the first w words with the w words from k on.
 fn exchange(s: &mut [u32], k: usize, w: usize)
     requires { ⌜ (w ≤ k) × (k + w ≤ length (now s)) ⌝ }
-    ensures { λ _. ⌜ now (s .exit) ≡ exchanged k w (now (s .entry)) ⌝ }
+    ensures { λ _. ⌜ now (s .exit) ≡ traded k w (now (s .entry)) ⌝ }
 {
     let mut i = 0;
     while i < w {

@@ -1,7 +1,7 @@
 // Merge and split of runs, by recursion on contiguous parts, the run count falling to one.
 use crate::rotation::rotate;
 ghost use Rattle.halves.specs.Merge.{Merged};
-ghost use Rattle.halves.specs.LentSlices.{Runs};
+ghost use Rattle.halves.specs.Private.{Runs};
 
 // Merges n runs of p words and the n runs of q words that follow them: p, q, p, q and so on. The halves of two runs are one run each, which is
 // already merged: to ask here costs less than to call.

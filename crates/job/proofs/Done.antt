@@ -34,7 +34,7 @@ use Rattle.printer.proofs.Writes.{number-0}
 use Rattle.printer.proofs.RefusalLine.{length-refusal, line-fits}
 use Rattle.printer.proofs.InFull.{in-full}
 use Rattle.job.specs.Job.{jobWords, jobText, Done}
-use Rattle.job.specs.RunOn.{RunOn}
+use Rattle.job.specs.Private.{RunOn}
 use Rattle.job.proofs.Readings.{swapsOf, Turned-away, Taken}
 use Rattle.job.proofs.Sizes.{longest-le-volume}
 

@@ -13,7 +13,7 @@ use Rattle.checks.specs.Words.{capped}
 use Rattle.checks.proofs.Capped.{capped-few}
 use Rattle.axes.specs.declared.Answer.{Answer}
 use Rattle.axes.specs.Promises.{ChainPromise}
-use Rattle.job.specs.RunOn.{RunOn}
+use Rattle.job.specs.Private.{RunOn}
 
 -- a list's first four entries, read one by one
 pub first-four : (l : List ℕ) → 4 ≤ length l → getD l 0 0 ∷ getD l 1 0 ∷ getD l 2 0 ∷ getD l 3 0 ∷ [] ≡ take 4 l

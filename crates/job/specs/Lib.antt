@@ -1,2 +1,2 @@
 pub mod Job
-pub mod RunOn
+pub mod Private

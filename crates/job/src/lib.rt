@@ -3,7 +3,7 @@ ghost use Prim.Native.Nat.{_≤_};
 ghost use lib.ListN.{length};
 ghost use Rattle.layout.specs.Layout.{volume};
 ghost use Rattle.job.specs.Job.{Done};
-ghost use Rattle.job.specs.RunOn.{RunOn};
+ghost use Rattle.job.specs.Private.{RunOn};
 
 // Runs a chain on the block at the start of the words: the chain is lent the block's part only.
 fn run(words: &mut [u32], scratch: &mut [u32], lens: [usize; 4], swaps: &[usize]) -> axes::Answer

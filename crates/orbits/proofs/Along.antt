@@ -14,12 +14,12 @@ use Rattle.flat.specs.Turn.{Turn}
 use Rattle.orbits.specs.Orbit.{iter, Permutes, period}
 use Rattle.orbits.specs.Sent.{Sent}
 use Rattle.orbits.specs.Cycles.{takes, isLeast, cyclesFrom, cycles}
-use Rattle.orbits.specs.Along.{visits, carried, alongCycles}
+use Rattle.orbits.specs.Along.{handedOn, alongCycles}
 use Rattle.orbits.proofs.Orbit.{iter-within}
 use Rattle.orbits.proofs.Sent.{turn-iff}
 use Rattle.orbits.proofs.Takes.{takes-goes, takes-last, takes-permutes}
 use Rattle.orbits.proofs.Once.{In, Distinct, in-left, in-right, in-either, distinct-right, distinct-apart}
-use Rattle.orbits.proofs.Visits.{ring, in-ring, ring-has, apart, visited, visited-once, visited-low}
+use Rattle.orbits.proofs.Visits.{ring, in-ring, ring-has, apart, visited, visited-once, visited-low, visits}
 
 -- from one step on
 pub iter-shift : (f : ℕ → ℕ) (h x : ℕ) → iter f h (f x) ≡ iter f (suc h) x
@@ -28,8 +28,8 @@ iter-shift f zero x = refl
 iter-shift f (suc h) x = ap f (iter-shift f h x)
 
 -- as many words as before
-pub carried-length : (f : ℕ → ℕ) (count x word : ℕ) (words : List ℕ) → length (carried f count x word words) ≡ length words
-unfolding carried
+pub carried-length : (f : ℕ → ℕ) (count x word : ℕ) (words : List ℕ) → length (handedOn f count x word words) ≡ length words
+unfolding handedOn
 carried-length f zero x word words = refl
 carried-length f (suc count) x word words =
     carried-length f count (f x) (getD words (f x) 0) (set words (f x) word) ∙ length-set words (f x) word
@@ -64,8 +64,8 @@ carrying : (f : ℕ → ℕ) (count x : ℕ) (source : ℕ → ℕ) (word : ℕ)
     → ((h : ℕ) → 0 < h → h ≤ count → getD words (iter f h x) 0 ≡ source h)
     → ((h : ℕ) → 0 < h → h ≤ count → iter f h x < length words)
     → ((i j : ℕ) → 0 < i → i < j → j ≤ count → iter f i x ≡ iter f j x → ⊥)
-    → Carrying f count x source words (carried f count x word words)
-unfolding carried iter
+    → Carrying f count x source words (handedOn f count x word words)
+unfolding handedOn iter
 carrying f zero x source word words w s low n = record { long = refl; moved = λ h b. absurd (omega arith); stays = λ k o. refl }
 carrying f (suc count) x source word words w s low n =
     let other : (h : ℕ) → 0 < h → h ≤ count → iter f h (f x) ≡ f x → ⊥ =
@@ -103,7 +103,7 @@ record Moved (f : ℕ → ℕ) (l : List ℕ) (before after : List ℕ) : Type 0
 module _ {N : ℕ} {f : ℕ → ℕ} (p : Permutes N f) where
   -- along one cycle
   one-ring : (s : ℕ) → s < N → (words : List ℕ) → N ≤ length words
-      → Carrying f (period f N s) s (λ h. getD words (iter f h s) 0) words (carried f (period f N s) s (getD words s 0) words)
+      → Carrying f (period f N s) s (λ h. getD words (iter f h s) 0) words (handedOn f (period f N s) s (getD words s 0) words)
   unfolding iter
   one-ring s l words fits =
       carrying f (period f N s) s (λ h. getD words (iter f h s) 0) (getD words s 0) words refl
@@ -113,7 +113,7 @@ module _ {N : ℕ} {f : ℕ → ℕ} (p : Permutes N f) where
 
   -- along one and then along the others
   more-rings : (s : ℕ) (l : List ℕ) (words after : List ℕ) (low : s < N) → N ≤ length words → Distinct (ring p s low ++ visits f l)
-      → Moved f l (carried f (period f N s) s (getD words s 0) words) after → Moved f (s ∷ period f N s ∷ l) words after
+      → Moved f l (handedOn f (period f N s) s (getD words s 0) words) after → Moved f (s ∷ period f N s ∷ l) words after
   unfolding visits iter
   more-rings s l words after low fits d m = record {
     long = m .long ∙ c .long;
@@ -121,7 +121,7 @@ module _ {N : ℕ} {f : ℕ → ℕ} (p : Permutes N f) where
     stays = λ k o. m .stays k (λ i. o (in-right (ring p s low) (visits f l) i)) ∙ c .stays k (λ h a b e. o (in-left (ring p s low) (visits f l) (rw (← e) (ring-has p s low h))));
   }
     where
-      c : Carrying f (period f N s) s (λ h. getD words (iter f h s) 0) words (carried f (period f N s) s (getD words s 0) words)
+      c : Carrying f (period f N s) s (λ h. getD words (iter f h s) 0) words (handedOn f (period f N s) s (getD words s 0) words)
       c = one-ring s low words fits
 
       own : {y : ℕ} → In y (ring p s low) → getD after (f y) 0 ≡ getD words y 0
@@ -129,7 +129,7 @@ module _ {N : ℕ} {f : ℕ → ℕ} (p : Permutes N f) where
           let (h, b, e) = in-ring p s low i in
           let next : iter f (suc h) s ≡ f y = ap f e in
           m .stays (f y) (λ k. distinct-apart (ring p s low) (visits f l) d (rw (← next) (ring-has p s low (suc h))) k)
-          ∙ ap (λ (z : ℕ). getD (carried f (period f N s) s (getD words s 0) words) z 0) (sym next)
+          ∙ ap (λ (z : ℕ). getD (handedOn f (period f N s) s (getD words s 0) words) z 0) (sym next)
           ∙ c .moved h b
           ∙ ap (λ (z : ℕ). getD words z 0) e
 
@@ -141,7 +141,7 @@ module _ {N : ℕ} {f : ℕ → ℕ} (p : Permutes N f) where
   all-rings l none d words fits = record { long = refl; moved = λ i. absurd (not-suc-le-zero (i .low)); stays = λ k o. refl }
   all-rings l′ (more {s = s} {l = l} low r) d words fits =
       more-rings s l words _ low fits d
-      (all-rings l r (distinct-right (ring p s low) (visits f l) d) (carried f (period f N s) s (getD words s 0) words)
+      (all-rings l r (distinct-right (ring p s low) (visits f l) d) (handedOn f (period f N s) s (getD words s 0) words)
       (omega (arith, fits, one-ring s low words fits .long)))
 
 -- the words of a block moved along the cycles of the right list are the turn

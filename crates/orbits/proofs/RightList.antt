@@ -11,14 +11,13 @@ use lib.Seq.{drop-nil}
 use Rattle.lists.proofs.Decide.{eq-or-ne}
 use Rattle.orbits.specs.Orbit.{iter, Permutes, Period, period}
 use Rattle.orbits.specs.Cycles.{takes, isLeast, cyclesFrom, cycles, pairAt, Pair, EveryCycleOnce}
-use Rattle.orbits.specs.Along.{visits, lengthsOf}
 use Rattle.orbits.proofs.Orbit.{period-is, one-period}
 use Rattle.orbits.proofs.Least.{least-is, least-all}
 use Rattle.orbits.proofs.Takes.{takes-permutes}
 use Rattle.orbits.proofs.Pairs.{pair-next, first-pair}
 use Rattle.orbits.proofs.Once.{In, Distinct}
 use Rattle.orbits.proofs.Roots.{root, one-root}
-use Rattle.orbits.proofs.Visits.{visited, visited-once, visited-low, lengths-all}
+use Rattle.orbits.proofs.Visits.{visited, visited-once, visited-low, lengths-all, visits, lengthsOf}
 
 -- a list that is empty, and a pair that is not there
 nothing : (list : List ℕ) → pairAt 0 list ≡ [] → list ≡ []

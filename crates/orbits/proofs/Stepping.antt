@@ -8,7 +8,7 @@ use native.Mathlib.Omega.{arith}
 use Rattle.orbits.specs.Cycles.{takes}
 use Rattle.orbits.proofs.Inverse.{scale, by-inverse}
 use Rattle.orbits.proofs.Takes.{takes-split}
-use Rattle.orbits.specs.Steps.{Small, Inverse}
+use Rattle.orbits.specs.Private.{Small, Reciprocal}
 
 module _ {m n : ℕ} (s : Small m n) where
   pub columns : 0 < n
@@ -23,7 +23,7 @@ module _ {m n : ℕ} (s : Small m n) where
   few-rows : m ≤ 1048576
   few-rows = omega (arith, s .few, mul-le-mul-right m columns, mul-comm m n)
 
-  module _ {inverse x : ℕ} (i : Inverse n inverse) (h : x < m * n) where
+  module _ {inverse x : ℕ} (i : Reciprocal n inverse) (h : x < m * n) where
     pub product : x * inverse ≤ 1048576 * 1099511627777
     product =
         let short : x ≤ 1048576 = omega (arith, s .few) in

@@ -13,11 +13,22 @@ use Rattle.lists.proofs.Tab.{length-tab, getD-tab}
 use Rattle.lists.proofs.Decide.{lt-or-ge, eq-or-ne}
 use Rattle.orbits.specs.Orbit.{iter, Permutes, period}
 use Rattle.orbits.specs.Cycles.{isLeast, cyclesFrom}
-use Rattle.orbits.specs.Along.{visits, lengthsOf}
 use Rattle.orbits.proofs.Orbit.{iter-add, iter-within, iter-apart, period-is}
 use Rattle.orbits.proofs.Least.{iter-mod}
 use Rattle.orbits.proofs.Once.{In, Distinct, in-left, in-right, in-either, distinct-both, counted}
 use Rattle.orbits.proofs.Roots.{Root, root, one-root}
+
+-- the offsets that the cycles of a flat list visit: from each start on, as many as its length
+unfoldable pub visits : (ℕ → ℕ) → List ℕ → List ℕ
+visits f [] = []
+visits f (start ∷ []) = []
+visits f (start ∷ count ∷ rest) = tab count (λ h. iter f h start) ++ visits f rest
+
+-- the lengths of a flat list, added up
+unfoldable pub lengthsOf : List ℕ → ℕ
+lengthsOf [] = 0
+lengthsOf (start ∷ []) = 0
+lengthsOf (start ∷ count ∷ rest) = count + lengthsOf rest
 
 -- what a list visits is as long as its lengths say
 pub visits-length : (f : ℕ → ℕ) (l : List ℕ) → length (visits f l) ≡ lengthsOf l

@@ -8,7 +8,7 @@ use Rattle.orders.specs.Chains.{exchange, follow, named}
 use Rattle.orders.specs.Numbers.{arrangements, orders, orderOf, rank, numberOf}
 use Rattle.orders.specs.Releases.{numberBy}
 use Rattle.orders.specs.Plans.{under, falling, relabelled, firstBack, planned, planOf}
-use Rattle.orders.specs.Needs.{exchanged, chainNeed}
+use Rattle.orders.specs.Needs.{swapNeed, chainNeed}
 
 -- orders 0, 1, 2, 6, 9, 16, 18 and 23
 pub numbers-4 : map (orderOf 4) (0 ∷ 1 ∷ 2 ∷ 6 ∷ 9 ∷ 16 ∷ 18 ∷ 23 ∷ [])
@@ -32,7 +32,7 @@ chains-4 = refl
 pub needs-4 : map (chainNeed (4096 ∷ 1 ∷ 2 ∷ 3 ∷ []))
     ((2 ∷ []) ∷ [] ∷ (1 ∷ []) ∷ (0 ∷ []) ∷ (2 ∷ 2 ∷ []) ∷ (1 ∷ 2 ∷ []) ∷ (2 ∷ 1 ∷ 0 ∷ []) ∷ [])
     ≡ 3 ∷ 0 ∷ 2 ∷ 4096 ∷ 3 ∷ 3 ∷ 4096 ∷ []
-unfolding exchange exchanged chainNeed
+unfolding exchange swapNeed chainNeed
 needs-4 = refl
 
 -- the release 1 numbers of the orders that the numbers 0 to 23 name in release 2: 18 for 9 and 9 for 18

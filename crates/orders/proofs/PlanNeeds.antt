@@ -18,7 +18,7 @@ use Rattle.layout.proofs.Picks.{places-undo}
 use Rattle.orders.specs.Chains.{exchange, follow, named}
 use Rattle.orders.specs.Numbers.{orderCount, orderOf}
 use Rattle.orders.specs.Plans.{under, falling, relabelled, planned, planOf}
-use Rattle.orders.specs.Needs.{exchanged, chainNeed, planNeed, longestUnder, longestFalling}
+use Rattle.orders.specs.Needs.{swapNeed, chainNeed, planNeed}
 use Rattle.orders.proofs.Swaps.{exchange-exchange, length-exchange, exchange-past}
 use Rattle.orders.proofs.Chains.{length-follow, follow-home, pick-named, undoes}
 use Rattle.orders.proofs.Counts.{equal-none, count, pairs}
@@ -28,6 +28,16 @@ use Rattle.orders.proofs.Relabels.Label.{low, high, other}
 use Rattle.orders.proofs.Falling.{upper-first, falling-upto}
 use Rattle.orders.proofs.Plans.{Starts, start, starts, left, plan-is}
 use Rattle.orders.proofs.Needs.{two-at, exchanged-again, larger-part, need-back, need-reverse}
+
+-- the longest axis among those that stand in falling order with axis a, which stands before them
+unfoldable pub longestUnder : List ℕ → ℕ → List ℕ → ℕ
+longestUnder ds a [] = 0
+longestUnder ds a (b ∷ o) = max (cond (ltb b a) (max (getD ds a 0) (getD ds b 0)) 0) (longestUnder ds a o)
+
+-- the longest axis among the pairs of places that stand in falling order
+unfoldable pub longestFalling : List ℕ → List ℕ → ℕ
+longestFalling ds [] = 0
+longestFalling ds (a ∷ o) = max (longestUnder ds a o) (longestFalling ds o)
 
 -- the lengths after a swap, by place
 at-low : (k : ℕ) (ds : List ℕ) → suc k < length ds → getD (exchange k ds) k 0 ≡ getD ds (suc k) 0
@@ -95,7 +105,7 @@ within-both w u v h g = omega arith
 
 -- beside the two axes that are exchanged, what falls before a swap falls after it, with the same lengths
 module _ (k : ℕ) (ds : List ℕ) (h : suc k < length ds) where
-  pair-within : (a b : ℕ) → counts ds a b ≤ max (exchanged k ds) (counts (exchange k ds) (relabelled k a) (relabelled k b))
+  pair-within : (a b : ℕ) → counts ds a b ≤ max (swapNeed k ds) (counts (exchange k ds) (relabelled k a) (relabelled k b))
   pair-within a b =
       ⊎-elim
       (λ (l : b < a). ⊎-elim
@@ -113,19 +123,19 @@ module _ (k : ℕ) (ds : List ℕ) (h : suc k < length ds) where
       (lt-or-ge b a)
 
   under-within : (a : ℕ) (l : List ℕ)
-      → longestUnder ds a l ≤ max (exchanged k ds) (longestUnder (exchange k ds) (relabelled k a) (map (relabelled k) l))
+      → longestUnder ds a l ≤ max (swapNeed k ds) (longestUnder (exchange k ds) (relabelled k a) (map (relabelled k) l))
   unfolding longestUnder counts
   under-within a [] = zero-le
-  under-within a (b ∷ l) = within-both (exchanged k ds) _ _ (pair-within a b) (under-within a l)
+  under-within a (b ∷ l) = within-both (swapNeed k ds) _ _ (pair-within a b) (under-within a l)
 
-  falling-within : (o : List ℕ) → longestFalling ds o ≤ max (exchanged k ds) (longestFalling (exchange k ds) (map (relabelled k) o))
+  falling-within : (o : List ℕ) → longestFalling ds o ≤ max (swapNeed k ds) (longestFalling (exchange k ds) (map (relabelled k) o))
   unfolding longestFalling
   falling-within [] = zero-le
-  falling-within (a ∷ o) = within-both (exchanged k ds) _ _ (under-within a o) (falling-within o)
+  falling-within (a ∷ o) = within-both (swapNeed k ds) _ _ (under-within a o) (falling-within o)
 
 -- and the other way round
 falling-back : (k : ℕ) (ds : List ℕ) → suc k < length ds → (o : List ℕ)
-    → longestFalling (exchange k ds) (map (relabelled k) o) ≤ max (exchanged k ds) (longestFalling ds o)
+    → longestFalling (exchange k ds) (map (relabelled k) o) ≤ max (swapNeed k ds) (longestFalling ds o)
 falling-back k ds h o =
     rw (exchanged-again k ds, exchange-exchange k ds, map-relabel-twice k o)
     at (falling-within k (exchange k ds) (rw (length-exchange k ds) h) (map (relabelled k) o))
@@ -183,7 +193,7 @@ module _ {r : ℕ} where
       ⊎-elim
       (λ (h : suc k < r).
       let i : suc k < length ds = rw e h in
-      let ih = larger-part (exchanged k ds) (chain-needs es c (length-exchange k ds ∙ e)) in
+      let ih = larger-part (swapNeed k ds) (chain-needs es c (length-exchange k ds ∙ e)) in
       let w = rw map-relabel-twice at (falling-within k ds i (map (relabelled k) (named r c))) in
       rw (named-front r k c h) (omega (arith, ih, w)))
       (λ (h : r ≤ suc k).
@@ -204,9 +214,9 @@ module _ {r : ℕ} where
       let ih = planned-need n (exchange k ds) (k ∷ c) (length-exchange k ds ∙ e) (left r n c h s) in
       let front : named r (k ∷ c) ≡ map (relabelled k) o = named-front r k c (s .0) in
       let rest : chainNeed (exchange k ds) (planned n (map (relabelled k) o)) ≡ longestFalling (exchange k ds) (map (relabelled k) o) = rw front at ih in
-      let first : exchanged k ds ≤ longestFalling ds o =
+      let first : swapNeed k ds ≤ longestFalling ds o =
       omega (arith, two-at k ds i, pair-counts ds (suc k) k o (omega arith) (upper-first r k c (s .0) (omega (arith, s .1)))) in
-      ap (max (exchanged k ds)) rest ∙ omega (arith, falling-within k ds i o, falling-back k ds i o)
+      ap (max (swapNeed k ds)) rest ∙ omega (arith, falling-within k ds i o, falling-back k ds i o)
 
   -- the need of a plan is the longest axis among the pairs of places that stand in falling order
   pub plan-need : (ds c : List ℕ) → length ds ≡ r → chainNeed ds (planOf (named r c)) ≡ longestFalling ds (named r c)

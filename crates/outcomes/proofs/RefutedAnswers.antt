@@ -14,7 +14,7 @@ use Rattle.orders.specs.Chains.{exchange}
 use Rattle.orders.specs.Numbers.{arrangements, orders, orderOf, orderCount, rank, numberOf}
 use Rattle.orders.specs.Releases.{numberBy}
 use Rattle.orders.specs.Plans.{under, falling, relabelled, firstBack, planned, planOf}
-use Rattle.orders.specs.Needs.{exchanged, chainNeed}
+use Rattle.orders.specs.Needs.{swapNeed, chainNeed}
 use Rattle.refusals.specs.FirstOf.{Check, check, firstOf}
 use Rattle.refusals.specs.Conditions.{badLength, longest, firstPlace, noRelease}
 use Rattle.refusals.specs.Calls.{sizeChecks, blockChecks, passesChecks, swapChecks, planChecks}
@@ -223,7 +223,7 @@ numbers =
     ∷ []
 
 pub numbers-refuted : Refuted numbers
-unfolding volume longest exchange exchanged chainNeed firstPlace arrangements orders orderOf rank numberOf placeOf places
+unfolding volume longest exchange swapNeed chainNeed firstPlace arrangements orders orderOf rank numberOf placeOf places
 numbers-refuted = refuted numbers refl
 
 abbrev pub truths : List (Row Bool)

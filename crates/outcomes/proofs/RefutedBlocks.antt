@@ -14,7 +14,7 @@ use Rattle.orders.specs.Chains.{exchange, follow, named}
 use Rattle.orders.specs.Numbers.{arrangements, orders, orderOf, orderCount, rank, numberOf}
 use Rattle.orders.specs.Releases.{orderBy}
 use Rattle.orders.specs.Plans.{under, falling, relabelled, firstBack, planned, planOf}
-use Rattle.orders.specs.Needs.{exchanged, chainNeed, planNeed}
+use Rattle.orders.specs.Needs.{swapNeed, chainNeed, planNeed}
 use Rattle.orders.proofs.Distinct.{count-orders, count-pos}
 use Rattle.refusals.specs.FirstOf.{check}
 use Rattle.refusals.specs.Conditions.{longest, shortScratch, noOrder, firstPlace}
@@ -388,7 +388,7 @@ axes =
     ∷ []
 
 pub axes-refuted : Refuted axes
-unfolding volume at pick placeOf places coords laid exchange follow named arrangements orders orderOf rank numberOf under falling relabelled firstBack planned planOf exchanged chainNeed firstPlace
+unfolding volume at pick placeOf places coords laid exchange follow named arrangements orders orderOf rank numberOf under falling relabelled firstBack planned planOf swapNeed chainNeed firstPlace
 axes-refuted = refuted axes refl
 
 -- an order number above the last has no plan, so that its request needs no scratch: where 7 holds, 4 does not

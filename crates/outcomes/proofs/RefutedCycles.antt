@@ -23,7 +23,7 @@ use Rattle.orbits.specs.Sent.{goes}
 use Rattle.orbits.specs.Cycles.{takes, isLeast, cyclesFrom, cycles, pairAt, Pair, FirstOther}
 use Rattle.orbits.proofs.RightList.{every-cycle-once}
 use Rattle.cycles.specs.declared.Judged.{Judged}
-use Rattle.cycles.specs.Promise.{wrongCycles, cycleChecks, runChecks, Answers, JudgedAs, RunAs}
+use Rattle.cycles.specs.Promise.{wrongCycles, cycleChecks, runChecks, JudgedAfter, JudgedAs, RunAs}
 use Rattle.cycles.proofs.OneOutcome.{judge-once}
 use Rattle.outcomes.proofs.Wrong.{Case, Row, Refuted, refuted}
 use Rattle.outcomes.proofs.Wrong.Row.{wrong, gives, late, refuses}
@@ -51,10 +51,10 @@ module _ (checks : List Check) (m n : ℕ) (list : List ℕ) (p : ℕ) where
   abbrev pub placed : ℕ → Bool
   placed k = only-where (eqb k 22) (λ _. differs-at list (cycles m n) p .passes)
 
-  pub judges : (k : ℕ) → k ≡ firstOf checks → T (placed k) → Answers checks m n list (judged k)
+  pub judges : (k : ℕ) → k ≡ firstOf checks → T (placed k) → JudgedAfter checks m n list (judged k)
   judges k e t = go (eqb k 22) refl t
     where
-      go : (b : Bool) → eqb k 22 ≡ b → T (only-where b (λ _. differs-at list (cycles m n) p .passes)) → Answers checks m n list (answer k (cond b p 0))
+      go : (b : Bool) → eqb k 22 ≡ b → T (only-where b (λ _. differs-at list (cycles m n) p .passes)) → JudgedAfter checks m n list (answer k (cond b p 0))
       go true z t = record { number-is = e; differs = λ _. differs-at list (cycles m n) p .sound t; otherwise = λ o. absurd (o (eqb-true k 22 z)) }
       go false z t = record { number-is = e; differs = λ d. absurd (eqb-false k 22 z d); otherwise = λ _. refl }
 

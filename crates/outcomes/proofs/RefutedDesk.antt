@@ -21,7 +21,7 @@ use Rattle.desk.specs.Exchange.{offsetOf, delayOf}
 use Rattle.desk.specs.Frames.{nearestFrame}
 use Rattle.desk.specs.Shifts.{through, largest, endOf}
 use Rattle.desk.specs.Promises.{MeasuredAs, FramesAs, JoinedAs}
-use Rattle.choice.specs.Choice.{exchanges, exchange, delayAt, usable, Best, FirstWins, SecondWins}
+use Rattle.choice.specs.Choice.{exchanges, fourAt, delayAt, usable, Best, FirstWins, SecondWins}
 use Rattle.choice.specs.Conditions.{chooseChecks}
 use Rattle.choice.specs.Promises.{Four, ChosenAs}
 use Rattle.choice.specs.Promises.Four.{of-first, of-second}
@@ -244,12 +244,12 @@ module _ (first second : List ℤ) where
   -- exchange j of the first path wins, or of the second
   abbrev pub choose-first : ℕ → Case Part
   choose-first j =
-      choosing (part 1 (0 + 4 * j * 8) (exchange first j)) (λ _. first-wins first second j .passes)
+      choosing (part 1 (0 + 4 * j * 8) (fourAt first j)) (λ _. first-wins first second j .passes)
       (λ t. of-first j (first-wins first second j .sound t) (record { readings = refl; block = refl; place = refl }))
 
   abbrev pub choose-second : ℕ → Case Part
   choose-second j =
-      choosing (part 2 (0 + 4 * j * 8) (exchange second j)) (λ _. second-wins first second j .passes)
+      choosing (part 2 (0 + 4 * j * 8) (fourAt second j)) (λ _. second-wins first second j .passes)
       (λ t. of-second j (second-wins first second j .sound t) (record { readings = refl; block = refl; place = refl }))
 
 abbrev block : Part → List ℕ

@@ -7,7 +7,7 @@ use lib.ListN.{length, take, drop, replicate}
 use Rattle.layout.specs.Layout.{volume, at, pick, coords, placeOf, places, laid}
 use Rattle.orders.specs.Chains.{exchange, follow, named}
 use Rattle.orders.specs.Numbers.{arrangements, orders, rank, numberOf}
-use Rattle.orders.specs.Needs.{exchanged, chainNeed}
+use Rattle.orders.specs.Needs.{swapNeed, chainNeed}
 use Rattle.refusals.specs.FirstOf.{Check, check, firstOf}
 use Rattle.refusals.specs.Conditions.{badLength, shortBuffer, longChain, badSwap, noOrder, firstPlace}
 use Rattle.text.specs.Print.{digits, decimal, field, fields, line}
@@ -427,5 +427,5 @@ jobs =
     ∷ []
 
 pub jobs-refuted : Refuted jobs
-unfolding sheetText resultBy refusalText rowsText rowCount rowWidth volume line fields field decimal digits readMore readNumber readField readFields closed readLine tabs shapeLine chainLine rowLines ended meaningBy firstPlace at pick coords placeOf places laid exchange follow named arrangements orders rank numberOf exchanged chainNeed
+unfolding sheetText resultBy refusalText rowsText rowCount rowWidth volume line fields field decimal digits readMore readNumber readField readFields closed readLine tabs shapeLine chainLine rowLines ended meaningBy firstPlace at pick coords placeOf places laid exchange follow named arrangements orders rank numberOf swapNeed chainNeed
 jobs-refuted = refuted jobs refl

@@ -16,7 +16,7 @@ use Rattle.refusals.proofs.Conditions.{Valid, InRange, valid, enough-scratch}
 use Rattle.refusals.proofs.Conditions.InRange.{none, more}
 use Rattle.flat.specs.Turn.{sides, Turn}
 use Rattle.flat.proofs.Turn.{volume-two, from-literal, turn-home}
-use Rattle.passes.specs.ThroughScratch.{Grouped, Lies, Past, TurnedAt}
+use Rattle.passes.specs.PrivateScratch.{Grouped, Lies, Past, WordsTurned}
 use Rattle.passes.specs.Promises.{TurnPromise, TurnBackPromise}
 use Rattle.passes.specs.declared.line.GroupedSides.{GroupedSides}
 use Rattle.passes.proofs.Fits.{side-need}
@@ -60,7 +60,7 @@ flat-lies {m} {n} a = record {
 }
 
 -- turned there, it is turned
-pub flat-turned : (m n : ℕ) (xs ys : List ℕ) → TurnedAt m n 0 1 xs ys → Turn m n xs ys
+pub flat-turned : (m n : ℕ) (xs ys : List ℕ) → WordsTurned m n 0 1 xs ys → Turn m n xs ys
 flat-turned m n xs ys t =
     from-literal m n xs ys (t .same)
     (λ i j hi hj.
@@ -82,8 +82,8 @@ module _ {m n : ℕ} {s : GroupedSides} (is : (s .m ≡ m) × (s .n ≡ n) × Gr
   flat-asked a = (is .2, rw (is .0, is .1) (flat-lies a))
 
   module _ {b₀ sc₀ b sc sc′ : List ℕ} (good : firstOf (passesChecks (sides m n) b₀ sc₀) ≡ 0) (zeroed : sc′ ≡ cleared (need (sides m n)) sc) where
-    pub turn-outcome : TurnedAt (s .m) (s .n) 0 1 b₀ b × Past (need (sides (s .m) (s .n))) sc₀ sc → TurnPromise m n b₀ sc₀ 0 b sc′
+    pub turn-outcome : WordsTurned (s .m) (s .n) 0 1 b₀ b × Past (need (sides (s .m) (s .n))) sc₀ sc → TurnPromise m n b₀ sc₀ 0 b sc′
     turn-outcome t = let u = rw (is .0, is .1) at t in accepted good (flat-turned m n b₀ b (u .0)) (zeroed ∙ past-cleared (u .1))
 
-    pub turn-back-outcome : TurnedAt (s .m) (s .n) 0 1 b b₀ × Past (need (sides (s .m) (s .n))) sc₀ sc → TurnBackPromise m n b₀ sc₀ 0 b sc′
+    pub turn-back-outcome : WordsTurned (s .m) (s .n) 0 1 b b₀ × Past (need (sides (s .m) (s .n))) sc₀ sc → TurnBackPromise m n b₀ sc₀ 0 b sc′
     turn-back-outcome t = let u = rw (is .0, is .1) at t in accepted good (turn-home (flat-turned m n b b₀ (u .0))) (zeroed ∙ past-cleared (u .1))

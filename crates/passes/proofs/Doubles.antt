@@ -7,7 +7,7 @@ use native.Mathlib.Nat.{mul-le-mul-right, add-mul, one-mul}
 use native.Mathlib.Numerals.{add-one}
 use native.Mathlib.Omega.{arith}
 use Rattle.lists.proofs.Decide.{lt-or-ge}
-use Rattle.passes.specs.Chunks.{doubled, FewHalvings}
+use Rattle.passes.specs.PrivateChunks.{doubled, FewHalvings}
 
 doubled-some : (h side : ℕ) → 0 < side → 0 < doubled h side
 unfolding doubled

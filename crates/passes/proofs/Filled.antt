@@ -15,7 +15,7 @@ use Rattle.orbits.specs.Orbit.{first}
 use Rattle.orbits.proofs.First.{first-holds, first-least}
 use Rattle.stages.proofs.Filled.{filled, length-filled, filled-at, filled-others}
 use Rattle.passes.specs.Lines.{posOn}
-use Rattle.passes.specs.ThroughScratch.{Apart, Inside, Filled, Lifted}
+use Rattle.passes.specs.PrivateScratch.{Apart, Inside, Filled, Lifted}
 use Rattle.passes.specs.declared.line.Line.{Line}
 
 pub filled-none : (to word : ℕ → ℕ) (xs : List ℕ) → Filled to word 0 xs xs

@@ -16,7 +16,7 @@ use Rattle.refusals.specs.Scratch.{need}
 use Rattle.flat.specs.Turn.{sides}
 use Rattle.flat.proofs.Sides.{sides-are, row1-lt, column2-lt, row3-lt, rows1-apart, columns-apart, rows3-apart}
 use Rattle.passes.specs.Lines.{column, row, lineAt, paired}
-use Rattle.passes.specs.ThroughScratch.{Apart, Fits, Lies, Past}
+use Rattle.passes.specs.PrivateScratch.{Apart, Fits, Lies, Past}
 use Rattle.passes.specs.declared.line.Line.{Line}
 use Rattle.passes.proofs.Strided.{line1, line2, line3, column-at, row-at}
 

@@ -10,7 +10,7 @@ use Rattle.refusals.specs.Scratch.{need}
 use Rattle.flat.specs.Turn.{sides}
 use Rattle.flat.specs.Passes.{columnGroup}
 use Rattle.passes.specs.Lines.{LineMoved, skipped, lineCount, lineOf}
-use Rattle.passes.specs.ThroughScratch.{Grouped, Lies, Fits, Past, TurnedAt}
+use Rattle.passes.specs.PrivateScratch.{Grouped, Lies, Fits, Past, WordsTurned}
 use Rattle.passes.specs.declared.line.GroupedSides.{GroupedSides}
 use Rattle.passes.proofs.Fits.{line-fits, line-short, past-none, past-more, lies-in}
 use Rattle.passes.proofs.Strided.{LineStep, skipped-le, groups-le, lines-turn}
@@ -67,7 +67,7 @@ module _ {s : GroupedSides} {base chunk : ℕ} {b₀ sc₀ : List ℕ} (sound : 
       h′ : l + 1 ≤ lineCount (s .m) (s .n)
       h′ = omega arith
 
-  pub forth-all : {l : ℕ} {b sc : List ℕ} → l ≡ lineCount (s .m) (s .n) → Forth s base chunk b₀ sc₀ l b sc → TurnedAt (s .m) (s .n) base chunk b₀ b
+  pub forth-all : {l : ℕ} {b sc : List ℕ} → l ≡ lineCount (s .m) (s .n) → Forth s base chunk b₀ sc₀ l b sc → WordsTurned (s .m) (s .n) base chunk b₀ b
   forth-all {l} {b} e f =
       lines-turn (s .m) (s .n) base chunk (sound .m-pos) (sound .n-pos) (lies .apart) (columnGroup (s .m) (s .n)) (le-refl _)
       (subst (λ (z : ℕ). Ran (LineStep (s .m) (s .n) base chunk) z (columnGroup (s .m) (s .n)) b₀ b) (omega (arith, left-out)) (f .ran))
@@ -94,5 +94,5 @@ module _ {s : GroupedSides} {base chunk : ℕ} {b₀ sc₀ : List ℕ} (sound : 
       h′ = omega (arith, left-out)
 
   pub home-none : {l : ℕ} {b sc : List ℕ} → skipped (s .m) (s .n) + l ≡ columnGroup (s .m) (s .n) → Home s base chunk b₀ sc₀ l b sc
-      → TurnedAt (s .m) (s .n) base chunk b b₀
+      → WordsTurned (s .m) (s .n) base chunk b b₀
   home-none {l} e f = lines-turn (s .m) (s .n) base chunk (sound .m-pos) (sound .n-pos) (lies .apart) (skipped (s .m) (s .n) + l) (omega arith) (f .ran)

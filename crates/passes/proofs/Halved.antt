@@ -11,12 +11,12 @@ use Rattle.layout.specs.Layout.{Laid, Within, at, pick}
 use Rattle.layout.specs.Layout.Within.{none, more}
 use Rattle.refusals.specs.Calls.{swapBlock}
 use Rattle.refusals.specs.Promise.{middle}
-use Rattle.halves.specs.LentSlices.{TurnedAt}
+use Rattle.halves.specs.Private.{TurnedAt}
 use Rattle.halves.specs.Promise.{TurnChunksPromise}
 use Rattle.halves.proofs.Lent.{chunks-accept}
 use Rattle.halves.proofs.Blocks.{laid-turned, part-turned, block-ends}
-use Rattle.passes.specs.ThroughScratch.{Grouped, BlocksLie}
-use Rattle.passes.specs.Chunks.{PartLies}
+use Rattle.passes.specs.PrivateScratch.{Grouped, BlocksLie}
+use Rattle.passes.specs.PrivateChunks.{PartLies}
 use Rattle.passes.specs.declared.line.GroupedSides.{GroupedSides}
 use Rattle.passes.proofs.Swaps.{swap-at, by-chunks}
 

@@ -4,7 +4,7 @@ use mathlib.Core.Path.{_≡_, sym, ap, _∙_}
 use Prim.Native.Nat.{ℕ, _+_, _%_, _<_}
 use native.Mathlib.Omega.{arith}
 use Rattle.walks.proofs.Steps.{walk-start, walk-more, walk-two, walk-lt}
-use Rattle.passes.specs.ThroughScratch.{stands}
+use Rattle.passes.specs.PrivateScratch.{stands}
 use Rattle.passes.specs.declared.walk.Walk.{Walk}
 
 pub record Lanes (w : Walk) (place t p q : ℕ) : Type 0 where

@@ -13,7 +13,7 @@ use Rattle.flat.specs.Passes.{row1, column2, source2, row3}
 use Rattle.flat.proofs.Sides.{Sides}
 use Rattle.flat.proofs.Passes.{source-is}
 use Rattle.passes.specs.Lines.{Moved, LineMoved, posOn, paired, received, toPlace, fromPlace}
-use Rattle.passes.specs.ThroughScratch.{OfPass, Filled, Lifted, Fits, Past}
+use Rattle.passes.specs.PrivateScratch.{OfPass, Filled, Lifted, Fits, Past}
 use Rattle.passes.specs.declared.line.Line.{Line}
 use Rattle.passes.proofs.Filled.{all-lifted}
 

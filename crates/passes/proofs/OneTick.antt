@@ -19,7 +19,7 @@ use Rattle.refusals.specs.Calls.{passesChecks}
 use Rattle.refusals.proofs.Promise.{one-outcome}
 use Rattle.flat.specs.Turn.{sides}
 use Rattle.passes.specs.Lines.{Moved, lineCount, paired, toPlace}
-use Rattle.passes.specs.ThroughScratch.{Fits}
+use Rattle.passes.specs.PrivateScratch.{Fits}
 use Rattle.passes.specs.Plain.{LineTicked}
 use Rattle.passes.specs.Ticks.{TickPromise, LinesPromise}
 use Rattle.passes.specs.declared.line.Line.{Line}

@@ -14,7 +14,7 @@ use Rattle.refusals.proofs.FirstOf.{refused-by, passed-first, through}
 use Rattle.flat.specs.Turn.{sides}
 use Rattle.stages.specs.Stages.{Memory, call}
 use Rattle.passes.specs.Lines.{lineCount}
-use Rattle.passes.specs.ThroughScratch.{Grouped, Mapped}
+use Rattle.passes.specs.PrivateScratch.{Grouped, Mapped}
 use Rattle.passes.specs.Restart.{turnStages, pastStages, resumeChecks, ResumePromise}
 use Rattle.passes.specs.declared.line.GroupedSides.{GroupedSides}
 use Rattle.passes.proofs.Accepted.{Accepted, flat-asked}

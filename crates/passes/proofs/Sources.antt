@@ -8,11 +8,11 @@ use lib.ListN.{length}
 use Rattle.numbers.specs.Gcd.{gcdOf}
 use Rattle.flat.specs.Passes.{columnGroup, source2}
 use Rattle.flat.proofs.Sides.{sides-are, Sides}
-use Rattle.walks.specs.Source.{At}
-use Rattle.walks.specs.Walk.{walk}
+use Rattle.walks.specs.PrivateSource.{StateAt}
+use Rattle.walks.specs.PrivateWalk.{walk}
 use Rattle.walks.proofs.Passes.{shared-le}
 use Rattle.walks.proofs.Source.{state-first, next-group, next-lap, next-round, source-at, column-lt, source-lone, sources-before, sources-from}
-use Rattle.passes.specs.ThroughScratch.{Grouped, StandsAt, Low, Inside, GroupFits, alone}
+use Rattle.passes.specs.PrivateScratch.{Grouped, StandsAt, Low, Inside, GroupFits, alone}
 use Rattle.passes.specs.declared.line.GroupedSides.{GroupedSides}
 use Rattle.passes.specs.declared.line.Line.{Line}
 use Rattle.passes.specs.declared.source.Source.{Source}
@@ -69,20 +69,20 @@ module _ {s : GroupedSides} (g : Grouped s) where
 
   -- the source of place 0, where its row and group do not reach m, and where they do
   module _ (i k : ℕ) (t : Start s i k) where
-    first-at : let q = s .inverse * ((s .n - 1) * k) % s .b in At (s .m) (s .n) i 0 (k * s .c - i) q ((q + k * s .c / s .m) % s .b)
+    first-at : let q = s .inverse * ((s .n - 1) * k) % s .b in StateAt (s .m) (s .n) i 0 (k * s .c - i) q ((q + k * s .c / s .m) % s .b)
     first-at = rw (g .b-is, g .c-is) (state-first sides (g .inverse-is) i k (g .n-pos) (rw (g .c-is) at (t .low)) (rw (g .c-is) at (t .high)))
 
-    pub first-short : k * s .c < s .m → let q = s .inverse * ((s .n - 1) * k) % s .b in At (s .m) (s .n) i 0 (k * s .c - i) q q
+    pub first-short : k * s .c < s .m → let q = s .inverse * ((s .n - 1) * k) % s .b in StateAt (s .m) (s .n) i 0 (k * s .c - i) q q
     first-short h =
         let q = s .inverse * ((s .n - 1) * k) % s .b in
         let e : (q + k * s .c / s .m) % s .b ≡ q = ap (λ (z : ℕ). (q + z) % s .b) (div-eq-of-lt h) ∙ ap (λ (z : ℕ). z % s .b) (add-zero q) ∙ mod-eq-of-lt (mod-lt _ (few .0)) in
-        subst (λ (z : ℕ). At (s .m) (s .n) i 0 (k * s .c - i) q z) e first-at
+        subst (λ (z : ℕ). StateAt (s .m) (s .n) i 0 (k * s .c - i) q z) e first-at
 
-    pub first-past : s .m ≤ k * s .c → let q = s .inverse * ((s .n - 1) * k) % s .b in At (s .m) (s .n) i 0 (k * s .c - i) q ((q + 1) % s .b)
+    pub first-past : s .m ≤ k * s .c → let q = s .inverse * ((s .n - 1) * k) % s .b in StateAt (s .m) (s .n) i 0 (k * s .c - i) q ((q + 1) % s .b)
     first-past h =
         let q = s .inverse * ((s .n - 1) * k) % s .b in
         let one : k * s .c / s .m ≡ 1 = div-eq-of-lt-le {k = 1} (s .m) (omega arith) (omega (arith, t .once)) in
-        subst (λ (z : ℕ). At (s .m) (s .n) i 0 (k * s .c - i) q z) (ap (λ (z : ℕ). (q + z) % s .b) one) first-at
+        subst (λ (z : ℕ). StateAt (s .m) (s .n) i 0 (k * s .c - i) q z) (ap (λ (z : ℕ). (q + z) % s .b) one) first-at
 
   module _ {i j : ℕ} {p : Source} (w : StandsAt s i j p) where
     -- what it reads
@@ -102,26 +102,26 @@ module _ {s : GroupedSides} (g : Grouped s) where
     }
 
     -- its steps
-    pub step-round : i < s .m → p .group + 1 ≡ s .c → let q = (p .lap + s .inverse) % s .b in At (s .m) (s .n) i (j + 1) 0 q q × (q ≡ 0 * s .b + q)
+    pub step-round : i < s .m → p .group + 1 ≡ s .c → let q = (p .lap + s .inverse) % s .b in StateAt (s .m) (s .n) i (j + 1) 0 q q × (q ≡ 0 * s .b + q)
     step-round h e = let q = (p .lap + s .inverse) % s .b in (rw (g .b-is) (next-round sides (g .inverse-is) h (e ∙ g .c-is) (w .0)), omega (arith, zero-mul (s .b)))
 
-    pub step-lap : p .group + 1 < s .c → i + (p .group + 1) ≡ s .m → At (s .m) (s .n) i (j + 1) (p .group + 1) (p .lap) ((p .column + 1) % s .b)
+    pub step-lap : p .group + 1 < s .c → i + (p .group + 1) ≡ s .m → StateAt (s .m) (s .n) i (j + 1) (p .group + 1) (p .lap) ((p .column + 1) % s .b)
     step-lap h e = rw (g .b-is) (next-lap sides (rw (g .c-is) at h) e (w .0))
 
     pub step-group : i < s .m → p .group + 1 < s .c → (i + (p .group + 1) ≡ s .m → ⊥)
-        → At (s .m) (s .n) i (j + 1) (p .group + 1) (p .lap) (p .column) × (p .place + s .b ≡ (p .group + 1) * s .b + p .column)
+        → StateAt (s .m) (s .n) i (j + 1) (p .group + 1) (p .lap) (p .column) × (p .place + s .b ≡ (p .group + 1) * s .b + p .column)
     step-group hi h d = (next-group sides hi (rw (g .c-is) at h) d (w .0), omega (arith, w .1, add-mul (p .group) 1 (s .b), one-mul (s .b)))
 
   -- one group: a walk by the inverse
   module _ (e : s .c ≡ 1) {i : ℕ} (h : i < s .m) where
-    pub lone-first : let q = s .inverse * ((s .n - 1) * i) % s .b in At (s .m) (s .n) i 0 0 q q
+    pub lone-first : let q = s .inverse * ((s .n - 1) * i) % s .b in StateAt (s .m) (s .n) i 0 0 q q
     lone-first =
         let one : i * s .c ≡ i = ap (λ (z : ℕ). i * z) e ∙ mul-one i in
         let none : i * s .c - i ≡ 0 = omega arith in
         let q = s .inverse * ((s .n - 1) * i) % s .b in
-        subst (λ (z : ℕ). At (s .m) (s .n) i 0 z q q) none (first-short i i (lone-start e h) (omega arith))
+        subst (λ (z : ℕ). StateAt (s .m) (s .n) i 0 z q q) none (first-short i i (lone-start e h) (omega arith))
 
-    module _ {q : ℕ} (w : At (s .m) (s .n) i 0 0 q q) where
+    module _ {q : ℕ} (w : StateAt (s .m) (s .n) i 0 0 q q) where
       pub lone-fits : {l : Line} {until : ℕ} {xs scratch : List ℕ} → until ≤ s .n → Inside l (s .n) xs → s .n ≤ length scratch
           → GroupFits l (alone q (s .inverse) (s .n)) 0 q until xs scratch
       lone-fits d inside room = record {

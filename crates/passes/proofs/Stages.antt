@@ -14,7 +14,7 @@ use Rattle.stages.proofs.Filled.{filled-front}
 use Rattle.stages.proofs.Lines.{length-words, part-lift, part-return, part-clear}
 use Rattle.stages.proofs.Moves.{tab-zero}
 use Rattle.passes.specs.Lines.{lineCount, lineOf, posOn, received}
-use Rattle.passes.specs.ThroughScratch.{Fits, Filled, Mapped, stageWords}
+use Rattle.passes.specs.PrivateScratch.{Fits, Filled, Mapped, stageWords}
 use Rattle.passes.specs.Restart.{memory, turnLines, turnStages}
 use Rattle.passes.specs.declared.line.GroupedSides.{GroupedSides}
 use Rattle.passes.specs.declared.line.Line.{Line}

@@ -15,7 +15,7 @@ use Rattle.stages.specs.Lines.{stagesOf}
 use Rattle.stages.proofs.Calls.{few}
 use Rattle.stages.proofs.Blocks.{block, block-pays, block-falls}
 use Rattle.passes.specs.Lines.{lineAt, skipped, lineCount}
-use Rattle.passes.specs.ThroughScratch.{stageWords}
+use Rattle.passes.specs.PrivateScratch.{stageWords}
 use Rattle.passes.specs.Restart.{turnStages}
 use Rattle.passes.proofs.Strided.{line1, line2, line3}
 use Rattle.passes.proofs.Stages.{stage-size, line-words, clear-words}

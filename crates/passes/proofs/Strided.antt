@@ -15,7 +15,7 @@ use Rattle.flat.specs.Passes.{columnGroup, row1, column2, row3, Pass1, Pass2, P
 use Rattle.flat.proofs.Sides.{Sides, sides-are, row1-lt, column2-lt, row3-lt}
 use Rattle.flat.proofs.Passes.{followed}
 use Rattle.passes.specs.Lines.{Moved, column, row, lineAt, skipped, posOn, LineMoved}
-use Rattle.passes.specs.ThroughScratch.{TurnedAt}
+use Rattle.passes.specs.PrivateScratch.{WordsTurned}
 use Rattle.passes.specs.declared.line.Line.{Line}
 use Rattle.passes.proofs.Family.{Family}
 use Rattle.passes.proofs.Ran.{Ran, cut, ran-some}
@@ -159,7 +159,7 @@ module _ (m n base chunk : ℕ) (hm : 0 < m) (hn : 0 < n) (hc : 0 < chunk) where
   from-first {e} {xs} (suc l) h k r = let d : l < e = omega arith in from-first l (omega arith) k (more d (still l xs h) r)
 
   -- the lines of the block turn it
-  pub lines-turn : {xs ws : List ℕ} (l : ℕ) → l ≤ columnGroup m n → Ran (LineStep m n base chunk) (n + m + n) l xs ws → TurnedAt m n base chunk xs ws
+  pub lines-turn : {xs ws : List ℕ} (l : ℕ) → l ≤ columnGroup m n → Ran (LineStep m n base chunk) (n + m + n) l xs ws → WordsTurned m n base chunk xs ws
   lines-turn {xs} {ws} l few r =
       let c = cut n (omega arith) (omega arith) (from-first l few (omega (arith, groups-le m n hm hn)) r) in
       let d = cut (n + m) (omega arith) (omega arith) (c .rest) in

@@ -15,7 +15,7 @@ use Rattle.halves.proofs.Blocks as chunked
 use Rattle.layout.specs.Layout.{volume, Within, at, pick, Laid}
 use Rattle.layout.specs.Layout.Within.{none, more}
 use Rattle.layout.proofs.Offsets.{at-lt}
-use Rattle.passes.specs.ThroughScratch.{Lies, BlocksLie, AllLie, TurnedAt}
+use Rattle.passes.specs.PrivateScratch.{Lies, BlocksLie, AllLie, WordsTurned}
 use Rattle.passes.proofs.Fits.{side-need}
 use Rattle.passes.proofs.Family.{Family, Some, some-more}
 
@@ -100,7 +100,7 @@ module _ (outer m n chunk : ℕ) (hm : 0 < m) (hn : 0 < n) (hc : 0 < chunk) wher
 
   -- one block more, where it lies
   pub block-more : {t base word : ℕ} {xs ys zs : List ℕ} → t < outer * chunk → base ≡ t / chunk * (m * n * chunk) → word ≡ t % chunk
-      → Some (outer * chunk) (m * n) (posOf m n chunk) (toOf m n) fromOf t xs ys → TurnedAt m n (base + word) chunk ys zs
+      → Some (outer * chunk) (m * n) (posOf m n chunk) (toOf m n) fromOf t xs ys → WordsTurned m n (base + word) chunk ys zs
       → Some (outer * chunk) (m * n) (posOf m n chunk) (toOf m n) fromOf (t + 1) xs zs
   block-more h b w f t = some-more blocks h f (rw (b, w) at t)
 

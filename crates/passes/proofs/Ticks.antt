@@ -14,7 +14,7 @@ use Rattle.refusals.proofs.Conditions.{InRange, size-valid}
 use Rattle.refusals.proofs.Promise as promise
 use Rattle.flat.specs.Turn.{sides}
 use Rattle.passes.specs.Lines.{skipped, lineCount, lineOf, LineMoved}
-use Rattle.passes.specs.ThroughScratch.{Grouped, Lies, Past, Fits}
+use Rattle.passes.specs.PrivateScratch.{Grouped, Lies, Past, Fits}
 use Rattle.passes.specs.Plain.{LineTicked}
 use Rattle.passes.specs.Ticks.{pastCount, tickChecks, TickPromise}
 use Rattle.passes.specs.declared.line.GroupedSides.{GroupedSides}

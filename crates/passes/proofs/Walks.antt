@@ -10,11 +10,11 @@ use lib.ListN.{length, getD}
 use borrow.Author.Tests.{eqb-true, ne-eqb}
 use Rattle.flat.specs.Passes.{row1, column2, row3}
 use Rattle.flat.proofs.Sides.{Sides, sides-are}
-use Rattle.walks.specs.Walk.{walk, starts}
+use Rattle.walks.specs.PrivateWalk.{walk, starts}
 use Rattle.walks.proofs.Steps.{starts-next, starts-lt}
 use Rattle.walks.proofs.Passes.{row1-walk, row1-start, column2-walk, column2-alone, row3-walk, row3-alone}
 use Rattle.passes.specs.Lines.{paired, posOn}
-use Rattle.passes.specs.ThroughScratch.{Grouped, OfPass, Inside, Apart, GroupFits, Filled, Lifted, startOf, stands, Follows, alone, isStraight}
+use Rattle.passes.specs.PrivateScratch.{Grouped, OfPass, Inside, Apart, GroupFits, Filled, Lifted, startOf, stands, Follows, alone, isStraight}
 use Rattle.passes.proofs.Filled.{filled-two, all-lifted}
 use Rattle.passes.specs.declared.line.GroupedSides.{GroupedSides}
 use Rattle.passes.specs.declared.line.Line.{Line}

@@ -1,7 +1,7 @@
 pub mod Lines
-pub mod ThroughScratch
+pub mod PrivateScratch
 pub mod Promises
 pub mod Ticks
 pub mod Restart
-pub mod Chunks
+pub mod PrivateChunks
 pub mod Plain

@@ -9,7 +9,7 @@ ghost use mathlib.Core.Path.{_≡_};
 ghost use Prim.Native.Nat.{_+_, _<_, _≤_};
 ghost use lib.ListN.{length, getD};
 ghost use Rattle.passes.specs.Lines.{paired, posOn, LineMoved};
-ghost use Rattle.passes.specs.ThroughScratch.{Grouped, Inside, GroupFits, stands, Fits, Filled, Past};
+ghost use Rattle.passes.specs.PrivateScratch.{Grouped, Inside, GroupFits, stands, Fits, Filled, Past};
 
 // Scratch receives the line as it stands, the last word first.
 fn hold(buf: &[u32], scratch: &mut [u32], l: Line)

@@ -1,8 +1,8 @@
 // The greatest common divisor, and inverses, by Euclid's algorithm.
 ghost use mathlib.Core.Path.{_≡_};
 ghost use Rattle.numbers.specs.Gcd.{gcdOf};
-ghost use Rattle.walks.specs.Source.{Inverse};
-ghost use Rattle.passes.specs.ThroughScratch.{Coprime};
+ghost use Rattle.walks.specs.PrivateSource.{Inverse};
+ghost use Rattle.passes.specs.PrivateScratch.{Coprime};
 
 // The greatest common divisor of m and n.
 pub(crate) fn gcd(m: usize, n: usize) -> usize

@@ -9,7 +9,7 @@ ghost use Prim.Native.Nat.{ℕ, _+_, _*_, _<_, _≤_};
 ghost use lib.ListN.{length, getD};
 ghost use Rattle.flat.specs.Passes.{source2};
 ghost use Rattle.passes.specs.Lines.{paired, received, posOn, toPlace, fromPlace, LineMoved};
-ghost use Rattle.passes.specs.ThroughScratch.{Grouped, Follows, Inside, Apart, GroupFits, stands, isStraight, Fits, Filled, Lifted, Past};
+ghost use Rattle.passes.specs.PrivateScratch.{Grouped, Follows, Inside, Apart, GroupFits, stands, isStraight, Fits, Filled, Lifted, Past};
 
 // The sides m and n, their greatest common divisor c and their quotients a and b by it, what each side leaves modulo the other, the
 // inverse of a modulo b, and the columns of pass 1 that are left out.

@@ -8,7 +8,7 @@ ghost use Prim.Native.Nat.{_+_, _*_, _≤_};
 ghost use lib.ListN.{take};
 ghost use Rattle.stages.specs.Stages.{after, call};
 ghost use Rattle.passes.specs.Lines.{lineCount};
-ghost use Rattle.passes.specs.ThroughScratch.{Grouped, Mapped, stageWords};
+ghost use Rattle.passes.specs.PrivateScratch.{Grouped, Mapped, stageWords};
 ghost use Rattle.passes.specs.Restart.{memory, turnStages};
 
 // How many stages a turn has.

@@ -3,8 +3,8 @@ use crate::line::GroupedSides;
 use crate::walk;
 ghost use mathlib.Core.Path.{_≡_};
 ghost use Prim.Native.Nat.{ℕ, _+_, _<_};
-ghost use Rattle.walks.specs.Source.{At};
-ghost use Rattle.passes.specs.ThroughScratch.{Grouped, StandsAt, Low};
+ghost use Rattle.walks.specs.PrivateSource.{StateAt};
+ghost use Rattle.passes.specs.PrivateScratch.{Grouped, StandsAt, Low};
 
 // Where a walk over the sources of a row stands: at column `column` of group `group`, which is place `place` of the row; `lap` is that column
 // where the row's number and the group's do not pass m.
@@ -18,7 +18,7 @@ pub(crate) struct Source {
 // The source of place 0 of row i where there is one group.
 pub(crate) fn lone(s: GroupedSides, i: usize) -> usize
     requires { ⌜ Grouped s × (i < s .m) × (s .c ≡ 1) ⌝ }
-    ensures { λ r. ⌜ At (s .m) (s .n) i 0 0 r r ⌝ }
+    ensures { λ r. ⌜ StateAt (s .m) (s .n) i 0 0 r r ⌝ }
 {
     s.inverse * ((s.n - 1) * i) % s.b
 }

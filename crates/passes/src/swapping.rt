@@ -10,9 +10,9 @@ ghost use Rattle.flat.specs.Turn.{sides};
 ghost use Rattle.refusals.specs.Scratch.{need};
 ghost use Rattle.refusals.specs.Calls.{swapBlock};
 ghost use Rattle.refusals.specs.Promise.{middle};
-ghost use Rattle.halves.specs.LentSlices.{TurnedAt};
-ghost use Rattle.passes.specs.ThroughScratch.{Grouped, BlocksLie, AllLie, Past};
-ghost use Rattle.passes.specs.Chunks.{PartLies, FewHalvings, ByHalves, LongEnough, AlongCycles};
+ghost use Rattle.halves.specs.Private.{TurnedAt};
+ghost use Rattle.passes.specs.PrivateScratch.{Grouped, BlocksLie, AllLie, Past};
+ghost use Rattle.passes.specs.PrivateChunks.{PartLies, FewHalvings, ByHalves, LongEnough, AlongCycles};
 
 // The block of chunks is turned by recursion: its part of the buffer is lent.
 fn turn_part(buf: &mut [u32], s: GroupedSides, base: usize, chunk: usize)

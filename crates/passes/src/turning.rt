@@ -13,7 +13,7 @@ ghost use Rattle.flat.specs.Turn.{sides};
 ghost use Rattle.flat.specs.Passes.{columnGroup};
 ghost use Rattle.refusals.specs.Scratch.{need};
 ghost use Rattle.passes.specs.Lines.{lineCount, lineOf, skipped};
-ghost use Rattle.passes.specs.ThroughScratch.{Grouped, Lies, AllLie, Past, TurnedAt};
+ghost use Rattle.passes.specs.PrivateScratch.{Grouped, Lies, AllLie, Past, WordsTurned};
 ghost use Rattle.refusals.specs.Calls.{swapBlock};
 ghost use Rattle.refusals.specs.Promise.{middle};
 
@@ -110,7 +110,7 @@ pub(crate) fn turn_at(
     chunk: usize,
 )
     requires { ⌜ Grouped s × Lies (s .m) (s .n) base chunk (now buf) (now scratch) ⌝ }
-    ensures { λ _. ⌜ TurnedAt (s .m) (s .n) base chunk (now (buf .entry)) (now (buf .exit)) × Past (need (sides (s .m) (s .n))) (now (scratch .entry)) (now (scratch .exit)) ⌝ }
+    ensures { λ _. ⌜ WordsTurned (s .m) (s .n) base chunk (now (buf .entry)) (now (buf .exit)) × Past (need (sides (s .m) (s .n))) (now (scratch .entry)) (now (scratch .exit)) ⌝ }
 {
     let first = first_moved(s);
     let count = line_count(s);
@@ -129,7 +129,7 @@ pub(crate) fn turn_home_at(
     chunk: usize,
 )
     requires { ⌜ Grouped s × Lies (s .m) (s .n) base chunk (now buf) (now scratch) ⌝ }
-    ensures { λ _. ⌜ TurnedAt (s .m) (s .n) base chunk (now (buf .exit)) (now (buf .entry)) × Past (need (sides (s .m) (s .n))) (now (scratch .entry)) (now (scratch .exit)) ⌝ }
+    ensures { λ _. ⌜ WordsTurned (s .m) (s .n) base chunk (now (buf .exit)) (now (buf .entry)) × Past (need (sides (s .m) (s .n))) (now (scratch .entry)) (now (scratch .exit)) ⌝ }
 {
     let first = first_moved(s);
     let mut l = line_count(s);

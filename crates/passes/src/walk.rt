@@ -7,7 +7,7 @@ ghost use Prim.Native.Nat.{ℕ, _+_, _/_, _%_, _<_, _≤_};
 ghost use lib.Dec.{eqb};
 ghost use Rattle.flat.specs.Passes.{column2, row3};
 ghost use Rattle.passes.specs.Lines.{paired};
-ghost use Rattle.passes.specs.ThroughScratch.{Grouped, OfPass, Follows, alone, isStraight};
+ghost use Rattle.passes.specs.PrivateScratch.{Grouped, OfPass, Follows, alone, isStraight};
 
 // A walk over `groups` groups of `size` places. In a group the paired place goes up by `step` modulo `modulus`. The first group starts
 // at `first`, each further one `shift` on, and group `restart` at 0 (none where it is 0).

@@ -7,7 +7,7 @@ use lib.ListN.{length, drop}
 use lib.Seq.{sets-eq}
 use borrow.Author.Tests.{ne-eqb}
 use Rattle.printer.specs.declared.Written.{Written}
-use Rattle.printer.specs.Put.{Put}
+use Rattle.printer.specs.PrivateBytes.{Put}
 use Rattle.printer.specs.Writer.{nothingWritten, written, writtenTo}
 
 -- refused: nothing is written

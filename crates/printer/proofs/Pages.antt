@@ -12,8 +12,8 @@ use Rattle.text.specs.Print.{lineFeed, decimal, field, fields, line}
 use Rattle.text.specs.Sheet.{shapeWord, orderWord, rowWord, rowCount, rowWidth, rowsText, orderNumbers, resultBy}
 use Rattle.text.proofs.Rows.{rows-volume}
 use Rattle.text.proofs.Length.{length-line}
-use Rattle.printer.specs.Put.{Room, Put}
-use Rattle.printer.specs.Thin.{lineOf, shapeLineOf, orderLineOf, pageOf, Ready}
+use Rattle.printer.specs.PrivateBytes.{Room, Put}
+use Rattle.printer.specs.PrivateWriter.{textOf, shapeLineOf, orderLineOf, pageOfLines, Ready}
 use Rattle.printer.specs.declared.page.Line.{Line}
 use Rattle.printer.proofs.Puts.{Leads, leads-room, leads-step, leads-end, leads-same, first-room, second-room, third-room, three-put, fields-next, no-fields}
 
@@ -95,10 +95,10 @@ length-rows (suc count) n words =
     (omega arith)
 
 -- line 2 by value: its text, and that it has two numbers at most
-pub order-text : (release order : ℕ) → lineOf (orderLineOf release order) ≡ line orderWord (orderNumbers release order)
+pub order-text : (release order : ℕ) → textOf (orderLineOf release order) ≡ line orderWord (orderNumbers release order)
 order-text release order = by (eqb release 0)
   where
-    by : (t : Bool) → lineOf (cond t (record { word = orderWord; numbers = order ∷ 0 ∷ 0 ∷ 0 ∷ []; count = 1 })
+    by : (t : Bool) → textOf (cond t (record { word = orderWord; numbers = order ∷ 0 ∷ 0 ∷ 0 ∷ []; count = 1 })
         (record { word = orderWord; numbers = release ∷ order ∷ 0 ∷ 0 ∷ []; count = 2 }))
         ≡ line orderWord (cond t (order ∷ []) (release ∷ order ∷ []))
     by true = refl
@@ -115,7 +115,7 @@ order-count release order = by (eqb release 0)
 -- a result sheet is its two lines, by value, and the rows: what the thin writer needs for it, and what it puts
 module _ (ds : List ℕ) (release order : ℕ) (words : List ℕ) {shape line : Line} {rows : ℕ} (four : length ds ≡ 4) (s : shape ≡ shapeLineOf ds)
     (l : line ≡ orderLineOf release order) (r : rows ≡ rowCount ds) where
-  page : pageOf shape line words rows (getD ds 3 0) ≡ resultBy ds release order words
+  page : pageOfLines shape line words rows (getD ds 3 0) ≡ resultBy ds release order words
   unfolding resultBy rowWidth
   page = rw (s, l, order-text release order, take-all 4 ds (omega arith), r, four)
 
@@ -123,7 +123,7 @@ module _ (ds : List ℕ) (release order : ℕ) (words : List ℕ) {shape line : 
       → Ready out shape line words rows (getD ds 3 0)
   page-ready h k = record { first = rw s (omega arith); second = rw l (order-count release order); enough = h; room = record { fits = rw page (omega arith) } }
 
-  pub page-put : {out : List ℕ} {next : ℕ} {out′ : List ℕ} → Put out 0 (pageOf shape line words rows (getD ds 3 0)) next out′
+  pub page-put : {out : List ℕ} {next : ℕ} {out′ : List ℕ} → Put out 0 (pageOfLines shape line words rows (getD ds 3 0)) next out′
       → Put out 0 (resultBy ds release order words) next out′
   page-put q = rw page at q
 
@@ -151,7 +151,7 @@ measure-all vs i h = ap length (no-fields vs i h)
 -- the length of a result sheet, measured: its two lines, and four bytes a row beside the fields
 pub length-measured : (ds : List ℕ) (release order : ℕ) (words : List ℕ) → length ds ≡ 4
     → length (resultBy ds release order words)
-    ≡ length (lineOf (shapeLineOf ds)) + length (lineOf (orderLineOf release order)) + 4 * rowCount ds + length (fields (take (volume ds) words))
+    ≡ length (textOf (shapeLineOf ds)) + length (textOf (orderLineOf release order)) + 4 * rowCount ds + length (fields (take (volume ds) words))
 length-measured ds release order words four =
     length-result ds release order words
     ∙ rw (

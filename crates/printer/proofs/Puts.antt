@@ -7,7 +7,7 @@ use native.Mathlib.Numerals.{add-one}
 use lib.ListN.{length, set, drop, getD, length-append, length-set, drop-of-length-le}
 use lib.Seq.{sets, length-sets}
 use Rattle.text.specs.Print.{tabByte, decimal, field, fields}
-use Rattle.printer.specs.Put.{Room, Put}
+use Rattle.printer.specs.PrivateBytes.{Room, Put}
 use Rattle.lists.proofs.Front.{drop-next, drop-end}
 use Rattle.text.proofs.Stores.{sets-append}
 

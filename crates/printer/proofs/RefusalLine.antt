@@ -9,7 +9,7 @@ use Rattle.text.specs.Print.{fields, line}
 use Rattle.text.specs.Sheet.{refusedWord, refusalText}
 use Rattle.text.proofs.Length.{length-line}
 use Rattle.printer.specs.declared.Written.{Written}
-use Rattle.printer.specs.Put.{Put}
+use Rattle.printer.specs.PrivateBytes.{Put}
 use Rattle.printer.specs.Writer.{nothingWritten}
 use Rattle.printer.specs.RefusalWriter.{refusalNumber, RefusalWrittenAs}
 use Rattle.printer.proofs.InFull.{none-written, all-written}

@@ -3,6 +3,6 @@ pub mod Writer
 -- the promise of the writer of a refusal
 pub mod RefusalWriter
 -- for private functions only: bytes put into a buffer
-pub mod Put
+pub mod PrivateBytes
 -- for private functions only: the thin writer
-pub mod Thin
+pub mod PrivateWriter

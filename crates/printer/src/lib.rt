@@ -7,8 +7,8 @@ ghost use mathlib.Core.Path.{_≡_};
 ghost use Prim.Native.Nat.{_≤_};
 ghost use lib.ListN.{length};
 ghost use Rattle.text.specs.Sheet.{resultBy};
-ghost use Rattle.blocks.specs.OnSheet.{OnSheet};
-ghost use Rattle.printer.specs.Put.{TextWritten};
+ghost use Rattle.blocks.specs.Private.{OnSheet};
+ghost use Rattle.printer.specs.PrivateBytes.{TextWritten};
 ghost use Rattle.printer.specs.Writer.{nothingWritten, WrittenAs, ReleaseWrittenAs};
 ghost use Rattle.printer.specs.RefusalWriter.{RefusalWrittenAs};
 

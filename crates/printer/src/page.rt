@@ -7,8 +7,8 @@ ghost use lib.ListN.{length};
 ghost use Rattle.refusals.specs.Conditions.{badLength};
 ghost use Rattle.text.specs.Print.{fields, line};
 ghost use Rattle.text.specs.Sheet.{rowsText};
-ghost use Rattle.printer.specs.Put.{Room, Put};
-ghost use Rattle.printer.specs.Thin.{lineOf, shapeLineOf, orderLineOf};
+ghost use Rattle.printer.specs.PrivateBytes.{Room, Put};
+ghost use Rattle.printer.specs.PrivateWriter.{textOf, shapeLineOf, orderLineOf};
 
 // How many bytes the fields of these words have.
 pub(crate) fn words_len(words: &[u32]) -> usize
@@ -68,7 +68,7 @@ pub(crate) fn order_line(release: usize, order: usize) -> Line
 // How many bytes a line has that is passed by value.
 pub(crate) fn head_len(l: Line) -> usize
     requires { ⌜ l .count ≤ 4 ⌝ }
-    ensures { λ r. ⌜ (r ≡ length (lineOf l)) × (r ≤ 50) ⌝ }
+    ensures { λ r. ⌜ (r ≡ length (textOf l)) × (r ≤ 50) ⌝ }
 {
     let numbers = l.numbers;
     6 + words_len(&numbers[..l.count])
@@ -86,8 +86,8 @@ pub(crate) fn put_line(out: &mut [u8], at: usize, word: &[u8], numbers: &[u32]) 
 
 // A line that is passed by value.
 pub(crate) fn put_head(out: &mut [u8], at: usize, l: Line) -> usize
-    requires { ⌜ (l .count ≤ 4) × Room (now out) at (lineOf l) ⌝ }
-    ensures { λ r. ⌜ Put (now (out .entry)) at (lineOf l) r (now (out .exit)) ⌝ }
+    requires { ⌜ (l .count ≤ 4) × Room (now out) at (textOf l) ⌝ }
+    ensures { λ r. ⌜ Put (now (out .entry)) at (textOf l) r (now (out .exit)) ⌝ }
 {
     let word = l.word;
     let numbers = l.numbers;

@@ -3,7 +3,7 @@ ghost use mathlib.Core.Path.{_≡_};
 ghost use mathlib.Core.List.{_∷_, []};
 ghost use lib.ListN.{length};
 ghost use Rattle.text.specs.Print.{lineFeed, decimal, field, fields};
-ghost use Rattle.printer.specs.Put.{Room, Put};
+ghost use Rattle.printer.specs.PrivateBytes.{Room, Put};
 
 // How many digits v has.
 pub(crate) fn digits_of(v: u32) -> usize

@@ -5,8 +5,8 @@ ghost use mathlib.Core.Path.{_≡_};
 ghost use Prim.Native.Nat.{_*_, _≤_};
 ghost use lib.ListN.{length};
 ghost use Rattle.text.specs.Sheet.{rowsText};
-ghost use Rattle.printer.specs.Put.{Room, Put};
-ghost use Rattle.printer.specs.Thin.{lineOf, stored, pageOf, Ready};
+ghost use Rattle.printer.specs.PrivateBytes.{Room, Put};
+ghost use Rattle.printer.specs.PrivateWriter.{textOf, stored, pageOfLines, Ready};
 
 // The lent bytes, and the place of the next one.
 pub(crate) struct Writer<'a> {
@@ -23,8 +23,8 @@ fn new<'a>(out: &'a mut [u8]) -> Writer<'a>
 
 // A line: the writer is handed back with the next place.
 pub(crate) fn line<'a>(w: Writer<'a>, l: page::Line) -> Writer<'a>
-    requires { ⌜ (l .count ≤ 4) × Room (now (w .out)) (w .at) (lineOf l) ⌝ }
-    ensures { λ r. ⌜ r ≡ stored (w .entry) (lineOf l) ⌝ }
+    requires { ⌜ (l .count ≤ 4) × Room (now (w .out)) (w .at) (textOf l) ⌝ }
+    ensures { λ r. ⌜ r ≡ stored (w .entry) (textOf l) ⌝ }
 {
     let at = w.at;
     let next = page::put_head(&mut *w.out, at, l);
@@ -53,7 +53,7 @@ pub(crate) fn result(
     n: usize,
 ) -> usize
     requires { ⌜ Ready (now out) shape order (now words) count n ⌝ }
-    ensures { λ r. ⌜ Put (now (out .entry)) 0 (pageOf shape order (now (words .entry)) count n) r (now (out .exit)) ⌝ }
+    ensures { λ r. ⌜ Put (now (out .entry)) 0 (pageOfLines shape order (now (words .entry)) count n) r (now (out .exit)) ⌝ }
 {
     let first = line(new(out), shape);
     let second = line(first, order);

@@ -10,8 +10,8 @@ use native.Mathlib.Omega.{arith}
 use lib.ListN.{length, getD, drop, replicate, length-append, length-replicate, length-drop}
 use lib.Seq.{drop-drop, drop-append-add}
 use Rattle.lists.proofs.Decide.{lt-or-ge}
-use Rattle.orders.specs.Needs.{exchanged, chainNeed, entryNeed}
-use Rattle.orders.proofs.Needs.{exchanged-two, need-at-entry}
+use Rattle.orders.specs.Needs.{swapNeed, chainNeed}
+use Rattle.orders.proofs.Needs.{exchanged-two, need-at-entry, entryNeed}
 use Rattle.refusals.specs.Conditions.{longest}
 use Rattle.refusals.specs.Scratch.{need, cleared}
 
@@ -23,13 +23,13 @@ need-entry (d ∷ ds) zero h = omega arith
 need-entry (d ∷ ds) (suc k) h = omega (arith, need-entry ds k (le-of-suc-le-suc h))
 
 -- the two axes of a swap need what a flat block with these sides needs
-pub need-swap : (ds : List ℕ) (k : ℕ) → k + 1 < length ds → exchanged k ds ≡ need (getD ds k 0 ∷ getD ds (k + 1) 0 ∷ [])
+pub need-swap : (ds : List ℕ) (k : ℕ) → k + 1 < length ds → swapNeed k ds ≡ need (getD ds k 0 ∷ getD ds (k + 1) 0 ∷ [])
 unfolding longest
 need-swap ds k h = exchanged-two k ds h ∙ rw (max-zero (getD ds (k + 1) 0))
 
 -- no swap and no chain of swaps needs more than the longest axis
-swap-few : (k : ℕ) (ds : List ℕ) → exchanged k ds ≤ longest ds
-unfolding exchanged longest
+swap-few : (k : ℕ) (ds : List ℕ) → swapNeed k ds ≤ longest ds
+unfolding swapNeed longest
 swap-few k [] = zero-le
 swap-few zero (a ∷ []) = zero-le
 swap-few zero (a ∷ b ∷ ds) = omega arith

@@ -6,7 +6,7 @@ use Prim.Native.Nat.{ℕ, _+_, _<_, _≤_}
 use native.Mathlib.Omega.{arith}
 use lib.ListN.{length, drop, getD}
 use lib.Seq.{sets-eq}
-use Rattle.blocks.specs.OnSheet.{OnSheet}
+use Rattle.blocks.specs.Private.{OnSheet}
 use Rattle.text.specs.Sheet.{rowCount, rowWidth}
 use Rattle.text.specs.Meaning.{Verdict, Outcome, shapeLine, chainLine, orderLine, rowLines, meaningBy}
 use Rattle.text.specs.Right.{ShapeRead}
@@ -15,7 +15,7 @@ use Rattle.text.proofs.Rows.{rows-text, rows-volume}
 use Rattle.sheet.specs.declared.Sheet.{Sheet}
 use Rattle.sheet.specs.declared.ResultSheet.{ResultSheet}
 use Rattle.sheet.specs.declared.whole.Page.{Page}
-use Rattle.sheet.specs.Place.{VerdictAt, SecondAt, RowsTaken, wordsOf, noPage, pageOf, PageAs}
+use Rattle.sheet.specs.Private.{VerdictAt, SecondAt, RowsTaken, wordsOf, noPage, pageOf, PageAs}
 use Rattle.sheet.specs.Reader.{answer, kept, ReadAs}
 use Rattle.sheet.specs.ResultReader.{resultAnswer, ResultReadAs}
 

@@ -16,7 +16,7 @@ use Rattle.text.specs.Read.{Reading, readFields, readLine, tabs}
 use Rattle.text.specs.Sheet.{shapeWord, chainWord, orderWord}
 use Rattle.text.specs.Meaning.{Verdict, bigSheet, refuseIf, shapeLine, chainLine, lineOrder, wrongRelease, orderFields, orderLine}
 use Rattle.text.proofs.Lines.{line-text}
-use Rattle.sheet.specs.Place.{At, There, RefusedWith, VerdictAt, SecondAt, numbersOf, wordsOf, lineNumber, secondLine}
+use Rattle.sheet.specs.Private.{At, There, RefusedWith, VerdictAt, SecondAt, numbersOf, wordsOf, lineNumber, secondLine}
 use Rattle.blocks.specs.Checks.{sheetChecks}
 use Rattle.blocks.proofs.Block.{firstFour, first-four}
 use Rattle.sheet.proofs.LinesAt.{line-fields}

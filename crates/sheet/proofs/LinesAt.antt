@@ -16,7 +16,7 @@ use Rattle.lists.proofs.Decide.{decided, lt-or-ge}
 use Rattle.text.specs.Print.{tabByte, lineFeed}
 use Rattle.text.specs.Read.{Reading, after, readFields, closed, readLine, tabs}
 use Rattle.text.proofs.Lines.{after-found, closed-found}
-use Rattle.sheet.specs.Place.{At, numbersOf}
+use Rattle.sheet.specs.Private.{At, numbersOf}
 use Rattle.lists.proofs.Front.{drop-next}
 use Rattle.sheet.proofs.Places.{at-found, at-none}
 use Rattle.sheet.proofs.Runs.{got}

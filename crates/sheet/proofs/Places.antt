@@ -12,7 +12,7 @@ use Rattle.lists.proofs.Front.{drop-next}
 use Rattle.text.specs.Print.{limit, tabByte}
 use Rattle.text.specs.Read.{Reading, isDigit, readMore, readNumber, readField}
 use Rattle.text.proofs.Numbers.{both-true}
-use Rattle.sheet.specs.Place.{At}
+use Rattle.sheet.specs.Private.{At}
 
 pub at-found : {A : Type 0} {bytes : List ℕ} {what : Reading A} {value : A} (next : ℕ) → what ≡ Reading.found value (drop next bytes)
     → next ≤ length bytes → At bytes what true value next

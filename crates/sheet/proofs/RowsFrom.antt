@@ -16,7 +16,7 @@ use Rattle.text.specs.Sheet.{rowWord, rowCount, rowWidth}
 use Rattle.text.specs.Meaning.{Verdict, behind, ended, rowLines}
 use Rattle.text.proofs.Lines.{fields-text}
 use Rattle.text.proofs.Steps.{behind-go}
-use Rattle.sheet.specs.Place.{At, RowsAt, RowsThere, RowsTaken, There, wordsOf, numbersOf}
+use Rattle.sheet.specs.Private.{At, RowsAt, RowsThere, RowsTaken, There, wordsOf, numbersOf}
 use Rattle.lists.proofs.Front.{drop-next}
 use Rattle.sheet.proofs.LinesAt.{line-fields}
 

@@ -11,7 +11,7 @@ use borrow.Author.Tests.{not-true, not-false}
 use Rattle.text.specs.Read.{Reading, after, readField, readFields}
 use Rattle.lists.proofs.Decide.{decided}
 use Rattle.text.proofs.Lines.{after-found}
-use Rattle.sheet.specs.Place.{At, There, numbersOf}
+use Rattle.sheet.specs.Private.{At, There, numbersOf}
 use Rattle.sheet.proofs.Places.{at-none}
 
 -- what was found is found with its own numbers

@@ -5,4 +5,4 @@ pub mod Reader
 -- the promise of the reader of result sheets
 pub mod ResultReader
 -- for private functions only: what is read at a place
-pub mod Place
+pub mod Private

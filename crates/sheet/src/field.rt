@@ -3,7 +3,7 @@ ghost use Prim.Native.Nat.{_≤_};
 ghost use lib.ListN.{length, drop};
 ghost use Rattle.text.specs.Print.{limit};
 ghost use Rattle.text.specs.Read.{readMore, readNumber, readField};
-ghost use Rattle.sheet.specs.Place.{At};
+ghost use Rattle.sheet.specs.Private.{At};
 
 // A number that was read, and the place after it.
 pub struct Number {

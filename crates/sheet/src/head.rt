@@ -5,7 +5,7 @@ ghost use mathlib.Core.Path.{_≡_};
 ghost use Prim.Native.Nat.{_≤_};
 ghost use lib.ListN.{length, drop};
 ghost use Rattle.text.specs.Meaning.{shapeLine, chainLine, orderFields, orderLine};
-ghost use Rattle.sheet.specs.Place.{RefusedWith, VerdictAt, SecondAt, lineNumber, secondLine};
+ghost use Rattle.sheet.specs.Private.{RefusedWith, VerdictAt, SecondAt, lineNumber, secondLine};
 
 // Line 1 as it was read: a number and a place, or the lengths and the place after the line.
 pub struct Shape {

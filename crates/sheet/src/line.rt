@@ -5,7 +5,7 @@ ghost use Prim.Native.Nat.{_+_, _≤_};
 ghost use lib.ListN.{length, take, drop, getD};
 ghost use Rattle.lists.specs.Same.{same};
 ghost use Rattle.text.specs.Read.{readFields, readLine, tabs};
-ghost use Rattle.sheet.specs.Place.{At, numbersOf};
+ghost use Rattle.sheet.specs.Private.{At, numbersOf};
 
 // Whether something was read, and the place after it.
 pub struct End {

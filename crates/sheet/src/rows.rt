@@ -7,8 +7,8 @@ ghost use lib.ListN.{length, drop};
 ghost use lib.Seq.{sets};
 ghost use Rattle.text.specs.Meaning.{rowLines};
 ghost use Rattle.text.specs.Sheet.{rowCount, rowWidth};
-ghost use Rattle.blocks.specs.OnSheet.{OnSheet};
-ghost use Rattle.sheet.specs.Place.{RowsAt, RowsThere, RowsTaken, wordsOf};
+ghost use Rattle.blocks.specs.Private.{OnSheet};
+ghost use Rattle.sheet.specs.Private.{RowsAt, RowsThere, RowsTaken, wordsOf};
 
 // So many rows of n words from `at` on, and nothing after them: 0, or the number of the line that is wrong.
 fn rows_at(bytes: &[u8], at: usize, count: usize, n: usize) -> usize

@@ -5,7 +5,7 @@ ghost use mathlib.Core.List.{_++_};
 ghost use Prim.Native.Nat.{_+_, _-_, _≤_};
 ghost use lib.ListN.{length, drop, replicate};
 ghost use Rattle.text.specs.Read.{readFields};
-ghost use Rattle.sheet.specs.Place.{There, numbersOf, Copied};
+ghost use Rattle.sheet.specs.Private.{There, numbersOf, Copied};
 
 // The numbers of n fields from `at` on, then zeros.
 pub(crate) fn values_at(bytes: &[u8], at: usize, n: usize) -> [usize; 32]

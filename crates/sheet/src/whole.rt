@@ -2,7 +2,7 @@
 use crate::head;
 use crate::rows;
 ghost use mathlib.Core.Path.{_≡_};
-ghost use Rattle.sheet.specs.Place.{secondLine, noPage, PageAs};
+ghost use Rattle.sheet.specs.Private.{secondLine, noPage, PageAs};
 
 // What both readers read: a number and a place, or the lengths, the numbers of line 2 (unused places 0) and how many they are.
 pub struct Page {

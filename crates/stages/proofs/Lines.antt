@@ -14,9 +14,9 @@ use borrow.Author.Tests.{lt-ltb, le-ltb, eq-eqb, ne-eqb}
 use Rattle.lists.proofs.Decide.{lt-or-ge}
 use Rattle.stages.specs.Stages.{Memory, Store, withBuffer, withScratch, after}
 use Rattle.stages.specs.Stages.Store.{toBuffer, toScratch, toProgress}
-use Rattle.stages.specs.Stops.{intoBuffer, intoScratch, Without, Torn, Steady}
+use Rattle.stages.specs.Stops.{intoBuffer, intoScratch, Without, Torn}
 use Rattle.stages.specs.Lines.{each, Lines, lifting, returning, clearing, stagesOf}
-use Rattle.stages.proofs.Torn.{whole-buffer, whole-scratch}
+use Rattle.stages.proofs.Torn.{whole-buffer, whole-scratch, Steady}
 use Rattle.stages.proofs.Filled.{filled, length-each, take-each, cut-each, into-scratch, into-buffer}
 
 -- the memory after some first stores of a stage

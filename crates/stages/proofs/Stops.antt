@@ -9,11 +9,11 @@ use lib.ListN.{length, length-append}
 use Rattle.lists.proofs.Decide.{lt-or-ge}
 use Rattle.stages.specs.Stages.{Memory, Store, after, Stages, wordsNow, stage, remaining, call, finish}
 use Rattle.stages.specs.Stages.Store.{toProgress}
-use Rattle.stages.specs.Stops.{Torn, Steady, Stop, Stops}
+use Rattle.stages.specs.Stops.{Torn, Stop, Stops}
 use Rattle.stages.specs.Stops.Stop.{still, within, whole}
 use Rattle.stages.specs.Stops.Stops.{never, again}
 use Rattle.stages.proofs.Stores.{after-append, after-long}
-use Rattle.stages.proofs.Torn.{overwritten, first-torn}
+use Rattle.stages.proofs.Torn.{overwritten, first-torn, Steady}
 use Rattle.stages.proofs.Calls.{counted, remaining-more, finish-stage, call-done, call-part, call-stage, call-enough, by-stages}
 
 -- from x, finishing leaves what it leaves from m, and takes no more stores

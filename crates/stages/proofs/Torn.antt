@@ -10,10 +10,15 @@ use lib.ListN.{length, getD, set, take, length-set, List·getD-eq-default}
 use lib.Seq.{ext-getD, getD-set-same, getD-set-other}
 use borrow.Author.Tests.{eqb-false, ne-eqb}
 use Rattle.lists.proofs.Decide.{lt-or-ge, eq-or-ne}
-use Rattle.stages.specs.Stages.{Memory, Store, put, after}
+use Rattle.stages.specs.Stages.{Memory, Store, put, after, Stages}
 use Rattle.stages.specs.Stages.Store.{toBuffer, toScratch, toProgress}
 use Rattle.stages.specs.Stops.{intoBuffer, intoScratch, Without, Torn}
 use Rattle.stages.proofs.Stores.{after-long}
+
+-- every stage can be begun again: it would store the same words whatever stands at the places to which they go, and none is the progress word
+pub record Steady (s : Stages) : Type 0 where
+  pub same : (k : ℕ) (m x : Memory) → Torn (s .words k m) m x → s .words k x ≡ s .words k m
+  pub keeps : (k : ℕ) (m : Memory) (j : ℕ) → after (take j (s .words k m)) m .progress ≡ m .progress
 
 -- where no store goes into a list, that list is whole
 module _ {ss : List Store} {m x : Memory} (t : Torn ss m x) where

@@ -4,7 +4,7 @@ use mathlib.Core.Path.{_≡_}
 use mathlib.Core.List.{List}
 use Prim.Native.Nat.{ℕ, _<_}
 use lib.Dec.{eqb}
-use lib.ListN.{length, getD, take}
+use lib.ListN.{length, getD}
 use Rattle.stages.specs.Stages.{Memory, Store, after, Stages, wordsNow, stage}
 use Rattle.stages.specs.Stages.Store.{toBuffer, toScratch, toProgress}
 
@@ -31,11 +31,6 @@ pub record Torn (ss : List Store) (m x : Memory) : Type 0 where
   pub scratch-long : length (x .scratch) ≡ length (m .scratch)
   pub buffer-kept : (p : ℕ) → Without (intoBuffer p) ss → getD (x .buffer) p 0 ≡ getD (m .buffer) p 0
   pub scratch-kept : (p : ℕ) → Without (intoScratch p) ss → getD (x .scratch) p 0 ≡ getD (m .scratch) p 0
-
--- every stage can be begun again: it would store the same words whatever stands at the places to which they go, and none is the progress word
-pub record Steady (s : Stages) : Type 0 where
-  pub same : (k : ℕ) (m x : Memory) → Torn (s .words k m) m x → s .words k x ≡ s .words k m
-  pub keeps : (k : ℕ) (m : Memory) (j : ℕ) → after (take j (s .words k m)) m .progress ≡ m .progress
 
 -- what a stop leaves: some number of whole stages is done, and the places that the next one writes hold anything
 pub data Stop (s : Stages) : Memory → Memory → Type 0 where

@@ -19,7 +19,7 @@ use Rattle.refusals.proofs.Conditions.InRange.{none, more}
 use Rattle.flat.specs.Turn.{sides}
 use Rattle.flat.proofs.Turn.{volume-two}
 use Rattle.tiles.specs.Promises.{noSide, badTile, bandNeed, tileChecks}
-use Rattle.tiles.specs.Moves.{Converts}
+use Rattle.tiles.specs.Private.{Converts}
 
 -- a side that a tile may have
 sided : (d : ℕ) → noSide d ≡ false → (0 < d) × (d ≤ 64)

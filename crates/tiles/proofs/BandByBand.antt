@@ -7,13 +7,13 @@ use Prim.Native.Nat.{ℕ, _+_, _*_, _-_, _/_, _%_, _<_, _≤_, min}
 use native.Mathlib.Nat.{div-add-mod', mul-assoc, add-mul, zero-mul, mul-le-mul-right}
 use native.Mathlib.Omega.{arith}
 use lib.ListN.{getD}
-use Rattle.passes.specs.ThroughScratch.{Apart, Filled, Past}
+use Rattle.passes.specs.PrivateScratch.{Apart, Filled, Past}
 use Rattle.passes.proofs.Filled.{filled-none, filled-on}
 use Rattle.wall.specs.Tiles.{part, tilePlace, Tiled}
-use Rattle.wall.specs.Homes.{bandHome, tileHome}
+use Rattle.wall.specs.Private.{bandHome, tileHome}
 use Rattle.wall.proofs.Bands.{band-home-lt}
 use Rattle.wall.proofs.Places.{tile-home, tile-place-lt, home-of-tile, homes-apart}
-use Rattle.tiles.specs.Moves.{bandTo, bandFrom, BandFits, BandLaid, BandMoved, blockTo, blockFrom, Converts, Converted}
+use Rattle.tiles.specs.Private.{bandTo, bandFrom, BandFits, BandLaid, BandMoved, blockTo, blockFrom, Converts, Converted}
 use Rattle.tiles.specs.declared.bands.Band.{Band}
 use Rattle.tiles.proofs.TileByTile.{filled-count}
 

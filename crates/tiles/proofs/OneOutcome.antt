@@ -9,7 +9,7 @@ use Rattle.refusals.proofs.Promise.{one-accepted}
 use Rattle.wall.specs.Tiles.{Tiled}
 use Rattle.wall.proofs.Tiled.{one-tiled, one-untiled, wide-stays, tall-same}
 use Rattle.tiles.specs.Promises.{bandNeed, tileChecks, ToTilesPromise, FromTilesPromise}
-use Rattle.tiles.specs.Moves.{Converts}
+use Rattle.tiles.specs.Private.{Converts}
 use Rattle.tiles.proofs.Accepted.{converts, passes-again}
 
 -- two right outcomes of an accepted conversion are equal

@@ -10,10 +10,10 @@ use Rattle.refusals.specs.FirstOf.{firstOf}
 use Rattle.refusals.specs.Scratch.{cleared}
 use Rattle.refusals.proofs.Promise.{accepted}
 use Rattle.passes.specs.Promises.{ClearPromise}
-use Rattle.passes.specs.ThroughScratch.{Past}
+use Rattle.passes.specs.PrivateScratch.{Past}
 use Rattle.passes.proofs.Accepted.{past-cleared}
 use Rattle.tiles.specs.Promises.{tileChecks, ToTilesPromise, FromTilesPromise}
-use Rattle.tiles.specs.Moves.{Converts, Converted}
+use Rattle.tiles.specs.Private.{Converts, Converted}
 use Rattle.tiles.proofs.Accepted.{converts}
 use Rattle.tiles.proofs.BandByBand.{into-tiles, out-of-tiles}
 

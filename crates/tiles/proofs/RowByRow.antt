@@ -6,10 +6,10 @@ use native.Mathlib.Nat.{mod-lt, div-add-mod', add-mul, one-mul, zero-mul, mul-le
 use native.Mathlib.Omega.{arith}
 use lib.Arith.{digits-div, digits-mod}
 use lib.ListN.{getD}
-use Rattle.passes.specs.ThroughScratch.{Apart, Filled}
+use Rattle.passes.specs.PrivateScratch.{Apart, Filled}
 use Rattle.passes.proofs.Filled.{filled-none, filled-on}
 use Rattle.wall.proofs.Places.{one-cell}
-use Rattle.tiles.specs.Moves.{inRows, RowsFit, RowsLaid}
+use Rattle.tiles.specs.Private.{inRows, RowsFit, RowsLaid}
 use Rattle.tiles.specs.declared.runs.Rows.{Rows}
 
 rows-apart : (at step width count : ℕ) → 0 < width → width ≤ step → Apart (λ k. at + inRows step width k) count

@@ -7,13 +7,13 @@ use Prim.Native.Nat.{ℕ, _+_, _*_, _-_, _/_, _%_, _<_, _≤_, min}
 use native.Mathlib.Nat.{mod-lt, div-add-mod', div-lt-iff-lt-mul, mul-add, mul-comm, mul-le-mul-left, mul-le-mul-right, mul-zero, le-mul-of-pos-right}
 use native.Mathlib.Omega.{arith}
 use lib.ListN.{getD}
-use Rattle.passes.specs.ThroughScratch.{Apart, Filled}
+use Rattle.passes.specs.PrivateScratch.{Apart, Filled}
 use Rattle.passes.proofs.Filled.{filled-none, filled-on}
 use Rattle.wall.specs.Tiles.{part}
-use Rattle.wall.specs.Homes.{bandHome}
+use Rattle.wall.specs.Private.{bandHome}
 use Rattle.wall.proofs.Bands.{band-home}
 use Rattle.wall.proofs.Places.{band-homes-apart}
-use Rattle.tiles.specs.Moves.{inRows, RowsFit, RowsLaid, bandTo, bandFrom, BandSmall, BandFits, TileAt, tileWidth, toTile, toRows, tileRows, TileLaid, BandLaid}
+use Rattle.tiles.specs.Private.{inRows, RowsFit, RowsLaid, bandTo, bandFrom, BandSmall, BandFits, TileAt, tileWidth, toTile, toRows, tileRows, TileLaid, BandLaid}
 use Rattle.tiles.specs.declared.runs.Rows.{Rows}
 use Rattle.tiles.specs.declared.bands.Band.{Band}
 

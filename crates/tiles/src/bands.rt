@@ -3,7 +3,7 @@ use crate::runs;
 use crate::runs::Rows;
 ghost use mathlib.Core.Path.{_≡_};
 ghost use Prim.Native.Nat.{min};
-ghost use Rattle.tiles.specs.Moves.{BandSmall, BandFits, TileAt, tileRows, TileLaid, BandLaid, BandMoved, Converts, Converted};
+ghost use Rattle.tiles.specs.Private.{BandSmall, BandFits, TileAt, tileRows, TileLaid, BandLaid, BandMoved, Converts, Converted};
 
 // A band: where its first word stands, its rows and columns, how wide its tiles are, and whether it goes into tiles or back.
 pub(crate) struct Band {

@@ -1,8 +1,8 @@
 // Runs of words copied from one slice to another.
 ghost use Prim.Native.Nat.{_+_, _≤_};
 ghost use lib.ListN.{length, getD};
-ghost use Rattle.passes.specs.ThroughScratch.{Filled};
-ghost use Rattle.tiles.specs.Moves.{RowsFit, RowsLaid};
+ghost use Rattle.passes.specs.PrivateScratch.{Filled};
+ghost use Rattle.tiles.specs.Private.{RowsFit, RowsLaid};
 
 // Rows to copy: where the first goes and how far apart they go, where the first comes from and how far apart they come, how long and how many
 // they are.

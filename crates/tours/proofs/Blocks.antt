@@ -6,10 +6,10 @@ use native.Mathlib.Omega.{arith}
 use lib.ListN.{length}
 use borrow.Rule.Slice.PartMut.{midOf, mid-len}
 use Rattle.halves.proofs.Blocks.{block-ends}
-use Rattle.tours.specs.Private.{Filling, Lies, AllFill}
+use Rattle.tours.specs.Private.{Filling, LiesAt, AllFill}
 use Rattle.tours.specs.declared.tour.Grid.{Grid}
 
-pub part-fills : {g : Grid} {base end : ℕ} {xs : List ℕ} → Lies g base xs → end ≡ base + g .m * g .n * g .chunk → Filling g (midOf base (end - base) xs)
+pub part-fills : {g : Grid} {base end : ℕ} {xs : List ℕ} → LiesAt g base xs → end ≡ base + g .m * g .n * g .chunk → Filling g (midOf base (end - base) xs)
 part-fills {g} {base} {end} {xs} y is = record {
   follows = y .follows;
   fill = mid-len base end xs (omega (arith, y .inside)) ∙ omega arith;
@@ -17,7 +17,7 @@ part-fills {g} {base} {end} {xs} y is = record {
 }
 
 -- block e of the blocks that fill the words lies in them
-pub block-lies : {g : Grid} {outer : ℕ} {xs : List ℕ} → AllFill g outer xs → (e : ℕ) (ys : List ℕ) → length ys ≡ length xs → e < outer → Lies g (e * (g .m * g .n * g .chunk)) ys
+pub block-lies : {g : Grid} {outer : ℕ} {xs : List ℕ} → AllFill g outer xs → (e : ℕ) (ys : List ℕ) → length ys ≡ length xs → e < outer → LiesAt g (e * (g .m * g .n * g .chunk)) ys
 block-lies {g} {outer} y e ys same h =
     let end = block-ends (g .m * g .n * g .chunk) h in
     record { follows = y .follows; inside = omega (arith, y .fill); few = omega (arith, y .few) }

@@ -9,7 +9,7 @@ use native.Mathlib.Omega.{arith}
 use lib.ListN.{length, getD, set}
 use lib.Seq.{set-set, set-comm}
 use Rattle.lists.proofs.Decide.{eq-or-ne}
-use Rattle.halves.specs.LentSlices.{swapped}
+use Rattle.halves.specs.Private.{swapped}
 use Rattle.halves.proofs.Diagonal.{at-first, at-second, elsewhere}
 use Rattle.halves.proofs.Exchanges.{swapped-same}
 use Rattle.tours.specs.Private.{handed}
@@ -132,13 +132,13 @@ pub carrying-three′ : {p q : ℕ → ℕ} {bound count c d : ℕ} {before word
 carrying-three′ diff long hc hd s = swapped-chains (carrying-three (turned diff) long hd hc (swapped-chains s))
 
 -- every word of both chains has gone one place on, every other word stands
-pub record Carried (p q : ℕ → ℕ) (bound : ℕ) (before words : List ℕ) : Type 0 where
+pub record CarriedBoth (p q : ℕ → ℕ) (bound : ℕ) (before words : List ℕ) : Type 0 where
   pub gone : (h : ℕ) → h < bound → getD words (p (suc h)) 0 ≡ getD before (p h) 0
   pub gone′ : (h : ℕ) → h < bound → getD words (q (suc h)) 0 ≡ getD before (q h) 0
   pub others : (z : ℕ) → ((h : ℕ) → h < bound → z ≡ p h → ⊥) → ((h : ℕ) → h < bound → z ≡ q h → ⊥) → getD words z 0 ≡ getD before z 0
 
 -- each chain is home
-pub carried-home : {p q : ℕ → ℕ} {c : ℕ} {before words : List ℕ} → p (suc c) ≡ p 0 → q (suc c) ≡ q 0 → Carrying p q c c before words → Carried p q (suc c) before words
+pub carried-home : {p q : ℕ → ℕ} {c : ℕ} {before words : List ℕ} → p (suc c) ≡ p 0 → q (suc c) ≡ q 0 → Carrying p q c c before words → CarriedBoth p q (suc c) before words
 carried-home {p} {q} {c} {words = words} home home′ s = record {
   gone = λ h l. ⊎-elim
       (λ (e : h ≡ c). rw e (ap (λ (z : ℕ). getD words z 0) home ∙ s .held))
@@ -153,7 +153,7 @@ carried-home {p} {q} {c} {words = words} home home′ s = record {
 
 -- each has come to the first place of the other: one trade more
 pub carried-crossed : {p q : ℕ → ℕ} {count c : ℕ} {before words : List ℕ} → Different p q (suc c) count → length before ≡ count → p (suc c) ≡ q 0 → q (suc c) ≡ p 0
-    → Carrying p q c c before words → Carried p q (suc c) before (swapped words (p 0) (q 0))
+    → Carrying p q c c before words → CarriedBoth p q (suc c) before (swapped words (p 0) (q 0))
 carried-crossed {p} {q} {count} {c} {before} {words} diff long cross cross′ s = record {
   gone = λ h l. ⊎-elim
       (λ (e : h ≡ c). rw e (ap (λ (z : ℕ). getD after z 0) cross ∙ at-second words (p 0) (q 0) away in-p in-q ∙ s .held))

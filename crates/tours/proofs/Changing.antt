@@ -11,10 +11,10 @@ use lib.ListN.{length, getD, set, length-set}
 use lib.Seq.{getD-set-same, getD-set-other, ext-getD}
 use Rattle.lists.proofs.Decide.{lt-or-ge, eq-or-ne}
 use Rattle.lists.proofs.Tab.{length-tab, tab-ext}
-use Rattle.halves.specs.LentSlices.{ofChunks}
+use Rattle.halves.specs.Private.{ofChunks}
 use Rattle.halves.proofs.Chunks.{word-at}
 use Rattle.halves.proofs.Diagonal.{same-row, same-column}
-use Rattle.tours.specs.Private.{mirror, Held, Stored, Filling, Place, Changed, traded, handed, tradedBoth, handedBoth}
+use Rattle.tours.specs.Private.{mirror, Held, Stored, Filling, Place, ChangedAt, traded, handed, tradedBoth, handedBoth}
 use Rattle.tours.specs.declared.tour.Grid.{Grid}
 
 pub stored-none : {to : ℕ} {words xs : List ℕ} → Stored to 0 words xs xs
@@ -85,11 +85,11 @@ module _ {count v : ℕ} (w p d : ℕ) {words xs ys : List ℕ} (low : p < count
       ⊎-elim (λ (l : u < d). omega arith) (λ (l : d + v ≤ u). omega arith) b))
 
 module _ {count chunk : ℕ} {change : List ℕ → List ℕ} where
-  pub changed-none : {d : ℕ} {xs : List ℕ} → Changed count chunk d d change xs xs
+  pub changed-none : {d : ℕ} {xs : List ℕ} → ChangedAt count chunk d d change xs xs
   changed-none = record { same = refl; done = λ u a b. absurd (omega arith); stand = λ u a b. refl }
 
-  pub changed-on : {d e f : ℕ} {xs ys zs : List ℕ} → d ≤ e → e ≤ f → f ≤ chunk → Changed count chunk d e change xs ys → Changed count chunk e f change ys zs
-      → Changed count chunk d f change xs zs
+  pub changed-on : {d e f : ℕ} {xs ys zs : List ℕ} → d ≤ e → e ≤ f → f ≤ chunk → ChangedAt count chunk d e change xs ys → ChangedAt count chunk e f change ys zs
+      → ChangedAt count chunk d f change xs zs
   changed-on {d} {e} {f} low high within a b = record {
     same = b .same ∙ a .same;
     done = λ u l h. ⊎-elim
@@ -100,12 +100,12 @@ module _ {count chunk : ℕ} {change : List ℕ → List ℕ} where
         ∙ a .stand u l (⊎-elim (λ (z : u < d). inl z) (λ (z : f ≤ u). inr (omega arith)) h);
   }
 
-  pub changed-all : {d e f : ℕ} {xs ys : List ℕ} → Changed count chunk d e change xs ys → e ≡ f → Changed count chunk d f change xs ys
+  pub changed-all : {d e f : ℕ} {xs ys : List ℕ} → ChangedAt count chunk d e change xs ys → e ≡ f → ChangedAt count chunk d f change xs ys
   changed-all a z = rw (← z) a
 
 -- one change after the other
-changed-then : {count chunk d e : ℕ} {first second : List ℕ → List ℕ} {xs ys zs : List ℕ} → Changed count chunk d e first xs ys → Changed count chunk d e second ys zs
-    → Changed count chunk d e (λ words. second (first words)) xs zs
+changed-then : {count chunk d e : ℕ} {first second : List ℕ → List ℕ} {xs ys zs : List ℕ} → ChangedAt count chunk d e first xs ys → ChangedAt count chunk d e second ys zs
+    → ChangedAt count chunk d e (λ words. second (first words)) xs zs
 changed-then {second = second} a b = record {
   same = b .same ∙ a .same;
   done = λ u l h. b .done u l h ∙ ap second (a .done u l h);
@@ -114,12 +114,12 @@ changed-then {second = second} a b = record {
 
 -- the same at the mirrored places
 pub trades-both : {count chunk p q : ℕ} {xs ys zs : List ℕ} (x y : ℕ) → p ≡ mirror count x → q ≡ mirror count y
-    → Changed count chunk 0 chunk (traded x y) xs ys → Changed count chunk 0 chunk (traded p q) ys zs → Changed count chunk 0 chunk (tradedBoth count x y) xs zs
+    → ChangedAt count chunk 0 chunk (traded x y) xs ys → ChangedAt count chunk 0 chunk (traded p q) ys zs → ChangedAt count chunk 0 chunk (tradedBoth count x y) xs zs
 trades-both {count} x y e f one two = changed-then {second = traded (mirror count x) (mirror count y)} one (rw (← e, ← f) two)
 
 pub hands-both : {count chunk p q r t : ℕ} {xs ys zs : List ℕ} (x a b c : ℕ) → p ≡ mirror count x → q ≡ mirror count a → r ≡ mirror count b → t ≡ mirror count c
-    → Changed count chunk 0 chunk (handed x a b c) xs ys → Changed count chunk 0 chunk (handed p q r t) ys zs
-    → Changed count chunk 0 chunk (handedBoth count x a b c) xs zs
+    → ChangedAt count chunk 0 chunk (handed x a b c) xs ys → ChangedAt count chunk 0 chunk (handed p q r t) ys zs
+    → ChangedAt count chunk 0 chunk (handedBoth count x a b c) xs zs
 hands-both {count} x a b c e f g h one two =
     changed-then {second = handed (mirror count x) (mirror count a) (mirror count b) (mirror count c)} one (rw (← e, ← f, ← g, ← h) two)
 
@@ -132,7 +132,7 @@ kept {g} {xs = xs} x d u at read a b =
 -- two chunks: what was read of each is stored in the other
 pub trades : {g : Grid} {v : ℕ} {one two xs ys zs : List ℕ} (x y d : ℕ) → Place g x → Place g y → d + v ≤ g .chunk
     → Held (x * g .chunk + d) v one xs → Held (y * g .chunk + d) v two xs
-    → Stored (x * g .chunk + d) v two xs ys → Stored (y * g .chunk + d) v one ys zs → Changed (g .m * g .n) (g .chunk) d (d + v) (traded x y) xs zs
+    → Stored (x * g .chunk + d) v two xs ys → Stored (y * g .chunk + d) v one ys zs → ChangedAt (g .m * g .n) (g .chunk) d (d + v) (traded x y) xs zs
 trades {g} x y d hx hy within r₁ r₂ s₁ s₂ =
     let w = g .chunk in
     record {
@@ -146,7 +146,7 @@ trades {g} x y d hx hy within r₁ r₂ s₁ s₂ =
 pub hands : {g : Grid} {v : ℕ} {one two three four xs ys₁ ys₂ ys₃ zs : List ℕ} (x a b c d : ℕ) → Place g x → Place g a → Place g b → Place g c → d + v ≤ g .chunk
     → Held (x * g .chunk + d) v one xs → Held (a * g .chunk + d) v two xs → Held (b * g .chunk + d) v three xs → Held (c * g .chunk + d) v four xs
     → Stored (x * g .chunk + d) v four xs ys₁ → Stored (a * g .chunk + d) v one ys₁ ys₂ → Stored (b * g .chunk + d) v two ys₂ ys₃ → Stored (c * g .chunk + d) v three ys₃ zs
-    → Changed (g .m * g .n) (g .chunk) d (d + v) (handed x a b c) xs zs
+    → ChangedAt (g .m * g .n) (g .chunk) d (d + v) (handed x a b c) xs zs
 hands {g} x a b c d hx ha hb hc within r₁ r₂ r₃ r₄ s₁ s₂ s₃ s₄ =
     let w = g .chunk in
     record {

@@ -8,11 +8,11 @@ use lib.ListN.{length, take, drop, replicate}
 use lib.Seq.{length-take-le}
 use Rattle.refusals.specs.Scratch.{need, cleared}
 use Rattle.refusals.proofs.Swap.{Swappable, swap-need}
-use Rattle.orbits.specs.Steps.{Inverse}
+use Rattle.orbits.specs.Private.{Reciprocal}
 use Rattle.tours.specs.Private.{AllFill}
 
 module _ {outer m n chunk : ℕ} {buffer scratch : List ℕ} (a : Swappable outer m n chunk buffer scratch) where
-  pub all-fill : {inverse : ℕ} → Inverse n inverse → AllFill (record { m = m; n = n; inverse = inverse; chunk = chunk }) outer buffer
+  pub all-fill : {inverse : ℕ} → Reciprocal n inverse → AllFill (record { m = m; n = n; inverse = inverse; chunk = chunk }) outer buffer
   all-fill i =
       let places : m * n ≤ m * n * chunk = le-mul-of-pos-right (m * n) (a .chunk-pos) in
       let words : m * n * chunk ≤ m * n * chunk * outer = le-mul-of-pos-right (m * n * chunk) (a .outer-pos) in

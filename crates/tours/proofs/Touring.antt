@@ -18,10 +18,10 @@ use Rattle.orbits.proofs.Orbit.{iter-within, iter-apart, period-is}
 use Rattle.orbits.proofs.Takes.{takes-permutes}
 use Rattle.orbits.proofs.Least.{iter-mod, least-all}
 use Rattle.orbits.proofs.Visits.{apart}
-use Rattle.halves.specs.LentSlices.{swapped, ofChunks}
-use Rattle.tours.specs.Private.{mirror, fold, half, pairs, Noted, Next, Gone, Toured, Changed, traded, handed, tradedBoth, handedBoth}
+use Rattle.halves.specs.Private.{swapped, ofChunks}
+use Rattle.tours.specs.Private.{mirror, fold, half, pairs, Noted, Next, Gone, Toured, ChangedAt, traded, handed, tradedBoth, handedBoth}
 use Rattle.tours.proofs.Mirror.{pair-goes, one-pair, pairs-permute, iter-mirror, pair-told, pair-told′}
-use Rattle.tours.proofs.Chains.{Different, Carrying, carrying-none, carrying-more, carrying-more′, carrying-three, carrying-three′, Carried, carried-home, carried-crossed}
+use Rattle.tours.proofs.Chains.{Different, Carrying, carrying-none, carrying-more, carrying-more′, carrying-three, carrying-three′, CarriedBoth, carried-home, carried-crossed}
 use Rattle.orbits.proofs.Follow.{Followed, homeward, low, starts, goes-on, nearer, home-whole}
 use Rattle.tours.proofs.Marking.{Marking, marking-none, marking-more, tour-known}
 
@@ -62,7 +62,7 @@ module _ (m n x : ℕ) (small : x < half (m * n)) where
   }
 
   -- what has gone along both chains has gone along the cycle of pairs
-  pub pairs-gone : {before after : List ℕ} → Carried along across whole before after → Gone m n x before after
+  pub pairs-gone : {before after : List ℕ} → CarriedBoth along across whole before after → Gone m n x before after
   unfolding iter
   pairs-gone {before} {after} c = record {
     gone = λ y h hy e.
@@ -139,7 +139,7 @@ module _ {m n chunk lo x : ℕ} {before marks : List ℕ} (nx : Next m n lo x ma
     across-at = let low = nx .low in ap (mirror (m * n)) (t .is) ∙ sym (iter-mirror m n (suc (t .trades)) x (omega arith))
 
     -- a trade on each chain
-    pub tour-more : {next : ℕ} {after noted : List ℕ} → x < fold (m * n) at → next ≡ takes m n at → Changed (m * n) chunk 0 chunk (tradedBoth (m * n) x at) words after
+    pub tour-more : {next : ℕ} {after noted : List ℕ} → x < fold (m * n) at → next ≡ takes m n at → ChangedAt (m * n) chunk 0 chunk (tradedBoth (m * n) x at) words after
         → Noted (32 * length marked) lo (fold (m * n) at) marked noted → Tour m n chunk lo x next before marks after noted
     unfolding iter
     tour-more {next} {after} up e moved w =
@@ -163,7 +163,7 @@ module _ {m n chunk lo x : ℕ} {before marks : List ℕ} (nx : Next m n lo x ma
 
     -- three trades on each chain
     pub tour-three : {second third next : ℕ} {after noted noted₂ noted₃ : List ℕ} → x < fold (m * n) at → x < fold (m * n) second → x < fold (m * n) third
-        → second ≡ takes m n at → third ≡ takes m n second → next ≡ takes m n third → Changed (m * n) chunk 0 chunk (handedBoth (m * n) x at second third) words after
+        → second ≡ takes m n at → third ≡ takes m n second → next ≡ takes m n third → ChangedAt (m * n) chunk 0 chunk (handedBoth (m * n) x at second third) words after
         → Noted (32 * length marked) lo (fold (m * n) at) marked noted → Noted (32 * length noted) lo (fold (m * n) second) noted noted₂
         → Noted (32 * length noted₂) lo (fold (m * n) third) noted₂ noted₃ → Tour m n chunk lo x next before marks after noted₃
     unfolding iter
@@ -217,13 +217,13 @@ module _ {m n chunk lo x : ℕ} {before marks : List ℕ} (nx : Next m n lo x ma
       all = home-whole (pairs-permute m n) x (nx .low) (t .followed) pair-home
 
       toured : {after : List ℕ} → length after ≡ length words
-          → ((u : ℕ) → u < chunk → Carried (chain m n x) (chain m n (mirror (m * n) x)) (suc (t .trades)) (ofChunks (m * n) chunk u before) (ofChunks (m * n) chunk u after))
+          → ((u : ℕ) → u < chunk → CarriedBoth (chain m n x) (chain m n (mirror (m * n) x)) (suc (t .trades)) (ofChunks (m * n) chunk u before) (ofChunks (m * n) chunk u after))
           → Toured m n chunk lo x before marks after marked
       toured {after} same carried = record {
         same = same ∙ t .same;
         each = λ u h.
             pairs-gone m n x (nx .low)
-            (subst (λ (c : ℕ). Carried (chain m n x) (chain m n (mirror (m * n) x)) c (ofChunks (m * n) chunk u before) (ofChunks (m * n) chunk u after)) all (carried u h));
+            (subst (λ (c : ℕ). CarriedBoth (chain m n x) (chain m n (mirror (m * n) x)) c (ofChunks (m * n) chunk u before) (ofChunks (m * n) chunk u after)) all (carried u h));
         same-marks = t .marking .same;
         known = tour-known nx (t .followed) (t .marking) all;
       }
@@ -234,7 +234,7 @@ module _ {m n chunk lo x : ℕ} {before marks : List ℕ} (nx : Next m n lo x ma
       tour-home home = toured refl (λ u h. carried-home (sym (t .is) ∙ home) (sym across-at ∙ ap (mirror (m * n)) home) (t .carrying u h))
 
       -- each has come to where the other began
-      pub tour-crossed : {after : List ℕ} → (at ≡ x → ⊥) → Changed (m * n) chunk 0 chunk (traded x (mirror (m * n) x)) words after → Toured m n chunk lo x before marks after marked
+      pub tour-crossed : {after : List ℕ} → (at ≡ x → ⊥) → ChangedAt (m * n) chunk 0 chunk (traded x (mirror (m * n) x)) words after → Toured m n chunk lo x before marks after marked
       unfolding iter
       tour-crossed {after} away moved =
           let low = nx .low in
@@ -244,5 +244,5 @@ module _ {m n chunk lo x : ℕ} {before marks : List ℕ} (nx : Next m n lo x ma
           let diff = subst (λ (c : ℕ). Different (chain m n x) (chain m n (mirror (m * n) x)) c (m * n)) (sym all)
           (chains-differ m n x (nx .low) (λ e. away (cross ∙ sym e))) in
           toured (moved .same) (λ u h.
-          subst (Carried (chain m n x) (chain m n (mirror (m * n) x)) (suc (t .trades)) (ofChunks (m * n) chunk u before)) (sym (moved .done u (omega arith) h))
+          subst (CarriedBoth (chain m n x) (chain m n (mirror (m * n) x)) (suc (t .trades)) (ofChunks (m * n) chunk u before)) (sym (moved .done u (omega arith) h))
           (carried-crossed diff (length-tab (m * n) _) (sym (t .is) ∙ cross) (sym across-at ∙ omega arith) (t .carrying u h)))

@@ -17,7 +17,7 @@ use Rattle.orbits.proofs.Orbit.{iter-add}
 use Rattle.orbits.proofs.Takes.{takes-permutes}
 use Rattle.orbits.proofs.Least.{least-all}
 use Rattle.orbits.proofs.Roots.{smaller, leads-back}
-use Rattle.halves.specs.LentSlices.{ChunksTurned, ofChunks}
+use Rattle.halves.specs.Private.{ChunksTurned, ofChunks}
 use Rattle.halves.proofs.Chunks.{word-at}
 use Rattle.tours.specs.Private.{fold, half, pairs, bitAt, Known, Next, Led, Gone, Toured, Settled, Left}
 use Rattle.tours.proofs.Bits.{none-marked, both}

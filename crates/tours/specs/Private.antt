@@ -1,4 +1,4 @@
--- Serves only the contracts of private functions. Assumes nothing: these are definitions.
+-- These definitions serve only the contracts of private functions: a reader of the promises can pass over them. Assumes nothing.
 use mathlib.Core.Path.{_≡_}
 use mathlib.Core.Bool.{Bool, true, false}
 use mathlib.Core.List.{List}
@@ -7,9 +7,9 @@ use Prim.Native.Nat.{ℕ, _+_, _*_, _-_, _/_, _%_, _^_, _<_, _≤_, min}
 use lib.Dec.{eqb}
 use lib.ListN.{length, getD, set}
 use Rattle.orbits.specs.Orbit.{iter}
-use Rattle.orbits.specs.Steps.{Small, Inverse}
+use Rattle.orbits.specs.Private.{Small, Reciprocal}
 use Rattle.orbits.specs.Cycles.{takes, isLeast}
-use Rattle.halves.specs.LentSlices.{swapped, ofChunks}
+use Rattle.halves.specs.Private.{swapped, ofChunks}
 use Rattle.tours.specs.declared.tour.Grid.{Grid}
 
 -- the place that lies as far from the end of count places as x from their beginning
@@ -56,13 +56,13 @@ pub record Stored (to count : ℕ) (words before after : List ℕ) : Type 0 wher
   pub others : (i : ℕ) → ((p : ℕ) → p < count → i ≡ to + p → ⊥) → getD after i 0 ≡ getD before i 0
 
 -- the steps of a block's turn can be followed
-pub record Follows (g : Grid) : Type 0 where
+pub record GridRight (g : Grid) : Type 0 where
   pub small : Small (g .m) (g .n)
-  pub inverse : Inverse (g .n) (g .inverse)
+  pub inverse : Reciprocal (g .n) (g .inverse)
 
 -- and its chunks fill the words
 pub record Filling (g : Grid) (xs : List ℕ) : Type 0 where
-  pub follows : Follows g
+  pub follows : GridRight g
   pub fill : length xs ≡ g .m * g .n * g .chunk
   pub few : g .m * g .n * g .chunk ≤ 1048576
 
@@ -72,12 +72,12 @@ pub record Place (g : Grid) (x : ℕ) : Type 0 where
   pub inside : x * g .chunk + g .chunk ≤ g .m * g .n * g .chunk
 
 -- words d to e of the chunks, word u of all of them taken together, are changed in one way; the other words of the chunks stand
-pub record Changed (count chunk d e : ℕ) (change : List ℕ → List ℕ) (before after : List ℕ) : Type 0 where
+pub record ChangedAt (count chunk d e : ℕ) (change : List ℕ → List ℕ) (before after : List ℕ) : Type 0 where
   pub same : length after ≡ length before
   pub done : (u : ℕ) → d ≤ u → u < e → ofChunks count chunk u after ≡ change (ofChunks count chunk u before)
   pub stand : (u : ℕ) → u < chunk → (u < d) ⊎ (e ≤ u) → ofChunks count chunk u after ≡ ofChunks count chunk u before
 
--- the words at two places are traded
+-- the words at two places are exchanged
 abbrev pub traded : ℕ → ℕ → List ℕ → List ℕ
 traded x y words = swapped words x y
 
@@ -85,7 +85,7 @@ traded x y words = swapped words x y
 abbrev pub handed : ℕ → ℕ → ℕ → ℕ → List ℕ → List ℕ
 handed x a b c words = set (set (set (set words x (getD words c 0)) a (getD words x 0)) b (getD words a 0)) c (getD words b 0)
 
--- the words at two places are traded, and those at the mirrored places
+-- the words at two places are exchanged, and those at the mirrored places
 abbrev pub tradedBoth : ℕ → ℕ → ℕ → List ℕ → List ℕ
 tradedBoth count x y words = traded (mirror count x) (mirror count y) (traded x y words)
 
@@ -136,14 +136,14 @@ pub record Left (m n chunk x y : ℕ) (before after : List ℕ) : Type 0 where
   pub left : (u : ℕ) → u < chunk → (start : List ℕ) → Settled m n x start (ofChunks (m * n) chunk u before) → Settled m n y start (ofChunks (m * n) chunk u after)
 
 -- a block of chunks lies in the words at base
-pub record Lies (g : Grid) (base : ℕ) (xs : List ℕ) : Type 0 where
-  pub follows : Follows g
+pub record LiesAt (g : Grid) (base : ℕ) (xs : List ℕ) : Type 0 where
+  pub follows : GridRight g
   pub inside : base + g .m * g .n * g .chunk ≤ length xs
   pub few : length xs ≤ 1048576
 
 -- so many blocks of chunks fill the words, one after the other
 pub record AllFill (g : Grid) (outer : ℕ) (xs : List ℕ) : Type 0 where
-  pub follows : Follows g
+  pub follows : GridRight g
   pub some : 0 < outer
   pub fill : length xs ≡ outer * (g .m * g .n * g .chunk)
   pub few : length xs ≤ 1048576

@@ -1,9 +1,9 @@
-// Chunks moved between places of a block: two traded, or four handed on, four words of each at a time and the last ones word by word.
+// Chunks moved between places of a block: two exchanged, or four handed on, four words of each at a time and the last ones word by word.
 use crate::tour::Grid;
 ghost use mathlib.Core.List.{[], _∷_};
 ghost use Prim.Native.Nat.{_+_, _*_, _<_, _≤_};
 ghost use lib.ListN.{length};
-ghost use Rattle.tours.specs.Private.{Held, Stored, Filling, Place, Changed, traded, handed};
+ghost use Rattle.tours.specs.Private.{Held, Stored, Filling, Place, ChangedAt, traded, handed};
 
 // The four words from a place on.
 fn held(s: &[u32], from: usize) -> [u32; 4]
@@ -38,7 +38,7 @@ fn put(s: &mut [u32], to: usize, word: u32)
 // Trades four words of the chunks at x and at y, from word d of each on: all are read before any is stored.
 fn trade_four(s: &mut [u32], g: Grid, x: usize, y: usize, d: usize)
     requires { ⌜ Filling g (now s) × Place g x × Place g y × (d + 4 ≤ g .chunk) ⌝ }
-    ensures { λ _. ⌜ Changed (g .m * g .n) (g .chunk) d (d + 4) (traded x y) (now (s .entry)) (now (s .exit)) ⌝ }
+    ensures { λ _. ⌜ ChangedAt (g .m * g .n) (g .chunk) d (d + 4) (traded x y) (now (s .entry)) (now (s .exit)) ⌝ }
 {
     let p = x * g.chunk + d;
     let q = y * g.chunk + d;
@@ -51,7 +51,7 @@ fn trade_four(s: &mut [u32], g: Grid, x: usize, y: usize, d: usize)
 // Trades so many fours of the two chunks.
 fn trade_fours(s: &mut [u32], g: Grid, x: usize, y: usize, count: usize)
     requires { ⌜ Filling g (now s) × Place g x × Place g y × (4 * count ≤ g .chunk) ⌝ }
-    ensures { λ _. ⌜ Changed (g .m * g .n) (g .chunk) 0 (4 * count) (traded x y) (now (s .entry)) (now (s .exit)) ⌝ }
+    ensures { λ _. ⌜ ChangedAt (g .m * g .n) (g .chunk) 0 (4 * count) (traded x y) (now (s .entry)) (now (s .exit)) ⌝ }
 {
     for e in 0..count {
         trade_four(s, g, x, y, 4 * e);
@@ -61,7 +61,7 @@ fn trade_fours(s: &mut [u32], g: Grid, x: usize, y: usize, count: usize)
 // Trades word d of the two chunks.
 fn trade_word(s: &mut [u32], g: Grid, x: usize, y: usize, d: usize)
     requires { ⌜ Filling g (now s) × Place g x × Place g y × (d < g .chunk) ⌝ }
-    ensures { λ _. ⌜ Changed (g .m * g .n) (g .chunk) d (d + 1) (traded x y) (now (s .entry)) (now (s .exit)) ⌝ }
+    ensures { λ _. ⌜ ChangedAt (g .m * g .n) (g .chunk) d (d + 1) (traded x y) (now (s .entry)) (now (s .exit)) ⌝ }
 {
     let p = x * g.chunk + d;
     let q = y * g.chunk + d;
@@ -74,7 +74,7 @@ fn trade_word(s: &mut [u32], g: Grid, x: usize, y: usize, d: usize)
 // Trades the words of the two chunks from word `from` on.
 fn trade_rest(s: &mut [u32], g: Grid, x: usize, y: usize, from: usize)
     requires { ⌜ Filling g (now s) × Place g x × Place g y × (from ≤ g .chunk) ⌝ }
-    ensures { λ _. ⌜ Changed (g .m * g .n) (g .chunk) from (g .chunk) (traded x y) (now (s .entry)) (now (s .exit)) ⌝ }
+    ensures { λ _. ⌜ ChangedAt (g .m * g .n) (g .chunk) from (g .chunk) (traded x y) (now (s .entry)) (now (s .exit)) ⌝ }
 {
     for d in from..g.chunk {
         trade_word(s, g, x, y, d);
@@ -84,7 +84,7 @@ fn trade_rest(s: &mut [u32], g: Grid, x: usize, y: usize, from: usize)
 // Trades the chunks at x and at y.
 pub(crate) fn trade(s: &mut [u32], g: Grid, x: usize, y: usize)
     requires { ⌜ Filling g (now s) × Place g x × Place g y ⌝ }
-    ensures { λ _. ⌜ Changed (g .m * g .n) (g .chunk) 0 (g .chunk) (traded x y) (now (s .entry)) (now (s .exit)) ⌝ }
+    ensures { λ _. ⌜ ChangedAt (g .m * g .n) (g .chunk) 0 (g .chunk) (traded x y) (now (s .entry)) (now (s .exit)) ⌝ }
 {
     let fours = g.chunk >> 2;
     trade_fours(s, g, x, y, fours);
@@ -95,7 +95,7 @@ pub(crate) fn trade(s: &mut [u32], g: Grid, x: usize, y: usize)
 // read before any is stored, so that what is read of one place does not wait for another.
 fn hand_four(s: &mut [u32], g: Grid, x: usize, a: usize, b: usize, c: usize, d: usize)
     requires { ⌜ Filling g (now s) × Place g x × Place g a × Place g b × Place g c × (d + 4 ≤ g .chunk) ⌝ }
-    ensures { λ _. ⌜ Changed (g .m * g .n) (g .chunk) d (d + 4) (handed x a b c) (now (s .entry)) (now (s .exit)) ⌝ }
+    ensures { λ _. ⌜ ChangedAt (g .m * g .n) (g .chunk) d (d + 4) (handed x a b c) (now (s .entry)) (now (s .exit)) ⌝ }
 {
     let home = x * g.chunk + d;
     let first = a * g.chunk + d;
@@ -114,7 +114,7 @@ fn hand_four(s: &mut [u32], g: Grid, x: usize, a: usize, b: usize, c: usize, d: 
 // Hands so many fours of the four chunks on.
 fn hand_fours(s: &mut [u32], g: Grid, x: usize, a: usize, b: usize, c: usize, count: usize)
     requires { ⌜ Filling g (now s) × Place g x × Place g a × Place g b × Place g c × (4 * count ≤ g .chunk) ⌝ }
-    ensures { λ _. ⌜ Changed (g .m * g .n) (g .chunk) 0 (4 * count) (handed x a b c) (now (s .entry)) (now (s .exit)) ⌝ }
+    ensures { λ _. ⌜ ChangedAt (g .m * g .n) (g .chunk) 0 (4 * count) (handed x a b c) (now (s .entry)) (now (s .exit)) ⌝ }
 {
     for e in 0..count {
         hand_four(s, g, x, a, b, c, 4 * e);
@@ -124,7 +124,7 @@ fn hand_fours(s: &mut [u32], g: Grid, x: usize, a: usize, b: usize, c: usize, co
 // Hands word d of the four chunks on.
 fn hand_word(s: &mut [u32], g: Grid, x: usize, a: usize, b: usize, c: usize, d: usize)
     requires { ⌜ Filling g (now s) × Place g x × Place g a × Place g b × Place g c × (d < g .chunk) ⌝ }
-    ensures { λ _. ⌜ Changed (g .m * g .n) (g .chunk) d (d + 1) (handed x a b c) (now (s .entry)) (now (s .exit)) ⌝ }
+    ensures { λ _. ⌜ ChangedAt (g .m * g .n) (g .chunk) d (d + 1) (handed x a b c) (now (s .entry)) (now (s .exit)) ⌝ }
 {
     let home = x * g.chunk + d;
     let first = a * g.chunk + d;
@@ -143,7 +143,7 @@ fn hand_word(s: &mut [u32], g: Grid, x: usize, a: usize, b: usize, c: usize, d: 
 // Hands the words of the four chunks on from word `from` on.
 fn hand_rest(s: &mut [u32], g: Grid, x: usize, a: usize, b: usize, c: usize, from: usize)
     requires { ⌜ Filling g (now s) × Place g x × Place g a × Place g b × Place g c × (from ≤ g .chunk) ⌝ }
-    ensures { λ _. ⌜ Changed (g .m * g .n) (g .chunk) from (g .chunk) (handed x a b c) (now (s .entry)) (now (s .exit)) ⌝ }
+    ensures { λ _. ⌜ ChangedAt (g .m * g .n) (g .chunk) from (g .chunk) (handed x a b c) (now (s .entry)) (now (s .exit)) ⌝ }
 {
     for d in from..g.chunk {
         hand_word(s, g, x, a, b, c, d);
@@ -153,7 +153,7 @@ fn hand_rest(s: &mut [u32], g: Grid, x: usize, a: usize, b: usize, c: usize, fro
 // Hands the chunk at each of four places on to the next, and that of the last to the first.
 pub(crate) fn hand(s: &mut [u32], g: Grid, x: usize, a: usize, b: usize, c: usize)
     requires { ⌜ Filling g (now s) × Place g x × Place g a × Place g b × Place g c ⌝ }
-    ensures { λ _. ⌜ Changed (g .m * g .n) (g .chunk) 0 (g .chunk) (handed x a b c) (now (s .entry)) (now (s .exit)) ⌝ }
+    ensures { λ _. ⌜ ChangedAt (g .m * g .n) (g .chunk) 0 (g .chunk) (handed x a b c) (now (s .entry)) (now (s .exit)) ⌝ }
 {
     let fours = g.chunk >> 2;
     hand_fours(s, g, x, a, b, c, fours);

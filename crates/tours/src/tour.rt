@@ -11,9 +11,9 @@ ghost use Rattle.refusals.specs.Calls.{swapBlock};
 ghost use Rattle.refusals.specs.Promise.{middle};
 ghost use lib.Dec.{ltb};
 ghost use Rattle.orbits.specs.Cycles.{takes, isLeast};
-ghost use Rattle.orbits.specs.Steps.{Inverse};
-ghost use Rattle.halves.specs.LentSlices.{ChunksTurned, TurnedAt};
-ghost use Rattle.tours.specs.Private.{mirror, fold, half, pairs, Follows, Filling, Noted, Known, Next, Led, Changed, tradedBoth, handedBoth, Toured, Left, Lies, AllFill};
+ghost use Rattle.orbits.specs.Private.{Reciprocal};
+ghost use Rattle.halves.specs.Private.{ChunksTurned, TurnedAt};
+ghost use Rattle.tours.specs.Private.{mirror, fold, half, pairs, GridRight, Filling, Noted, Known, Next, Led, ChangedAt, tradedBoth, handedBoth, Toured, Left, LiesAt, AllFill};
 
 // A block of m rows and n columns of chunks, and the inverse of n that a step multiplies by.
 pub(crate) struct Grid {
@@ -26,7 +26,7 @@ pub(crate) struct Grid {
 // The inverse of n that a step multiplies by: 2 to the 40th by n, rounded down, and one more.
 pub(crate) fn inverse_of(n: usize) -> usize
     requires { ⌜ 0 < n ⌝ }
-    ensures { λ r. ⌜ Inverse n r ⌝ }
+    ensures { λ r. ⌜ Reciprocal n r ⌝ }
 {
     1099511627776 / n + 1
 }
@@ -34,7 +34,7 @@ pub(crate) fn inverse_of(n: usize) -> usize
 // Where the turn takes place x: m times x modulo mn - 1, which is counted off once for each row. The row is found by multiplication, so that no step
 // divides, and only one product waits for another.
 fn step(g: Grid, x: usize) -> usize
-    requires { ⌜ Follows g × (x < g .m * g .n) ⌝ }
+    requires { ⌜ GridRight g × (x < g .m * g .n) ⌝ }
     ensures { λ r. ⌜ r ≡ takes (g .m) (g .n) x ⌝ }
 {
     let row = (x * g.inverse) >> 40;
@@ -54,7 +54,7 @@ fn lesser(first: usize, second: usize) -> usize
 // The place that lies as far from the block's end as x from its beginning. The turn takes mirrored places to mirrored places, so that both go along
 // by one step.
 fn mirrored(g: Grid, x: usize) -> usize
-    requires { ⌜ Follows g × (x < g .m * g .n) ⌝ }
+    requires { ⌜ GridRight g × (x < g .m * g .n) ⌝ }
     ensures { λ r. ⌜ r ≡ mirror (g .m * g .n) x ⌝ }
 {
     g.m * g.n - 1 - x
@@ -62,7 +62,7 @@ fn mirrored(g: Grid, x: usize) -> usize
 
 // The lesser of a place and its mirrored one, which stands for both.
 fn folded(g: Grid, x: usize) -> usize
-    requires { ⌜ Follows g × (x < g .m * g .n) ⌝ }
+    requires { ⌜ GridRight g × (x < g .m * g .n) ⌝ }
     ensures { λ r. ⌜ r ≡ fold (g .m * g .n) x ⌝ }
 {
     lesser(x, mirrored(g, x))
@@ -70,7 +70,7 @@ fn folded(g: Grid, x: usize) -> usize
 
 // How many places stand for all.
 fn half_of(g: Grid) -> usize
-    requires { ⌜ Follows g ⌝ }
+    requires { ⌜ GridRight g ⌝ }
     ensures { λ r. ⌜ r ≡ half (g .m * g .n) ⌝ }
 {
     (g.m * g.n + 1) >> 1
@@ -78,7 +78,7 @@ fn half_of(g: Grid) -> usize
 
 // Where a pair of places is taken.
 fn pair_step(g: Grid, x: usize) -> usize
-    requires { ⌜ Follows g × (x < g .m * g .n) ⌝ }
+    requires { ⌜ GridRight g × (x < g .m * g .n) ⌝ }
     ensures { λ r. ⌜ r ≡ pairs (g .m) (g .n) x ⌝ }
 {
     folded(g, step(g, x))
@@ -87,7 +87,7 @@ fn pair_step(g: Grid, x: usize) -> usize
 // Whether place x is the least of its cycle of pairs: the cycle is followed until it is home or a smaller place shows. The places on the way are
 // above x, so none of them is the least: they are marked, and not asked about again.
 fn least(marks: &mut [u32], g: Grid, lo: usize, x: usize) -> bool
-    requires { ⌜ Follows g × Next (g .m) (g .n) lo x (now marks) × (0 < lo) ⌝ }
+    requires { ⌜ GridRight g × Next (g .m) (g .n) lo x (now marks) × (0 < lo) ⌝ }
     ensures { λ r. ⌜ Led (g .m) (g .n) lo x (now (marks .entry)) r (now (marks .exit)) ⌝ }
 {
     let mut at = pair_step(g, x);
@@ -101,7 +101,7 @@ fn least(marks: &mut [u32], g: Grid, lo: usize, x: usize) -> bool
 // Whether a tour begins at place x: where it is the least of its cycle of pairs. In the first window the marks alone tell, for a tour marks all of its
 // cycle that lies there.
 fn leads(marks: &mut [u32], g: Grid, lo: usize, x: usize) -> bool
-    requires { ⌜ Follows g × Next (g .m) (g .n) lo x (now marks) ⌝ }
+    requires { ⌜ GridRight g × Next (g .m) (g .n) lo x (now marks) ⌝ }
     ensures { λ r. ⌜ Led (g .m) (g .n) lo x (now (marks .entry)) r (now (marks .exit)) ⌝ }
 {
     if marks::marked(marks, x - lo) {
@@ -115,7 +115,7 @@ fn leads(marks: &mut [u32], g: Grid, lo: usize, x: usize) -> bool
 
 // Marks the pair of a place.
 fn note_pair(marks: &mut [u32], g: Grid, lo: usize, at: usize)
-    requires { ⌜ Follows g × (at < g .m * g .n) × (lo ≤ fold (g .m * g .n) at) × (length (now marks) ≤ 4096) ⌝ }
+    requires { ⌜ GridRight g × (at < g .m * g .n) × (lo ≤ fold (g .m * g .n) at) × (length (now marks) ≤ 4096) ⌝ }
     ensures { λ _. ⌜ Noted (32 * length (now (marks .entry))) lo (fold (g .m * g .n) at) (now (marks .entry)) (now (marks .exit)) ⌝ }
 {
     marks::note(marks, lo, folded(g, at));
@@ -123,7 +123,7 @@ fn note_pair(marks: &mut [u32], g: Grid, lo: usize, at: usize)
 
 // Whether the pairs of two places both lie above x.
 fn both_above(g: Grid, x: usize, second: usize, third: usize) -> bool
-    requires { ⌜ Follows g × (second < g .m * g .n) × (third < g .m * g .n) ⌝ }
+    requires { ⌜ GridRight g × (second < g .m * g .n) × (third < g .m * g .n) ⌝ }
     ensures { λ r. ⌜ r ≡ ltb x (min (fold (g .m * g .n) second) (fold (g .m * g .n) third)) ⌝ }
 {
     x < lesser(folded(g, second), folded(g, third))
@@ -132,7 +132,7 @@ fn both_above(g: Grid, x: usize, second: usize, third: usize) -> bool
 // Trades the chunks at two places, and those at the mirrored places.
 fn trade_both(buf: &mut [u32], g: Grid, x: usize, at: usize)
     requires { ⌜ Filling g (now buf) × (x < g .m * g .n) × (at < g .m * g .n) ⌝ }
-    ensures { λ _. ⌜ Changed (g .m * g .n) (g .chunk) 0 (g .chunk) (tradedBoth (g .m * g .n) x at) (now (buf .entry)) (now (buf .exit)) ⌝ }
+    ensures { λ _. ⌜ ChangedAt (g .m * g .n) (g .chunk) 0 (g .chunk) (tradedBoth (g .m * g .n) x at) (now (buf .entry)) (now (buf .exit)) ⌝ }
 {
     carry::trade(buf, g, x, at);
     carry::trade(buf, g, mirrored(g, x), mirrored(g, at));
@@ -141,7 +141,7 @@ fn trade_both(buf: &mut [u32], g: Grid, x: usize, at: usize)
 // Hands the chunks at four places on, and those at the mirrored places.
 fn hand_both(buf: &mut [u32], g: Grid, x: usize, a: usize, b: usize, c: usize)
     requires { ⌜ Filling g (now buf) × (x < g .m * g .n) × (a < g .m * g .n) × (b < g .m * g .n) × (c < g .m * g .n) ⌝ }
-    ensures { λ _. ⌜ Changed (g .m * g .n) (g .chunk) 0 (g .chunk) (handedBoth (g .m * g .n) x a b c) (now (buf .entry)) (now (buf .exit)) ⌝ }
+    ensures { λ _. ⌜ ChangedAt (g .m * g .n) (g .chunk) 0 (g .chunk) (handedBoth (g .m * g .n) x a b c) (now (buf .entry)) (now (buf .exit)) ⌝ }
 {
     carry::hand(buf, g, x, a, b, c);
     carry::hand(
@@ -154,10 +154,10 @@ fn hand_both(buf: &mut [u32], g: Grid, x: usize, a: usize, b: usize, c: usize)
     );
 }
 
-// Moves the chunks of the cycle of pairs of x, its least place. The chunk at x is traded with the one at each next place in turn: so what was at x is
+// Moves the chunks of the cycle of pairs of x, its least place. The chunk at x is exchanged with the one at each next place in turn: so what was at x is
 // one place on, what was there is two places on, and what comes home stands at x; and at the mirrored places likewise. Three places ahead go at once, for
 // they lie far apart, and what is read of one need not wait for what is read of another. Where the cycle of x is its own mirrored one, half of it has gone
-// when it comes to the place that mirrors x: then what is held at both is traded.
+// when it comes to the place that mirrors x: then what is held at both is exchanged.
 fn tour(buf: &mut [u32], marks: &mut [u32], g: Grid, lo: usize, x: usize)
     requires { ⌜ Filling g (now buf) × Next (g .m) (g .n) lo x (now marks) × (isLeast (pairs (g .m) (g .n)) (half (g .m * g .n)) x ≡ true) ⌝ }
     ensures { λ _. ⌜ Toured (g .m) (g .n) (g .chunk) lo x (now (buf .entry)) (now (marks .entry)) (now (buf .exit)) (now (marks .exit)) ⌝ }
@@ -215,7 +215,7 @@ fn block(buf: &mut [u32], marks: &mut [u32], g: Grid)
 
 // Turns the block of chunks that lies at base: its part of the buffer is lent.
 fn block_at(buf: &mut [u32], marks: &mut [u32], g: Grid, base: usize)
-    requires { ⌜ Lies g base (now buf) × (0 < length (now marks)) × (length (now marks) ≤ 4096) ⌝ }
+    requires { ⌜ LiesAt g base (now buf) × (0 < length (now marks)) × (length (now marks) ≤ 4096) ⌝ }
     ensures { λ _. ⌜ TurnedAt (g .m) (g .n) (g .chunk) base (now (buf .entry)) (now (buf .exit)) × (length (now (marks .exit)) ≡ length (now (marks .entry))) ⌝ }
 {
     let end = base + g.m * g.n * g.chunk;

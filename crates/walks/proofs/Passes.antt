@@ -11,7 +11,7 @@ use Rattle.numbers.specs.Gcd.{gcdOf}
 use Rattle.numbers.proofs.Gcd.{gcd-is}
 use Rattle.flat.specs.Passes.{rowGroup, columnGroup, row1, column2, row3}
 use Rattle.flat.proofs.Sides.{Sides}
-use Rattle.walks.specs.Walk.{walk, starts}
+use Rattle.walks.specs.PrivateWalk.{walk, starts}
 use Rattle.walks.proofs.Steps.{walk-reduced, starts-again, starts-on}
 
 -- whole groups of b, times m, are whole lines of n

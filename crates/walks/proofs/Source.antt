@@ -11,11 +11,11 @@ use Rattle.numbers.specs.Gcd.{gcdOf}
 use Rattle.flat.specs.Passes.{rowGroup, columnGroup, column2, source2}
 use Rattle.flat.proofs.Sides.{Sides}
 use Rattle.flat.proofs.Passes.{source-is}
-use Rattle.walks.specs.Source.{Inverse, At}
+use Rattle.walks.specs.PrivateSource.{Inverse, StateAt}
 use Rattle.walks.proofs.Remainders.{add-same, times-same, scaled-same}
 use Rattle.walks.proofs.Passes.{laps, crossed, shared-le, column2-at, column2-alone}
 use Rattle.walks.proofs.Steps.{walk-start, walk-more}
-use Rattle.walks.specs.Walk.{walk}
+use Rattle.walks.specs.PrivateWalk.{walk}
 
 -- a number from m to below twice m has passed m once
 passed : {m : ℕ} (y : ℕ) → m ≤ y → y < m + m → y / m ≡ 1
@@ -34,7 +34,7 @@ module _ {m n : ℕ} (s : Sides m n) where
       ∙ add-mul-mod-self-right (v + q % b * m) (q / b * a) n)
 
   -- the column of a state goes to the state's place
-  pub goes-to : {i j g q t : ℕ} → j < n → At m n i j g q t → column2 m n i (g * columnGroup m n + t) ≡ j
+  pub goes-to : {i j g q t : ℕ} → j < n → StateAt m n i j g q t → column2 m n i (g * columnGroup m n + t) ≡ j
   goes-to {i} {j} {g} {q} {t} h w =
       let b = columnGroup m n in
       let u = i + g in
@@ -45,13 +45,13 @@ module _ {m n : ℕ} (s : Sides m n) where
       ∙ w .place
       ∙ mod-eq-of-lt h
 
-  pub column-lt : {i j g q t : ℕ} → At m n i j g q t → g * columnGroup m n + t < n
+  pub column-lt : {i j g q t : ℕ} → StateAt m n i j g q t → g * columnGroup m n + t < n
   column-lt {i} {j} {g} {q} {t} w =
       let h : t < columnGroup m n = rw (w .column) (mod-lt (q + (i + g) / m) (s .b-pos)) in
       omega (arith, digits-lt (w .group) h, mul-comm (gcdOf m n) (columnGroup m n), s .columns)
 
   -- which is its source
-  pub source-at : {i j g q t : ℕ} → j < n → At m n i j g q t → source2 m n i j ≡ g * columnGroup m n + t
+  pub source-at : {i j g q t : ℕ} → j < n → StateAt m n i j g q t → source2 m n i j ≡ g * columnGroup m n + t
   source-at {i} {j} {g} {q} {t} h w = source-is s i j (g * columnGroup m n + t) (column-lt w) (goes-to h w)
 
   -- one place on
@@ -62,7 +62,7 @@ module _ {m n : ℕ} (s : Sides m n) where
   place-next i j g q e = ap (λ (z : ℕ). z % n) (omega arith) ∙ place-on (i + g + q * m) j e
 
   -- the next state, in the next group: where i + g does not reach m
-  pub next-group : {i j g q t : ℕ} → i < m → g + 1 < gcdOf m n → (i + (g + 1) ≡ m → ⊥) → At m n i j g q t → At m n i (j + 1) (g + 1) q t
+  pub next-group : {i j g q t : ℕ} → i < m → g + 1 < gcdOf m n → (i + (g + 1) ≡ m → ⊥) → StateAt m n i j g q t → StateAt m n i (j + 1) (g + 1) q t
   next-group {i} {j} {g} {q} {t} hi h d w = record {
     group = h;
     lap = w .lap;
@@ -74,7 +74,7 @@ module _ {m n : ℕ} (s : Sides m n) where
   }
 
   -- where it does
-  pub next-lap : {i j g q t : ℕ} → g + 1 < gcdOf m n → i + (g + 1) ≡ m → At m n i j g q t → At m n i (j + 1) (g + 1) q ((t + 1) % columnGroup m n)
+  pub next-lap : {i j g q t : ℕ} → g + 1 < gcdOf m n → i + (g + 1) ≡ m → StateAt m n i j g q t → StateAt m n i (j + 1) (g + 1) q ((t + 1) % columnGroup m n)
   next-lap {i} {j} {g} {q} {t} h e w = record {
     group = h;
     lap = w .lap;
@@ -100,7 +100,7 @@ module _ {m n : ℕ} (s : Sides m n) where
         ∙ ap (λ (z : ℕ). (d * c) % z) (s .columns)
 
     -- the next state past the last group
-    pub next-round : {i j g q t : ℕ} → i < m → g + 1 ≡ gcdOf m n → At m n i j g q t → let p = (q + x) % columnGroup m n in At m n i (j + 1) 0 p p
+    pub next-round : {i j g q t : ℕ} → i < m → g + 1 ≡ gcdOf m n → StateAt m n i j g q t → let p = (q + x) % columnGroup m n in StateAt m n i (j + 1) 0 p p
     next-round {i} {j} {g} {q} {t} hi h w =
         let b = columnGroup m n in
         let p = (q + x) % b in
@@ -119,7 +119,7 @@ module _ {m n : ℕ} (s : Sides m n) where
 
     -- the state at place 0: k·c is the least multiple of c that is not below i
     pub state-first : (i k : ℕ) → 0 < n → i ≤ k * gcdOf m n → k * gcdOf m n < i + gcdOf m n → let q = x * ((n - 1) * k) % columnGroup m n in
-        At m n i 0 (k * gcdOf m n - i) q ((q + k * gcdOf m n / m) % columnGroup m n)
+        StateAt m n i 0 (k * gcdOf m n - i) q ((q + k * gcdOf m n / m) % columnGroup m n)
     state-first i k hn low high =
         let c = gcdOf m n in
         let d = (n - 1) * k in
@@ -140,19 +140,19 @@ module _ {m n : ℕ} (s : Sides m n) where
         sub-one z = let e : n - 1 + 1 ≡ n = omega arith in omega (arith, add-mul (n - 1) 1 z, one-mul z, ap (λ (w : ℕ). w * z) e, mul-comm n z)
 
     -- sides that share no factor: one group, walked by x
-    module _ (e : gcdOf m n ≡ 1) {i q t : ℕ} (h : i < m) (w : At m n i 0 0 q t) where
+    module _ (e : gcdOf m n ≡ 1) {i q t : ℕ} (h : i < m) (w : StateAt m n i 0 0 q t) where
       whole-line : columnGroup m n ≡ n
       whole-line = sym (mul-one (columnGroup m n)) ∙ ap (λ (z : ℕ). columnGroup m n * z) (sym e) ∙ s .columns
 
-      lone-at : (j : ℕ) → At m n i j 0 (walk t x n j) (walk t x n j)
+      lone-at : (j : ℕ) → StateAt m n i j 0 (walk t x n j) (walk t x n j)
       lone-at zero =
           let b = columnGroup m n in
           let t-is : t ≡ q = w .column ∙ ap (λ (z : ℕ). (q + z) % b) (div-eq-of-lt (omega arith)) ∙ ap (λ (z : ℕ). z % b) (add-zero q) ∙ mod-eq-of-lt (w .lap) in
           let low : t < n = rw (whole-line, ← t-is) at (w .lap) in
-          rw (walk-start t x n low) (subst (λ (z : ℕ). At m n i 0 0 z t) (sym t-is) w)
+          rw (walk-start t x n low) (subst (λ (z : ℕ). StateAt m n i 0 0 z t) (sym t-is) w)
       lone-at (suc j) =
           let p : (walk t x n j + x) % columnGroup m n ≡ walk t x n (suc j) = ap (λ (z : ℕ). (walk t x n j + x) % z) whole-line ∙ sym (walk-more t x n j) ∙ ap (walk t x n) (add-one j) in
-          rw (add-one) at (subst (λ (z : ℕ). At m n i (j + 1) 0 z z) p (next-round h (sym e) (lone-at j)))
+          rw (add-one) at (subst (λ (z : ℕ). StateAt m n i (j + 1) 0 z z) p (next-round h (sym e) (lone-at j)))
 
       pub source-lone : (j : ℕ) → j < n → source2 m n i j ≡ walk t x n j
       source-lone j d = source-at d (lone-at j) ∙ ap (λ (z : ℕ). z + walk t x n j) (zero-mul (columnGroup m n)) ∙ zero-add (walk t x n j)

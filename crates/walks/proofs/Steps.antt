@@ -7,7 +7,7 @@ use native.Mathlib.Numerals.{add-one}
 use native.Mathlib.Nat.{mod-lt, mod-eq-of-lt, mod-eq-sub-mod, mod-add-mod, add-mod-mod, add-mod-right, add-mul, mul-comm, zero-mul, add-zero, one-mul, add-assoc, div-add-mod', mul-right-comm, mul-add-mod-self-right}
 use borrow.Author.Tests.{eq-eqb, ne-eqb}
 use lib.Dec.{eqb}
-use Rattle.walks.specs.Walk.{walk, starts}
+use Rattle.walks.specs.PrivateWalk.{walk, starts}
 
 -- the next place, where the step does not reach the modulus and where it does
 pub short-of : (place step modulus : ℕ) → step ≤ modulus → place < modulus - step → place + step ≡ (place + step) % modulus

@@ -8,7 +8,7 @@ use native.Mathlib.Omega.{arith}
 use lib.Arith.{digits-div, digits-mod, digits-lt}
 use Rattle.lists.proofs.Decide.{lt-or-ge}
 use Rattle.wall.specs.Tiles.{part, bandPlace}
-use Rattle.wall.specs.Homes.{bandHome}
+use Rattle.wall.specs.Private.{bandHome}
 use Rattle.wall.proofs.Parts.{part-le, part-within, part-pos, in-part, of-part, at-part, part-last, part-whole}
 
 module _ (h n s u x c : ℕ) (row : x < h) (column : c < part n s u) where

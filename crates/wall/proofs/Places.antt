@@ -6,7 +6,7 @@ use native.Mathlib.Nat.{mod-lt, div-add-mod', mul-assoc, mul-comm, add-mul, mul-
 use native.Mathlib.Omega.{arith}
 use lib.Arith.{digits-div, digits-mod}
 use Rattle.wall.specs.Tiles.{part, bandPlace, tilePlace}
-use Rattle.wall.specs.Homes.{bandHome, tileHome}
+use Rattle.wall.specs.Private.{bandHome, tileHome}
 use Rattle.wall.proofs.Parts.{part-le, part-within, in-part, of-part, at-part}
 use Rattle.wall.proofs.Bands.{in-tile, factor-pos, band-place-lt, home-of-place, spot, spot-column, spot-home, spot-place}
 

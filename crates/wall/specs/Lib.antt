@@ -1,4 +1,4 @@
 pub mod Tiles
 pub mod Bands
-pub mod Homes
+pub mod Private
 pub mod Benches

@@ -7,8 +7,8 @@ use native.Mathlib.Omega.{arith}
 use lib.ListN.{length, drop, getD}
 use borrow.Author.Needs.{needs}
 use Rattle.lists.proofs.Front.{drop-next, drop-end}
-use Rattle.orders.specs.Needs.{exchanged, entryNeed}
-use Rattle.orders.proofs.Needs.{need-at-entry}
+use Rattle.orders.specs.Needs.{swapNeed}
+use Rattle.orders.proofs.Needs.{need-at-entry, entryNeed}
 use Rattle.checks.proofs.need_of.Statement.{statement}
 use Rattle.checks.proofs.need_of.Tie as tie
 
@@ -21,7 +21,7 @@ abbrev μ-loop : tie.MeasureT-loop
 abbrev Loop : Type 0
 Loop = tie.At-loop Inv-loop μ-loop
 
-entry-next : (ds c : List ℕ) (i : ℕ) → i < length c → entryNeed ds (drop i c) ≡ max (exchanged (getD c i 0) ds) (entryNeed ds (drop (i + 1) c))
+entry-next : (ds c : List ℕ) (i : ℕ) → i < length c → entryNeed ds (drop i c) ≡ max (swapNeed (getD c i 0) ds) (entryNeed ds (drop (i + 1) c))
 unfolding entryNeed
 entry-next ds c i h = rw (drop-next c i h)
 

@@ -9,7 +9,7 @@ returns : tie.Need-returns
 returns c = sym (range-zero _ (c .if1 .taken))
 
 returns-2 : tie.Need-returns-2
-returns-2 c = rw (ne-eqb (c .before .args .length) 0 (c .if1 .left))
+returns-2 c = rw (ne-eqb (c .before .args .axis) 0 (c .if1 .left))
 
 pub out-of-range-spec : {M : Type 1} → statement M
 out-of-range-spec = tie.close (tie.spec returns returns-2)

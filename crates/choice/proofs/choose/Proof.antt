@@ -11,7 +11,7 @@ use Rattle.choice.specs.declared.paths.Place.{Place}
 use Rattle.choice.specs.Choice.{FirstWins, SecondWins}
 use Rattle.choice.specs.Conditions.{chooseChecks}
 use Rattle.choice.specs.Promises.Four.{of-first, of-second}
-use Rattle.choice.specs.Search.{PlaceAs}
+use Rattle.choice.specs.Private.{PlaceAs}
 use Rattle.choice.proofs.choose.Statement.{statement}
 use Rattle.choice.proofs.choose.Tie as tie
 

@@ -6,7 +6,7 @@ use Rattle.lists.proofs.Via.{via}
 use Rattle.refusals.specs.FirstOf.{firstOf}
 use Rattle.refusals.specs.Calls.{recursionChecks}
 use Rattle.flat.specs.Turn.{sides}
-use Rattle.halves.specs.LentSlices.{Block}
+use Rattle.halves.specs.Private.{Block}
 use Rattle.halves.proofs.Lent.{checked-block, turn-refused, turn-accepted}
 use Rattle.halves.proofs.turn.Statement.{statement}
 use Rattle.halves.proofs.turn.Tie as tie

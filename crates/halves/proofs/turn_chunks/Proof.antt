@@ -6,7 +6,7 @@ use Rattle.lists.proofs.Via.{via}
 use Rattle.refusals.specs.FirstOf.{firstOf}
 use Rattle.refusals.specs.Calls.{recursionChecks}
 use Rattle.halves.specs.Promise.{chunked}
-use Rattle.halves.specs.LentSlices.{Block}
+use Rattle.halves.specs.Private.{Block}
 use Rattle.halves.proofs.Lent.{checked-chunks, chunks-refused, chunks-accepted}
 use Rattle.halves.proofs.turn_chunks.Statement.{statement}
 use Rattle.halves.proofs.turn_chunks.Tie as tie

@@ -8,7 +8,7 @@ use borrow.Author.Needs.{needs}
 use Rattle.layout.specs.Layout.{volume}
 use Rattle.checks.specs.Words.{capped}
 use Rattle.text.specs.Print.{fields}
-use Rattle.printer.specs.Thin.{lineOf}
+use Rattle.printer.specs.PrivateWriter.{textOf}
 use Rattle.printer.specs.declared.page.Line.{Line}
 use Rattle.blocks.proofs.Block.{Counts, counts, first-three}
 use Rattle.printer.proofs.Pages.{order-count, length-measured}
@@ -64,8 +64,8 @@ returns c =
     let s : tie.After-shape-line = search in
     let w : tie.After-words-of = search in
     let x : tie.Start = search in
-    let first = ap (λ (k : Line). length (lineOf k)) (s .shape-line .ensures) in
-    let second = ap (λ (k : Line). length (lineOf k)) (o .order-line .ensures) in
+    let first = ap (λ (k : Line). length (textOf k)) (s .shape-line .ensures) in
+    let second = ap (λ (k : Line). length (textOf k)) (o .order-line .ensures) in
     let ws = ap (λ (n : ℕ). length (fields (take n (x .args .words .now)))) (w .words-of .ensures ∙ known x .size) in
     omega (arith, known x, length-measured (x .args .t1) (x .args .release) (x .args .order) (x .args .words .now) (four x))
 

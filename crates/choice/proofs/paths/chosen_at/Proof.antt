@@ -13,8 +13,8 @@ use Rattle.refusals.specs.FirstOf.{check, firstOf}
 use Rattle.refusals.proofs.FirstOf.{refused-by}
 use Rattle.signed.proofs.Ends.{back}
 use Rattle.choice.specs.Choice.{exchanges}
-use Rattle.choice.specs.Conditions.{anyUsable, noUsable, runChecks, chooseChecks}
-use Rattle.choice.specs.Search.{taken, HeldAs, PlaceAs}
+use Rattle.choice.specs.Conditions.{anyUsable, noUsable, pathChecks, chooseChecks}
+use Rattle.choice.specs.Private.{taken, HeldAs, PlaceAs}
 use Rattle.choice.proofs.Runs.{runs-pass}
 use Rattle.choice.proofs.Held.{second-wins, first-wins, none-wins, any-best}
 use Rattle.choice.proofs.paths.chosen_at.Statement.{statement}
@@ -29,7 +29,7 @@ or-true true = refl
 or-true false = refl
 
 -- no check of the runs holds
-module _ (first second : List ℤ) (e : firstOf (runChecks first second) ≡ 0) where
+module _ (first second : List ℤ) (e : firstOf (pathChecks first second) ≡ 0) where
   -- so the last check decides
   number : (t : Bool) → noUsable first second ≡ t → firstOf (chooseChecks first second) ≡ cond t 19 0
   number t n = let p = runs-pass first second 0 e in rw (p .whole, p .near, n)
@@ -57,7 +57,7 @@ returns c =
     let s : tie.Start = search in
     let first = s .args .first .now in
     let second = s .args .second .now in
-    refusal (refused-by (runChecks first second) (check 19 (noUsable first second) ∷ []) (n .runs-number .ensures) (c .if1 .taken)) (c .if1 .taken)
+    refusal (refused-by (pathChecks first second) (check 19 (noUsable first second) ∷ []) (n .runs-number .ensures) (c .if1 .taken)) (c .if1 .taken)
 
 best-requires : tie.Need-best-requires
 best-requires c κs = let s : tie.Start = search in runs-pass (s .args .first .now) (s .args .second .now) 0 (search via) .first-near

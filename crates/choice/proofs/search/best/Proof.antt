@@ -15,8 +15,8 @@ use Rattle.signed.proofs.Ends.{back}
 use Rattle.desk.specs.Conditions.{farReading}
 use Rattle.desk.specs.Promises.{MeasuredAs}
 use Rattle.desk.specs.declared.Measured.{Measured}
-use Rattle.choice.specs.Choice.{exchanges, exchange, delayAt}
-use Rattle.choice.specs.Search.{taken, HeldAs}
+use Rattle.choice.specs.Choice.{exchanges, fourAt, delayAt}
+use Rattle.choice.specs.Private.{taken, HeldAs}
 use Rattle.choice.proofs.Exchanges.{exchange-measured}
 use Rattle.choice.proofs.Held.{held-none, held-taken, held-left}
 use Rattle.choice.proofs.search.best.Statement.{statement}
@@ -38,7 +38,7 @@ loop-holds : tie.Need-loop-holds Inv-loop μ-loop
 loop-holds c = (omega arith, held-none (c .args .run .now))
 
 -- the delay that the offset call gives of an exchange
-delay-is : (run : List ℤ) (j : ℕ) (m : Measured) → farReading run ≡ false → j < exchanges run → MeasuredAs (exchange run j) m → m .delay ≡ delayAt run j
+delay-is : (run : List ℤ) (j : ℕ) (m : Measured) → farReading run ≡ false → j < exchanges run → MeasuredAs (fourAt run j) m → m .delay ≡ delayAt run j
 unfolding delayAt
 delay-is run j m none h p = ap (λ (both : ℤ × ℤ). both .1) (p .given (p .number-is ∙ exchange-measured run j none h))
 

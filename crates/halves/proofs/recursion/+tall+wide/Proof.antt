@@ -5,7 +5,7 @@ use mathlib.Core.List.{List}
 use mathlib.Core.Logic.{⊎-elim}
 use native.Mathlib.Omega.{arith}
 use borrow.Author.Needs.{needs}
-use Rattle.halves.specs.LentSlices.{ChunksTurned}
+use Rattle.halves.specs.Private.{ChunksTurned}
 use Rattle.halves.proofs.Cuts.{Parted, Front, Back, Both, rows-cut, cut-within, low-block, low-long, low-falls, cut-after, high-block, high-falls, both-back, rows-few, columns-few}
 use Rattle.halves.proofs.Turns.{square-block, square-turned, merge-runs, tall-turned, split-runs, split-parts, wide-turned}
 use Prim.Native.Nat.{ℕ, _-_, _*_, _/_, _<_, _≤_}

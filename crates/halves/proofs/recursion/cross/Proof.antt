@@ -3,7 +3,7 @@ use mathlib.Core.Path.{_≡_}
 use Prim.Native.Nat.{_+_, _*_, _-_, _≤_, _<_}
 use native.Mathlib.Omega.{arith}
 use lib.ListN.{length, length-set}
-use Rattle.halves.specs.LentSlices.{Crossed}
+use Rattle.halves.specs.Private.{Crossed}
 use Rattle.halves.proofs.Diagonal.{places-within, crossed-more}
 use borrow.Author.Needs.{needs}
 use Rattle.halves.proofs.recursion.cross.Statement.{statement}

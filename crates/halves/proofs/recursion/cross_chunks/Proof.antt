@@ -4,7 +4,7 @@ use Prim.Native.Nat.{_*_, _-_, _≤_, _<_}
 use native.Mathlib.Nat.{le-mul-of-pos-right}
 use native.Mathlib.Omega.{arith}
 use borrow.Author.Needs.{needs}
-use Rattle.halves.specs.LentSlices.{CrossedChunks}
+use Rattle.halves.specs.Private.{CrossedChunks}
 use Rattle.halves.proofs.Diagonal.{side-few}
 use Rattle.halves.proofs.Chunks.{Inside, chunks-inside, crossed-none, chunks-more}
 use Rattle.halves.proofs.recursion.cross_chunks.Statement.{statement}

@@ -4,7 +4,7 @@ use Prim.Native.Nat.{_+_, _-_, _≤_, _<_}
 use native.Mathlib.Omega.{arith}
 use borrow.Author.Needs.{needs}
 use lib.ListN.{length, length-set}
-use Rattle.halves.specs.LentSlices.{Exchanged}
+use Rattle.halves.specs.Private.{Exchanged}
 use Rattle.halves.proofs.Exchanges.{exchanged-none, exchanged-more}
 use Rattle.halves.proofs.recursion.trade.Statement.{statement}
 use Rattle.halves.proofs.recursion.trade.Tie as tie

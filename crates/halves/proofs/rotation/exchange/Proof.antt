@@ -3,14 +3,14 @@ use mathlib.Core.Path.{_≡_, refl, ap, _∙_}
 use Prim.Native.Nat.{ℕ, _-_, _≤_}
 use native.Mathlib.Omega.{arith}
 use lib.ListN.{length, length-set}
-use Rattle.halves.specs.LentSlices.{exchanged}
+use Rattle.halves.specs.Private.{traded}
 use Rattle.halves.proofs.Stretches.{exchange-none, exchange-more}
 use borrow.Author.Needs.{needs}
 use Rattle.halves.proofs.rotation.exchange.Statement.{statement}
 use Rattle.halves.proofs.rotation.exchange.Tie as tie
 
 abbrev Inv-loop : tie.InvT-loop
-Inv-loop s₀ k w i₀ s i = (i ≤ w) × (length s ≡ length s₀) × (s ≡ exchanged k i s₀)
+Inv-loop s₀ k w i₀ s i = (i ≤ w) × (length s ≡ length s₀) × (s ≡ traded k i s₀)
 
 abbrev μ-loop : tie.MeasureT-loop
 μ-loop s₀ k w i₀ s i = w - i
@@ -28,7 +28,7 @@ returns : tie.Need-returns Inv-loop μ-loop
 returns c =
     let l : tie.At-loop Inv-loop μ-loop = search in
     let x : tie.Start Inv-loop μ-loop = search in
-    l .loop .inv .2 ∙ ap (λ (w : ℕ). exchanged (x .args .k) w (x .args .s .now)) (omega arith)
+    l .loop .inv .2 ∙ ap (λ (w : ℕ). traded (x .args .k) w (x .args .s .now)) (omega arith)
 
 pub exchange-spec : {M : Type 1} → statement M
 exchange-spec =

@@ -5,7 +5,7 @@ use mathlib.Core.List.{List, _++_}
 use Prim.Native.Nat.{ℕ, _+_, _-_, _≤_, _<_}
 use native.Mathlib.Omega.{arith}
 use lib.ListN.{length, take, drop, length-drop, take-append-drop}
-use Rattle.halves.specs.LentSlices.{rotated}
+use Rattle.halves.specs.Private.{rotated}
 use Rattle.halves.proofs.Rotations.{rotated-none, rotated-all, short-left, short-right, step}
 use borrow.Author.Needs.{needs}
 use Rattle.halves.proofs.rotation.rotate.Statement.{statement}

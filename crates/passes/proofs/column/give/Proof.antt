@@ -6,8 +6,8 @@ use native.Mathlib.Nat.{add-mul, one-mul, zero-mul, zero-add}
 use borrow.Author.Needs.{needs}
 use lib.ListN.{length, getD}
 use Rattle.passes.specs.Lines.{posOn}
-use Rattle.passes.specs.ThroughScratch.{Follows, GroupFits, Filled, startOf, stands}
-use Rattle.walks.specs.Walk.{starts}
+use Rattle.passes.specs.PrivateScratch.{Follows, GroupFits, Filled, startOf, stands}
+use Rattle.walks.specs.PrivateWalk.{starts}
 use Rattle.passes.proofs.Filled.{filled-none, filled-on, filled-two, line-apart}
 use Rattle.passes.proofs.Walks.{first-run, second-run, start-on, group-inside, group-fits}
 use Rattle.passes.proofs.column.give.Statement.{statement}

@@ -5,7 +5,7 @@ use native.Mathlib.Omega.{arith}
 use borrow.Author.Needs.{needs}
 use lib.ListN.{length, getD}
 use Rattle.passes.specs.Lines.{posOn}
-use Rattle.passes.specs.ThroughScratch.{Filled}
+use Rattle.passes.specs.PrivateScratch.{Filled}
 use Rattle.passes.proofs.Filled.{filled-none, filled-more, part-apart}
 use Rattle.passes.proofs.column.give_run.Statement.{statement}
 use Rattle.passes.proofs.column.give_run.Tie as tie

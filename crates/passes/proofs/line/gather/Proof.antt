@@ -8,8 +8,8 @@ use borrow.Author.Needs.{needs}
 use lib.ListN.{getD}
 use Rattle.lists.proofs.Decide.{lt-or-ge}
 use Rattle.passes.specs.Lines.{posOn}
-use Rattle.passes.specs.ThroughScratch.{Follows, GroupFits, Filled, startOf, stands}
-use Rattle.walks.specs.Walk.{starts}
+use Rattle.passes.specs.PrivateScratch.{Follows, GroupFits, Filled, startOf, stands}
+use Rattle.walks.specs.PrivateWalk.{starts}
 use Rattle.passes.proofs.Filled.{filled-none, filled-on}
 use Rattle.passes.proofs.Walks.{first-run, second-run, start-on, group-fits}
 use Rattle.passes.proofs.line.gather.Statement.{statement}

@@ -6,7 +6,7 @@ use native.Mathlib.Omega.{arith}
 use borrow.Author.Needs.{needs}
 use lib.ListN.{length, getD, length-set}
 use Rattle.passes.specs.Lines.{posOn}
-use Rattle.passes.specs.ThroughScratch.{Filled, stands}
+use Rattle.passes.specs.PrivateScratch.{Filled, stands}
 use Rattle.passes.proofs.Filled.{filled-none, filled-more, filled-pair}
 use Rattle.passes.proofs.Lanes.{Lanes, lanes-start, lanes-more, here-low, next-low}
 use Rattle.passes.proofs.line.gather_group.Statement.{statement}

@@ -7,7 +7,7 @@ use borrow.Author.Needs.{needs}
 use lib.ListN.{length, getD}
 use Rattle.flat.specs.Passes.{source2}
 use Rattle.passes.specs.Lines.{posOn}
-use Rattle.passes.specs.ThroughScratch.{Filled, StandsAt}
+use Rattle.passes.specs.PrivateScratch.{Filled, StandsAt}
 use Rattle.passes.proofs.Filled.{filled-none, filled-more, filled-front}
 use Rattle.passes.proofs.Sources.{lone-fits, lone-walk, stands-low, stands-inside, stands-source, runs-before, runs-from}
 use Rattle.passes.proofs.line.gather_row.Statement.{statement}

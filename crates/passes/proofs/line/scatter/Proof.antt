@@ -6,8 +6,8 @@ use native.Mathlib.Nat.{add-mul, one-mul, zero-mul}
 use borrow.Author.Needs.{needs}
 use lib.ListN.{getD}
 use Rattle.passes.specs.Lines.{posOn}
-use Rattle.passes.specs.ThroughScratch.{Follows, Apart, GroupFits, Filled, startOf, stands}
-use Rattle.walks.specs.Walk.{starts}
+use Rattle.passes.specs.PrivateScratch.{Follows, Apart, GroupFits, Filled, startOf, stands}
+use Rattle.walks.specs.PrivateWalk.{starts}
 use Rattle.passes.proofs.Filled.{filled-none, filled-on, all-lifted}
 use Rattle.passes.proofs.Walks.{start-on, group-inside, group-apart, group-fits}
 use Rattle.passes.proofs.line.scatter.Statement.{statement}

@@ -7,7 +7,7 @@ use borrow.Author.Needs.{needs}
 use lib.ListN.{length, getD, length-set}
 use Rattle.walks.proofs.Steps.{walk-lt}
 use Rattle.passes.specs.Lines.{posOn}
-use Rattle.passes.specs.ThroughScratch.{Filled, stands}
+use Rattle.passes.specs.PrivateScratch.{Filled, stands}
 use Rattle.passes.proofs.Filled.{filled-none, filled-more, filled-pair}
 use Rattle.passes.proofs.Lanes.{Lanes, lanes-start, lanes-more, here-low, next-low}
 use Rattle.passes.proofs.line.scatter_group.Statement.{statement}

@@ -7,7 +7,7 @@ use native.Mathlib.Omega.{arith}
 use borrow.Author.Needs.{needs}
 use Rattle.refusals.specs.Scratch.{need}
 use Rattle.flat.specs.Turn.{sides}
-use Rattle.passes.specs.ThroughScratch.{Past}
+use Rattle.passes.specs.PrivateScratch.{Past}
 use Rattle.passes.proofs.Family.{Some, some-none}
 use Rattle.passes.proofs.Fits.{past-none, past-more}
 use Rattle.passes.proofs.Swaps.{posOf, toOf, fromOf, next-word, next-block, block-more, swapped, around-few, words-few, base-few, block-lies}

@@ -6,7 +6,7 @@ use lib.ListN.{length}
 use lib.Seq.{length-take-le}
 use borrow.Author.Needs.{needs}
 use Rattle.text.proofs.Length.{fields-few, length-line}
-use Rattle.printer.specs.Thin.{numbersIn}
+use Rattle.printer.specs.PrivateWriter.{numbersIn}
 use Rattle.printer.proofs.page.head_len.Statement.{statement}
 use Rattle.printer.proofs.page.head_len.Tie as tie
 

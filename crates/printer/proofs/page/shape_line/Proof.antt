@@ -5,7 +5,7 @@ use native.Mathlib.Omega.{arith}
 use lib.ListN.{length, getD}
 use borrow.Author.Needs.{needs}
 use Rattle.refusals.proofs.Conditions.{length-at}
-use Rattle.printer.specs.Thin.{shapeLineOf}
+use Rattle.printer.specs.PrivateWriter.{shapeLineOf}
 use Rattle.blocks.proofs.Block.{just-four}
 use Rattle.printer.proofs.page.shape_line.Statement.{statement}
 use Rattle.printer.proofs.page.shape_line.Tie as tie

@@ -41,8 +41,8 @@ use denote.Triple.Walked.{says, needs, Stays, stay-none, walkOf, goes-none, Walk
 use denote.Exit.{yes}
 use denote.Signature.{namedLft}
 use denote.Signature.Struct.{inStruct, makes}
-use Rattle.printer.specs.Put.{Put, Room as Fits}
-use Rattle.printer.specs.Thin.{lineOf}
+use Rattle.printer.specs.PrivateBytes.{Put, Room as Fits}
+use Rattle.printer.specs.PrivateWriter.{textOf}
 use Rattle.printer.specs.declared.page.Line.{Line}
 use Rattle.printer.specs.declared.writer.Writer.{Writer}
 use Rattle.printer.proofs.writer.Writer as T
@@ -86,7 +86,7 @@ module _ {M : Type 1} (𝓤 : URA M) (H : Heap 𝓤) (A : Atoms 𝓤) (W : Given
   mach m = vstruct (vcons s (vcons (vint w64 m) vnil))
 
   abbrev text : List ℕ
-  text = lineOf k
+  text = textOf k
 
   abbrev Arg : Type 0
   Arg = Writer × (Line × Unit {0})
@@ -196,7 +196,7 @@ module _ {M : Type 1} (𝓤 : URA M) (H : Heap 𝓤) (A : Atoms 𝓤) (W : Given
   line-walks C Λ fm known = walked 𝓤 H A line.ended stayed (line.clauses 𝓤 H A mem run) (WpFn 𝓤 H C Λ code.function)
       (λ κs. (LL.vals (T.the-type (namedLft 1 0 tt κs)) (T′.the-laws (namedLft 1 0 tt κs)), (line-vals, tt)))
       (λ κs. (LL.tells (T.the-type (namedLft 1 0 tt κs)) (T′.the-laws (namedLft 1 0 tt κs)), (line-tells, tt)))
-      (λ κs qs bounds a g are. needs 𝓤 ((a .1 .0 .count ≤ 4) × Fits (a .0 .out .now) (a .0 .at) (lineOf (a .1 .0))) _ (λ within.
+      (λ κs qs bounds a g are. needs 𝓤 ((a .1 .0 .count ≤ 4) × Fits (a .0 .out .now) (a .0 .at) (textOf (a .1 .0))) _ (λ within.
       let fields = LL.owed (T.the-type (namedLft 1 0 tt κs)) (T′.the-laws (namedLft 1 0 tt κs)) (a .0) _ (are .0) in
       walk 𝓤 H A W mem run (κs .0) (qs .0) (a .0 .out .ptr .0) (a .0 .out .ptr .1) (a .0 .out .name) (a .0 .out .now) (a .0 .at) (a .1 .0) (fields .1 .0 .1)
       (are .1 .0) C Λ fm known (are .0) (fields .0 .0 .1) within))

@@ -41,8 +41,8 @@ use denote.Exit.{yes}
 use denote.Signature.{plain}
 use Rattle.text.specs.Sheet.{rowsText}
 use Rattle.printer.specs.declared.writer.Writer.{Writer}
-use Rattle.printer.specs.Put.{Put, Room as Fits}
-use Rattle.printer.specs.Thin.{lineOf, stored, pageOf, Ready}
+use Rattle.printer.specs.PrivateBytes.{Put, Room as Fits}
+use Rattle.printer.specs.PrivateWriter.{textOf, stored, pageOfLines, Ready}
 use Rattle.printer.specs.declared.page.Line.{Line}
 use Rattle.printer.proofs.Puts.{first-room, second-room, third-room, three-put, put-length}
 use Rattle.printer.proofs.LineByValue.{LineT, line-vals, line-tells, line-makes, line-lawful}
@@ -94,8 +94,8 @@ module _ {M : Type 1} (𝓤 : URA M) (H : Heap 𝓤) (A : Atoms 𝓤) (mem : Mem
   new-of κ x r = exE 𝓤 _ (λ ws. snd∗ 𝓤 (sem 𝓤 H A (lasts new.ended (κ, tt) (x, tt) ws)) (fact 𝓤 ((r .out ≡ x) × (r .at ≡ 0))))
 
   line-of : (κ : Lft) (h : Writer) (k : Line) (r : Writer)
-      → ent 𝓤 (ensured 𝓤 H A line.ended (line.clauses 𝓤 H A mem run) (κ, tt) (h, (k, tt)) tt r) (fact 𝓤 (r ≡ stored h (lineOf k)))
-  line-of κ h k r = exE 𝓤 _ (λ ws. snd∗ 𝓤 (sem 𝓤 H A (lasts line.ended (κ, tt) (h, (k, tt)) ws)) (fact 𝓤 (r ≡ stored h (lineOf k))))
+      → ent 𝓤 (ensured 𝓤 H A line.ended (line.clauses 𝓤 H A mem run) (κ, tt) (h, (k, tt)) tt r) (fact 𝓤 (r ≡ stored h (textOf k)))
+  line-of κ h k r = exE 𝓤 _ (λ ws. snd∗ 𝓤 (sem 𝓤 H A (lasts line.ended (κ, tt) (h, (k, tt)) ws)) (fact 𝓤 (r ≡ stored h (textOf k))))
 
 module _ {M : Type 1} (𝓤 : URA M) (H : Heap 𝓤) (A : Atoms 𝓤) (W : Given 𝓤 H A) (mem : Memory → SProp 𝓤) (run : Routine → Fun 𝓤) (κ κ′ : Lft) (q q′ : Share)
     (b o : ℕ) (γ : GName) (ys : List ℕ) (k₁ k₂ : Line) (y : RefT (List ℕ)) (c m : ℕ) (k₁-is : Is LineT k₁ (line-vals k₁)) (k₂-is : Is LineT k₂ (line-vals k₂))
@@ -118,16 +118,16 @@ module _ {M : Type 1} (𝓤 : URA M) (H : Heap 𝓤) (A : Atoms 𝓤) (W : Given
 
   -- the three texts
   abbrev one : List ℕ
-  one = lineOf k₁
+  one = textOf k₁
 
   abbrev two : List ℕ
-  two = lineOf k₂
+  two = textOf k₂
 
   abbrev three : List ℕ
   three = rowsText c m (y .now)
 
   abbrev text : List ℕ
-  text = pageOf k₁ k₂ (y .now) c m
+  text = pageOfLines k₁ k₂ (y .now) c m
 
   -- the writers that `new` and the two calls of `line` return
   abbrev h₀ : Writer
@@ -175,7 +175,7 @@ module _ {M : Type 1} (𝓤 : URA M) (H : Heap 𝓤) (A : Atoms 𝓤) (W : Given
   abbrev to-line : Writer → Line → Val → LineC 𝓤 H A mem run .Ghost
   to-line h k w = (((κ, tt), (q, tt), tt, (h, (k, tt)), (w ∷ [], (line-vals k, tt))), tt)
 
-  goes-line : (h : Writer) (k : Line) → Is LineT k (line-vals k) → k .count ≤ 4 → Fits (h .out .now) (h .at) (lineOf k) → (w : Val)
+  goes-line : (h : Writer) (k : Line) → Is LineT k (line-vals k) → k .count ≤ 4 → Fits (h .out .now) (h .at) (textOf k) → (w : Val)
       → ent 𝓤 (sep 𝓤 (sep 𝓤 (A .lft κ q) (sem 𝓤 H A ftrue)) (sem 𝓤 H A (T.the-row α .own h (w ∷ [])))) (LineC 𝓤 H A mem run .pre (to-line h k w))
   goes-line h k k-is ok fits w =
       qed W ((‵ (flft κ q) ⊛ ‵ ftrue) ∷ ‵ (T.the-row α .own h (w ∷ [])) ∷ []) ∵ says ! (ok, fits) $ frame ! $

@@ -40,7 +40,7 @@ use denote.Exit.{yes}
 use denote.Signature.{namedLft, plain}
 use denote.Signature.Struct.{inStruct, makes}
 use Rattle.text.specs.Sheet.{rowsText}
-use Rattle.printer.specs.Put.{Put, Room as Fits}
+use Rattle.printer.specs.PrivateBytes.{Put, Room as Fits}
 use Rattle.printer.specs.declared.writer.Writer.{Writer}
 use Rattle.printer.proofs.writer.Writer as T
 use Rattle.printer.proofs.writer.Writer.Laws as T′

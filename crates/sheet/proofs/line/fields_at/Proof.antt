@@ -4,7 +4,7 @@ use mathlib.Core.Path.{_≡_}
 use Prim.Native.Nat.{_-_, _≤_}
 use lib.ListN.{length, drop}
 use Rattle.text.specs.Read.{Reading, readFields}
-use Rattle.sheet.specs.Place.{numbersOf}
+use Rattle.sheet.specs.Private.{numbersOf}
 use Rattle.sheet.proofs.Places.{at-found}
 use Rattle.sheet.proofs.Runs.{got, no-field, next-field, no-next-field}
 use borrow.Author.Needs.{needs}

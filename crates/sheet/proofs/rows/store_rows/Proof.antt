@@ -8,7 +8,7 @@ use Prim.Native.Nat.{ℕ, _+_, _-_, _*_, _≤_}
 use lib.ListN.{length, drop}
 use lib.Seq.{sets, length-sets}
 use Rattle.text.specs.Meaning.{rowLines}
-use Rattle.sheet.specs.Place.{RowsThere, wordsOf, numbersOf}
+use Rattle.sheet.specs.Private.{RowsThere, wordsOf, numbersOf}
 use Rattle.text.proofs.Stores.{sets-append}
 use Rattle.sheet.proofs.RowsFrom.{rowsLeft, rowFields, RowAt, row-at}
 use borrow.Author.Needs.{needs}

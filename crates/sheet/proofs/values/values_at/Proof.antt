@@ -7,7 +7,7 @@ use mathlib.Core.List.{List, _++_}
 use Prim.Native.Nat.{ℕ, _+_, _-_, _≤_}
 use lib.ListN.{drop, replicate}
 use Rattle.text.specs.Read.{Reading, readFields}
-use Rattle.sheet.specs.Place.{numbersOf}
+use Rattle.sheet.specs.Private.{numbersOf}
 use Rattle.sheet.proofs.Runs.{got, no-field, fields-more, taken-field}
 use Rattle.text.proofs.Stores.{zeros-more}
 use borrow.Author.Needs.{needs}

@@ -7,7 +7,7 @@ use mathlib.Core.List.{List}
 use Prim.Native.Nat.{ℕ, _+_, _-_, _≤_}
 use lib.ListN.{length, drop}
 use Rattle.text.specs.Read.{Reading, readField, readFields}
-use Rattle.sheet.specs.Place.{numbersOf}
+use Rattle.sheet.specs.Private.{numbersOf}
 use Rattle.sheet.proofs.Runs.{got, no-field, fields-more, taken-field}
 use lib.Seq.{sets}
 use Rattle.text.proofs.Stores.{sets-more}

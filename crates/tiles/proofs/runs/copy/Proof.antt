@@ -4,7 +4,7 @@ use Prim.Native.Nat.{_+_, _-_, _≤_}
 use native.Mathlib.Omega.{arith}
 use borrow.Author.Needs.{needs}
 use lib.ListN.{getD}
-use Rattle.passes.specs.ThroughScratch.{Filled}
+use Rattle.passes.specs.PrivateScratch.{Filled}
 use Rattle.passes.proofs.Filled.{filled-none, filled-more}
 use Rattle.tiles.proofs.runs.copy.Statement.{statement}
 use Rattle.tiles.proofs.runs.copy.Tie as tie

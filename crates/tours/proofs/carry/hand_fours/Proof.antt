@@ -2,13 +2,13 @@
 use Prim.Native.Nat.{_*_, _-_, _≤_}
 use native.Mathlib.Omega.{arith}
 use borrow.Author.Needs.{needs}
-use Rattle.tours.specs.Private.{Changed, handed}
+use Rattle.tours.specs.Private.{ChangedAt, handed}
 use Rattle.tours.proofs.Changing.{filling-on, changed-none, changed-on, changed-all}
 use Rattle.tours.proofs.carry.hand_fours.Statement.{statement}
 use Rattle.tours.proofs.carry.hand_fours.Tie as tie
 
 abbrev Inv-loop : tie.InvT-loop
-Inv-loop s₀ g x a b c count e₀ s e = (e ≤ count) × Changed (g .m * g .n) (g .chunk) 0 (4 * e) (handed x a b c) s₀ s
+Inv-loop s₀ g x a b c count e₀ s e = (e ≤ count) × ChangedAt (g .m * g .n) (g .chunk) 0 (4 * e) (handed x a b c) s₀ s
 
 abbrev μ-loop : tie.MeasureT-loop
 μ-loop s₀ g x a b c count e₀ s e = count - e

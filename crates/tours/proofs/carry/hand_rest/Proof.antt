@@ -3,13 +3,13 @@ use mathlib.Core.Path.{_≡_}
 use Prim.Native.Nat.{_*_, _-_, _≤_}
 use native.Mathlib.Omega.{arith}
 use borrow.Author.Needs.{needs}
-use Rattle.tours.specs.Private.{Changed, handed}
+use Rattle.tours.specs.Private.{ChangedAt, handed}
 use Rattle.tours.proofs.Changing.{filling-on, changed-none, changed-on, changed-all}
 use Rattle.tours.proofs.carry.hand_rest.Statement.{statement}
 use Rattle.tours.proofs.carry.hand_rest.Tie as tie
 
 abbrev Inv-loop : tie.InvT-loop
-Inv-loop s₀ g x a b c from d₀ d-end s d = (from ≤ d) × (d ≤ g .chunk) × (d-end ≡ g .chunk) × Changed (g .m * g .n) (g .chunk) from d (handed x a b c) s₀ s
+Inv-loop s₀ g x a b c from d₀ d-end s d = (from ≤ d) × (d ≤ g .chunk) × (d-end ≡ g .chunk) × ChangedAt (g .m * g .n) (g .chunk) from d (handed x a b c) s₀ s
 
 abbrev μ-loop : tie.MeasureT-loop
 μ-loop s₀ g x a b c from d₀ d-end s d = g .chunk - d

@@ -1,14 +1,14 @@
--- `carry::trade_fours` meets its contract: after e turns of the loop the first e fours stand traded.
+-- `carry::trade_fours` meets its contract: after e turns of the loop the first e fours stand exchanged.
 use Prim.Native.Nat.{_*_, _-_, _≤_}
 use native.Mathlib.Omega.{arith}
 use borrow.Author.Needs.{needs}
-use Rattle.tours.specs.Private.{Changed, traded}
+use Rattle.tours.specs.Private.{ChangedAt, traded}
 use Rattle.tours.proofs.Changing.{filling-on, changed-none, changed-on, changed-all}
 use Rattle.tours.proofs.carry.trade_fours.Statement.{statement}
 use Rattle.tours.proofs.carry.trade_fours.Tie as tie
 
 abbrev Inv-loop : tie.InvT-loop
-Inv-loop s₀ g x y count e₀ s e = (e ≤ count) × Changed (g .m * g .n) (g .chunk) 0 (4 * e) (traded x y) s₀ s
+Inv-loop s₀ g x y count e₀ s e = (e ≤ count) × ChangedAt (g .m * g .n) (g .chunk) 0 (4 * e) (traded x y) s₀ s
 
 abbrev μ-loop : tie.MeasureT-loop
 μ-loop s₀ g x y count e₀ s e = count - e

@@ -1,15 +1,15 @@
--- `carry::trade_rest` meets its contract: after some turns of the loop the words up to d stand traded.
+-- `carry::trade_rest` meets its contract: after some turns of the loop the words up to d stand exchanged.
 use mathlib.Core.Path.{_≡_}
 use Prim.Native.Nat.{_*_, _-_, _≤_}
 use native.Mathlib.Omega.{arith}
 use borrow.Author.Needs.{needs}
-use Rattle.tours.specs.Private.{Changed, traded}
+use Rattle.tours.specs.Private.{ChangedAt, traded}
 use Rattle.tours.proofs.Changing.{filling-on, changed-none, changed-on, changed-all}
 use Rattle.tours.proofs.carry.trade_rest.Statement.{statement}
 use Rattle.tours.proofs.carry.trade_rest.Tie as tie
 
 abbrev Inv-loop : tie.InvT-loop
-Inv-loop s₀ g x y from d₀ d-end s d = (from ≤ d) × (d ≤ g .chunk) × (d-end ≡ g .chunk) × Changed (g .m * g .n) (g .chunk) from d (traded x y) s₀ s
+Inv-loop s₀ g x y from d₀ d-end s d = (from ≤ d) × (d ≤ g .chunk) × (d-end ≡ g .chunk) × ChangedAt (g .m * g .n) (g .chunk) from d (traded x y) s₀ s
 
 abbrev μ-loop : tie.MeasureT-loop
 μ-loop s₀ g x y from d₀ d-end s d = g .chunk - d

@@ -9,5 +9,5 @@ pub record Small (m n : ℕ) : Type 0 where
   pub few : m * n ≤ 1048576
 
 -- a rounded inverse of n, in parts of 2 to the 40
-abbrev pub Inverse : ℕ → ℕ → Type 0
-Inverse n inverse = inverse ≡ 1099511627776 / n + 1
+abbrev pub Reciprocal : ℕ → ℕ → Type 0
+Reciprocal n inverse = inverse ≡ 1099511627776 / n + 1

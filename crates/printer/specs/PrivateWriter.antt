@@ -9,7 +9,7 @@ use lib.Seq.{sets}
 use denote.Ref.{now, at-last}
 use Rattle.text.specs.Print.{line}
 use Rattle.text.specs.Sheet.{shapeWord, orderWord, rowsText}
-use Rattle.printer.specs.Put.{Room}
+use Rattle.printer.specs.PrivateBytes.{Room}
 use Rattle.printer.specs.declared.page.Line.{Line}
 use Rattle.printer.specs.declared.writer.Writer.{Writer}
 
@@ -18,8 +18,8 @@ abbrev pub numbersIn : Line → List ℕ
 numbersIn l = take (l .count) (l .numbers)
 
 -- the text of such a line
-abbrev pub lineOf : Line → List ℕ
-lineOf l = line (l .word) (numbersIn l)
+abbrev pub textOf : Line → List ℕ
+textOf l = line (l .word) (numbersIn l)
 
 -- line 1 of a result sheet: `shape` and the lengths
 abbrev pub shapeLineOf : List ℕ → Line
@@ -36,12 +36,12 @@ abbrev pub stored : Writer → List ℕ → Writer
 stored w text = record { out = at-last (w .out) (sets (now (w .out)) (w .at) text); at = w .at + length text }
 
 -- two lines, then rows
-abbrev pub pageOf : Line → Line → List ℕ → ℕ → ℕ → List ℕ
-pageOf shape order words count n = lineOf shape ++ (lineOf order ++ rowsText count n words)
+abbrev pub pageOfLines : Line → Line → List ℕ → ℕ → ℕ → List ℕ
+pageOfLines shape order words count n = textOf shape ++ (textOf order ++ rowsText count n words)
 
 -- the two lines have four numbers at most, the words suffice for the rows, and the bytes have room for all
 pub record Ready (out : List ℕ) (shape order : Line) (words : List ℕ) (count n : ℕ) : Type 0 where
   pub first : shape .count ≤ 4
   pub second : order .count ≤ 4
   pub enough : count * n ≤ length words
-  pub room : Room out 0 (pageOf shape order words count n)
+  pub room : Room out 0 (pageOfLines shape order words count n)

@@ -12,7 +12,7 @@ pub record Inverse (a b x : ℕ) : Type 0 where
   pub one : x * a % b ≡ 1 % b
 
 -- the state (g, s, t) of a walk over the sources of row i stands at j: i + g + s·m is j modulo n, and t is s, or s + 1 where i + g has passed m
-pub record At (m n i j g s t : ℕ) : Type 0 where
+pub record StateAt (m n i j g s t : ℕ) : Type 0 where
   pub group : g < gcdOf m n
   pub lap : s < columnGroup m n
   pub place : (i + g + s * m) % n ≡ j % n

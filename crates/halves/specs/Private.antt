@@ -8,8 +8,8 @@ use lib.ListN.{length, getD, set, take, drop}
 use Rattle.lists.specs.Tab.{tab}
 
 -- xs with its first w words and the w words from k on exchanged
-unfoldable pub exchanged : ℕ → ℕ → List ℕ → List ℕ
-exchanged k w xs = take w (drop k xs) ++ (drop w (take k xs) ++ (take w xs ++ drop (k + w) xs))
+unfoldable pub traded : ℕ → ℕ → List ℕ → List ℕ
+traded k w xs = take w (drop k xs) ++ (drop w (take k xs) ++ (take w xs ++ drop (k + w) xs))
 
 -- xs rotated left by k
 unfoldable pub rotated : ℕ → List ℕ → List ℕ

@@ -10,8 +10,8 @@ use Rattle.numbers.specs.Gcd.{gcdOf}
 use Rattle.refusals.specs.Scratch.{need}
 use Rattle.flat.specs.Turn.{sides}
 use Rattle.flat.specs.Passes.{rowGroup, columnGroup}
-use Rattle.walks.specs.Walk.{walk, starts}
-use Rattle.walks.specs.Source.{Inverse, At}
+use Rattle.walks.specs.PrivateWalk.{walk, starts}
+use Rattle.walks.specs.PrivateSource.{Inverse, StateAt}
 use Rattle.passes.specs.Lines.{Moved, paired, posOn, skipped, lineCount, lineOf}
 use Rattle.passes.specs.declared.line.GroupedSides.{GroupedSides}
 use Rattle.passes.specs.declared.line.Line.{Line}
@@ -41,7 +41,7 @@ pub record Grouped (s : GroupedSides) : Type 0 where
 
 -- the walk over the sources of row i stands at place j
 abbrev pub StandsAt : GroupedSides → ℕ → ℕ → Source → Type 0
-StandsAt s i j p = At (s .m) (s .n) i j (p .group) (p .lap) (p .column) × (p .place ≡ p .group * s .b + p .column)
+StandsAt s i j p = StateAt (s .m) (s .n) i j (p .group) (p .lap) (p .column) × (p .place ≡ p .group * s .b + p .column)
 
 -- its numbers are in range
 pub record Low (s : GroupedSides) (p : Source) : Type 0 where
@@ -132,8 +132,8 @@ pub record Lies (m n base chunk : ℕ) (xs scratch : List ℕ) : Type 0 where
   pub close : chunk ≤ 1048576
 
 -- the block has been turned where it lies: the word of offset i·n + j stands at offset j·m + i, every other word of the buffer stands
-abbrev pub TurnedAt : ℕ → ℕ → ℕ → ℕ → List ℕ → List ℕ → Type 0
-TurnedAt m n base chunk xs ys = Moved (m * n) (λ p. base + chunk * p) (λ p. (p % n) * m + p / n) (λ p. p) xs ys
+abbrev pub WordsTurned : ℕ → ℕ → ℕ → ℕ → List ℕ → List ℕ → Type 0
+WordsTurned m n base chunk xs ys = Moved (m * n) (λ p. base + chunk * p) (λ p. (p % n) * m + p / n) (λ p. p) xs ys
 
 -- the blocks of an adjacent swap lie in the buffer
 pub record BlocksLie (outer m n chunk : ℕ) (xs : List ℕ) : Type 0 where
