@@ -22,7 +22,7 @@ use Rattle.desk.proofs.to_frames.Reads as frames
 use Rattle.desk.proofs.join.Kinds as join-kinds
 use Rattle.desk.proofs.join.Reads as join
 use Rattle.choice.proofs.OneOutcome as choices
-use Rattle.choice.proofs.OneOutcome.{SamePart}
+use Rattle.choice.specs.Parts.{SamePart}
 use Rattle.choice.proofs.choose.Kinds as choose-kinds
 use Rattle.choice.proofs.choose.Reads as choose
 use Rattle.choice.proofs.choose_number.Kinds as number-kinds
