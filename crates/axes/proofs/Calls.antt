@@ -9,8 +9,7 @@ use lib.Dec.{ltb}
 use lib.ListN.{length, take, replicate, length-append}
 use lib.Seq.{take-at}
 use borrow.Author.Tests.{le-ltb, ne-eqb}
-use Rattle.layout.specs.Layout.{pick, Laid}
-use Rattle.layout.proofs.Picks.{Below}
+use Rattle.layout.specs.Layout.{pick, Laid, Below}
 use Rattle.orders.specs.Chains.{named}
 use Rattle.orders.specs.Numbers.{orderCount, orderOf, numberOf}
 use Rattle.orders.specs.Releases.{orderBy, numberBy}

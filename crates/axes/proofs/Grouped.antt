@@ -14,6 +14,7 @@ use Rattle.layout.proofs.Picks.{pick-upto}
 use Rattle.orders.specs.Chains.{exchange, follow, named}
 use Rattle.orders.proofs.Swaps.{pick-exchange}
 use Rattle.orders.proofs.Layouts.{chain-joined}
+use Rattle.axes.specs.Grouped.{grouped}
 
 pub volume-append : (a b : List ℕ) → volume (a ++ b) ≡ volume a * volume b
 unfolding volume
@@ -51,10 +52,6 @@ exchange-append (d ∷ a) m n b = ap (λ (l : List ℕ). d ∷ l) (exchange-appe
 -- what stands at each place after one swap
 pub pick-swap : {r : ℕ} (k : ℕ) (l : List ℕ) → length l ≡ r → pick (exchange k (upto r)) l ≡ exchange k l
 pick-swap {r} k l e = pick-exchange k (upto r) l ∙ ap (exchange k) (ap (λ (n : ℕ). pick (upto n) l) (sym e) ∙ pick-upto l)
-
--- the lengths of a block in four parts
-abbrev pub grouped : List ℕ → ℕ → ℕ → List ℕ → List ℕ
-grouped a m n b = volume a ∷ m ∷ n ∷ volume b ∷ []
 
 pub grouped-volume : (a : List ℕ) (m n : ℕ) (b : List ℕ) → volume (grouped a m n b) ≡ volume (a ++ (m ∷ n ∷ b))
 unfolding volume

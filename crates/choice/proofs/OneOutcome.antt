@@ -12,7 +12,7 @@ use Rattle.refusals.specs.FirstOf.{firstOf}
 use Rattle.signed.proofs.Ends.{of-le, of-lt}
 use Rattle.choice.specs.Choice.{Best, FirstWins, SecondWins}
 use Rattle.choice.specs.Conditions.{chooseChecks}
-use Rattle.choice.specs.Parts.{PartOf}
+use Rattle.choice.specs.Parts.{PartOf, SamePart}
 use Rattle.choice.specs.Promises.{Four, ChosenAs, NumberAs}
 use Rattle.choice.specs.Promises.Four.{of-first, of-second}
 
@@ -25,12 +25,6 @@ one-best p q = omega (arith, not-before p q, not-before q p)
 one-path : {X : Type 0} {first second : List ℤ} {j k : ℕ} → FirstWins first second j → SecondWins first second k → X
 one-path {j} {k} p q =
     absurd (omega (arith, of-le (p .ahead k (q .best .within) (q .best .can)), of-lt (q .ahead j (p .best .within) (p .best .can))))
-
--- one part of a run: the same readings at the same place in memory
-pub record SamePart (r r′ : RefT (List ℤ)) : Type 0 where
-  pub readings : r .now ≡ r′ .now
-  pub block : r .ptr .0 ≡ r′ .ptr .0
-  pub place : r .ptr .1 ≡ r′ .ptr .1
 
 one-part : {run r r′ : RefT (List ℤ)} {k k′ n : ℕ} → k ≡ k′ → PartOf run k n r → PartOf run k′ n r′ → SamePart r r′
 one-part {run} {r} {r′} {k} {k′} {n} e p q =

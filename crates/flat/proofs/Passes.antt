@@ -11,14 +11,9 @@ use Rattle.lists.specs.Tab.{tab}
 use Rattle.lists.proofs.Tab.{length-tab, getD-tab, overlaid-front, overlaid-rest, overlaid-length}
 use Rattle.layout.proofs.Picks.{finds}
 use Rattle.flat.specs.Turn.{Turn, turned}
-use Rattle.flat.specs.Passes.{word, row1, column2, source2, row3, Pass1, Pass2, Pass3, cells, passed1, passed2, passed3}
+use Rattle.flat.specs.Passes.{word, row1, column2, source2, row3, Pass1, Pass2, Pass3, cells, passed1, passed2, passed3, Kept}
 use Rattle.flat.proofs.Turn.{from-literal, one-turn, turned-is}
 use Rattle.flat.proofs.Sides.{Sides, sides-are, row3-lt, column2-lt, row-back, column-there, columns-apart}
-
--- the buffer's length and the words past the block are as they were
-pub record Kept (m n : ℕ) (xs ys : List ℕ) : Type 0 where
-  pub same : length ys ≡ length xs
-  pub tail : (k : ℕ) → m * n ≤ k → getD ys k 0 ≡ getD xs k 0
 
 -- where the word of row i and column j stands after the passes: at offset j·m + i of the block
 pub followed : (m n : ℕ) (x₀ x₁ x₂ x₃ : ℕ → ℕ → ℕ) → Pass1 m n x₀ x₁ → Pass2 m n x₁ x₂ → Pass3 m n x₂ x₃

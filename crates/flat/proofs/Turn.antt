@@ -6,11 +6,10 @@ use native.Mathlib.Nat.{mul-one, add-zero, mul-comm}
 use native.Mathlib.Omega.{arith}
 use lib.Dec.{lit<}
 use lib.ListN.{length, getD}
-use Rattle.layout.specs.Layout.{volume, Within, at, pick}
+use Rattle.layout.specs.Layout.{volume, Within, at, pick, Below, Undone}
 use Rattle.layout.specs.Layout.Within.{none, more}
-use Rattle.layout.proofs.Picks.{Below, Undone}
 use Rattle.layout.proofs.Laws.{home, one-layout, laid-is}
-use Rattle.layout.proofs.Picks.Below.{empty, next}
+use Rattle.layout.specs.Layout.Below.{empty, next}
 use Rattle.flat.specs.Turn.{sides, across, Turn, TurnBack, turned}
 
 pub volume-two : (m n : ℕ) → volume (sides m n) ≡ m * n

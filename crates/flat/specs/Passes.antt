@@ -2,8 +2,8 @@
 -- Assumes nothing: these are definitions.
 use mathlib.Core.Path.{_≡_}
 use mathlib.Core.List.{List, _++_}
-use Prim.Native.Nat.{ℕ, _+_, _*_, _-_, _/_, _%_, _<_}
-use lib.ListN.{getD, drop}
+use Prim.Native.Nat.{ℕ, _+_, _*_, _-_, _/_, _%_, _<_, _≤_}
+use lib.ListN.{length, getD, drop}
 use Rattle.lists.specs.Tab.{tab}
 use Rattle.layout.specs.Layout.{placeOf}
 use Rattle.numbers.specs.Gcd.{gcdOf}
@@ -63,3 +63,8 @@ passed2 m n xs = cells m n (λ i j. word n xs i (source2 m n i j)) xs
 -- pass 3, computed
 unfoldable pub passed3 : ℕ → ℕ → List ℕ → List ℕ
 passed3 m n xs = cells m n (λ i j. word n xs (row3 m n i j) j) xs
+
+-- the buffer's length and the words past the block are as they were
+pub record Kept (m n : ℕ) (xs ys : List ℕ) : Type 0 where
+  pub same : length ys ≡ length xs
+  pub tail : (k : ℕ) → m * n ≤ k → getD ys k 0 ≡ getD xs k 0

@@ -1,18 +1,17 @@
 -- The laws of a layout, once over the number of axes: layouts compose, an order that is undone brings every word home,
 -- two outcomes of one layout are equal, the computed layout is one, and where the block fills the buffer a layout is an equation.
 use mathlib.Core.Path.{_≡_, sym, ap, _∙_, subst}
-use mathlib.Core.List.{List, _++_, append-nil}
+use mathlib.Core.List.{List}
 use mathlib.Core.Logic.{_↔_, ⊎-elim}
 use Prim.Native.Nat.{ℕ, _<_, _≤_}
 use native.Mathlib.Nat.{le-of-eq}
 use Rattle.lists.proofs.Decide.{lt-or-ge}
-use lib.ListN.{length, getD, drop}
-use lib.Seq.{ext-getD, drop-length}
-use Rattle.lists.specs.Tab.{tab}
+use lib.ListN.{length, getD}
+use lib.Seq.{ext-getD}
 use Rattle.lists.proofs.Tab.{overlaid-front, overlaid-rest, overlaid-length}
-use Rattle.layout.specs.Layout.{volume, Within, at, pick, Laid, coords, places, laid}
+use Rattle.layout.specs.Layout.{volume, Within, at, pick, Laid, coords, places, laid, Below, Undone}
 use Rattle.layout.proofs.Offsets.{within-length, at-lt, within-coords, at-coords, coords-at}
-use Rattle.layout.proofs.Picks.{Below, length-pick, pick-pick, within-pick, Undone, undone, places-undo}
+use Rattle.layout.proofs.Picks.{length-pick, pick-pick, within-pick, undone, places-undo}
 
 -- one layout after another is the layout of the composed order
 pub after : {ds o₁ o₂ xs ys zs : List ℕ} → Below (length ds) o₁ → Below (length o₁) o₂ → volume (pick o₁ ds) ≡ volume ds
@@ -83,17 +82,8 @@ module _ {r : ℕ} (ds : List ℕ) {o p : List ℕ} (u : Undone r o p) (axes : l
         tail = overlaid-rest (volume ds) f xs;
       }
 
-  -- the words of the new block, computed
-  abbrev pub placedAfresh : List ℕ → List ℕ
-  placedAfresh xs = tab (volume ds) (λ k. getD xs (at ds (pick (places o) (coords (pick o ds) k))) 0)
-
-  -- where the block fills the buffer nothing is past it: a layout is an equation of whole lists
-  no-rest : (xs : List ℕ) → length xs ≡ volume ds → laid ds o xs ≡ placedAfresh xs
-  unfolding laid
-  no-rest xs e =
-      ap (λ (rest : List ℕ). placedAfresh xs ++ rest) (ap (λ (k : ℕ). drop k xs) (sym e) ∙ drop-length xs) ∙ append-nil (placedAfresh xs)
-
-  pub whole : {xs ys : List ℕ} → length xs ≡ volume ds → Laid ds o xs ys ↔ (ys ≡ placedAfresh xs)
+  -- where the block fills the buffer a layout is an equation of whole lists
+  pub whole : {xs ys : List ℕ} → length xs ≡ volume ds → Laid ds o xs ys ↔ (ys ≡ laid ds o xs)
   whole {xs} exact =
       let l : Laid ds o xs (laid ds o xs) = laid-is xs (le-of-eq (sym exact)) in
-      (λ f. one-layout f l ∙ no-rest xs exact, λ e. subst (λ (zs : List ℕ). Laid ds o xs zs) (no-rest xs exact ∙ sym e) l)
+      (λ f. one-layout f l, λ e. subst (λ (zs : List ℕ). Laid ds o xs zs) (sym e) l)

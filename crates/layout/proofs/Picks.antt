@@ -11,13 +11,9 @@ use lib.Seq.{ext-getD}
 use borrow.Author.Tests.{eqb-true, eqb-false}
 use Rattle.lists.specs.Tab.{tab, upto}
 use Rattle.lists.proofs.Tab.{length-tab, getD-tab, map-tab, tab-getD}
-use Rattle.layout.specs.Layout.{volume, Within, pick, placeOf, places}
+use Rattle.layout.specs.Layout.{Within, pick, placeOf, places, Below, Undone}
 use Rattle.layout.specs.Layout.Within.{none, more}
-
--- every entry of o is a place of a list of n
-pub data Below (n : ℕ) : List ℕ → Type 0 where
-  empty : Below n []
-  next : {a : ℕ} {o : List ℕ} → a < n → Below n o → Below n (a ∷ o)
+use Rattle.layout.specs.Layout.Below.{empty, next}
 
 pub below-at : {n : ℕ} {o : List ℕ} → Below n o → (k : ℕ) → k < length o → getD o k 0 < n
 below-at empty k h = absurd (not-suc-le-zero h)
@@ -56,16 +52,6 @@ pub within-pick : {o ds x : List ℕ} → Below (length ds) o → Within ds x �
 unfolding pick
 within-pick empty w = none
 within-pick (next {a} h b) w = more (within-at a w h) (within-pick b w)
-
--- the order p undoes the order o of r axes, and no order changes the volume
-pub record Undone (r : ℕ) (o p : List ℕ) : Type 0 where
-  pub long : length o ≡ r
-  pub long′ : length p ≡ r
-  pub below : Below r o
-  pub below′ : Below r p
-  pub there : pick p o ≡ upto r
-  pub back : pick o p ≡ upto r
-  pub keeps : (ds : List ℕ) → length ds ≡ r → volume (pick o ds) ≡ volume ds
 
 -- an order, then the one that undoes it
 pub undone : {r : ℕ} (o l : List ℕ) {p : List ℕ} → length o ≡ r → length l ≡ r → Below r p → pick p o ≡ upto r → pick p (pick o l) ≡ l

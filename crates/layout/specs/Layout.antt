@@ -5,7 +5,7 @@ use mathlib.Core.List.{List, [], _∷_, _++_, map}
 use Prim.Native.Nat.{ℕ, suc, _+_, _*_, _/_, _%_, _<_, _≤_}
 use lib.Dec.{eqb}
 use lib.ListN.{length, getD, drop}
-use Rattle.lists.specs.Tab.{tab}
+use Rattle.lists.specs.Tab.{tab, upto}
 
 -- the words of a block: its lengths multiplied
 unfoldable pub volume : List ℕ → ℕ
@@ -51,3 +51,18 @@ places o = tab (length o) (λ a. placeOf a o)
 -- xs laid out afresh under the order o, computed: the new coordinates at the places of the axes are the old ones
 unfoldable pub laid : List ℕ → List ℕ → List ℕ → List ℕ
 laid ds o xs = tab (volume ds) (λ p. getD xs (at ds (pick (places o) (coords (pick o ds) p))) 0) ++ drop (volume ds) xs
+
+-- every entry of o is a place of a list of n
+pub data Below (n : ℕ) : List ℕ → Type 0 where
+  empty : Below n []
+  next : {a : ℕ} {o : List ℕ} → a < n → Below n o → Below n (a ∷ o)
+
+-- the order p undoes the order o of r axes, and no order changes the volume
+pub record Undone (r : ℕ) (o p : List ℕ) : Type 0 where
+  pub long : length o ≡ r
+  pub long′ : length p ≡ r
+  pub below : Below r o
+  pub below′ : Below r p
+  pub there : pick p o ≡ upto r
+  pub back : pick o p ≡ upto r
+  pub keeps : (ds : List ℕ) → length ds ≡ r → volume (pick o ds) ≡ volume ds

@@ -8,9 +8,9 @@ use lib.ListN.{length, getD, take}
 use lib.Seq.{take-suc}
 use Rattle.lists.specs.Tab.{tab, upto}
 use Rattle.lists.proofs.Tab.{length-tab}
-use Rattle.layout.specs.Layout.{volume, pick}
-use Rattle.layout.proofs.Picks.{Below, Undone, pick-upto}
-use Rattle.layout.proofs.Picks.Below.{empty, next}
+use Rattle.layout.specs.Layout.{volume, pick, Below, Undone}
+use Rattle.layout.proofs.Picks.{pick-upto}
+use Rattle.layout.specs.Layout.Below.{empty, next}
 use Rattle.orders.specs.Chains.{exchange, follow, named}
 use Rattle.orders.proofs.Swaps.{exchange-exchange, length-exchange, pick-exchange, volume-exchange, below-exchange}
 

@@ -9,9 +9,9 @@ use native.Mathlib.Omega.{arith}
 use lib.Dec.{eqb}
 use lib.ListN.{length, getD}
 use lib.Seq.{ext-getD}
-use Rattle.layout.specs.Layout.{pick, places, Laid}
+use Rattle.layout.specs.Layout.{pick, places, Laid, Undone}
 use Rattle.layout.proofs.Offsets.{within-length}
-use Rattle.layout.proofs.Picks.{length-pick, pick-at, undone, places-undo, Undone}
+use Rattle.layout.proofs.Picks.{length-pick, pick-at, undone, places-undo}
 use Rattle.orders.specs.Chains.{named}
 use Rattle.orders.specs.Numbers.{orderCount, arrangements, orders, orderOf}
 use Rattle.orders.specs.Releases.{orderBy, numberBy, Goes, LaidTo, LaidBy}

@@ -3,8 +3,7 @@ use mathlib.Core.Path.{_≡_, sym, subst}
 use mathlib.Core.List.{List, _++_, reverse}
 use Prim.Native.Nat.{ℕ, _≤_}
 use lib.ListN.{length}
-use Rattle.layout.specs.Layout.{volume, pick, Laid, laid}
-use Rattle.layout.proofs.Picks.{Below}
+use Rattle.layout.specs.Layout.{volume, pick, Laid, laid, Below}
 use Rattle.layout.proofs.Laws.{after, home, one-layout, laid-is}
 use Rattle.orders.specs.Chains.{named}
 use Rattle.orders.proofs.Chains.{length-named, below-named, joined, undoes}

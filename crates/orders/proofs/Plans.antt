@@ -12,9 +12,8 @@ use lib.Dec.{ltb}
 use lib.ListN.{length}
 use borrow.Author.Tests.{lt-ltb, le-ltb}
 use Rattle.lists.proofs.Decide.{lt-or-ge}
-use Rattle.layout.specs.Layout.{placeOf}
-use Rattle.layout.proofs.Picks.{Below}
-use Rattle.layout.proofs.Picks.Below.{empty, next}
+use Rattle.layout.specs.Layout.{placeOf, Below}
+use Rattle.layout.specs.Layout.Below.{empty, next}
 use Rattle.orders.specs.Chains.{follow, named}
 use Rattle.orders.specs.Numbers.{orderCount, orderOf}
 use Rattle.orders.specs.Plans.{under, falling, Sooner, Plan, relabelled, firstBack, planned, planOf, planPlaces}

@@ -5,9 +5,8 @@ use Prim.Native.Nat.{ℕ, zero, suc, _+_, _<_, _≤_}
 use native.Mathlib.Nat.{not-suc-le-zero, le-of-suc-le-suc, mul-left-comm}
 use native.Mathlib.Numerals.{add-one}
 use lib.ListN.{length, getD, set}
-use Rattle.layout.specs.Layout.{volume, pick}
-use Rattle.layout.proofs.Picks.{Below}
-use Rattle.layout.proofs.Picks.Below.{empty, next}
+use Rattle.layout.specs.Layout.{volume, pick, Below}
+use Rattle.layout.specs.Layout.Below.{empty, next}
 use Rattle.orders.specs.Chains.{exchange}
 
 -- the same swap twice

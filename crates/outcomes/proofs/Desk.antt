@@ -4,9 +4,9 @@ use mathlib.Core.Path.{_≡_, refl, sym, _∙_}
 use mathlib.Core.List.{List}
 use denote.Ref.{RefT}
 use lib.IntN.{ℤ}
+use Rattle.choice.specs.Parts.{SamePart}
 use Rattle.desk.proofs as desk
 use Rattle.choice.proofs as choice
-use Rattle.choice.proofs.OneOutcome.{SamePart}
 use Rattle.outcomes.proofs.Once.{Two, Once, under}
 
 -- one part of a run, under one name
