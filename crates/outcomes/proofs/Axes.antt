@@ -10,7 +10,7 @@ use borrow.Author.Needs.{needs}
 use Rattle.axes.specs.declared.Shape.{Shape}
 use Rattle.plans.proofs as plans
 use Rattle.axes.proofs as axes
-use Rattle.outcomes.proofs.Once.{Once}
+use Rattle.outcomes.specs.Once.{Once}
 
 -- so many lengths are read
 pub reads : {r : ℕ} (l : List ℕ) → length l ≡ 5 → r ≤ 5 → length (take r l) ≡ r

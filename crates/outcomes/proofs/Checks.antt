@@ -2,7 +2,7 @@
 use mathlib.Core.Path.{refl, sym, _∙_}
 use Rattle.checks.proofs as checks
 use Rattle.blocks.proofs as blocks
-use Rattle.outcomes.proofs.Once.{Once}
+use Rattle.outcomes.specs.Once.{Once}
 
 pub bad-length-once : Once checks.bad_length.Kinds.ps checks.bad_length.Kinds.r checks.bad_length.Reads.Post
 bad-length-once t = (t .first ∙ sym (t .second), refl)

@@ -7,7 +7,7 @@ use lib.IntN.{ℤ}
 use Rattle.choice.specs.Parts.{SamePart}
 use Rattle.desk.proofs as desk
 use Rattle.choice.proofs as choice
-use Rattle.outcomes.proofs.Once.{Two, Once, under}
+use Rattle.outcomes.specs.Once.{Two, Once, under}
 
 -- one part of a run, under one name
 pub one-part : {x y : RefT (List ℤ)} → SamePart x y → under (y .name) x ≡ y

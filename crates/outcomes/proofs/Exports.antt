@@ -38,7 +38,8 @@ use Rattle.choice.proofs as choice
 use Rattle.exports.proofs as exports
 use Rattle.outcomes.proofs.Axes.{reads}
 use Rattle.outcomes.proofs.Desk.{one-part}
-use Rattle.outcomes.proofs.Once.{Two, Once, OnceWalked, both, under}
+use Rattle.outcomes.specs.Once.{Two, Once, OnceWalked, under}
+use Rattle.outcomes.proofs.Once.{both}
 
 -- a record of the interface from that of the call below, field by field
 abbrev as-sheet : Below-Sheet → Sheet

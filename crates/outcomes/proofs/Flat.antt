@@ -16,7 +16,8 @@ use Rattle.home.proofs as home
 use Rattle.cycles.proofs as cycles
 use Rattle.cameras.proofs as cameras
 use Rattle.tiles.proofs as tiles
-use Rattle.outcomes.proofs.Once.{Once, OnceWalked, both}
+use Rattle.outcomes.specs.Once.{Once, OnceWalked}
+use Rattle.outcomes.proofs.Once.{both}
 
 pub turn-once : Once passes.turn.Kinds.ps passes.turn.Kinds.r passes.turn.Reads.Post
 turn-once t = let (x, y, z) = passes.OneOutcome.turn-once (t .first) (t .second) in (x, λ i. (y i, (z i, _)))

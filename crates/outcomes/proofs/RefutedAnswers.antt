@@ -32,8 +32,9 @@ use Rattle.passes.specs.Ticks.{LinesPromise}
 use Rattle.home.specs.declared.Home.{Home}
 use Rattle.home.specs.Promise.{Counts, RepeatsPromise}
 use Rattle.home.proofs.OneOutcome.{repeats-once}
-use Rattle.outcomes.proofs.Wrong.{Case, Row, Refuted, refuted}
-use Rattle.outcomes.proofs.Wrong.Row.{wrong, gives, late, refuses}
+use Rattle.outcomes.specs.Wrong.{Case, Row, Refuted}
+use Rattle.outcomes.proofs.Wrong.{refuted}
+use Rattle.outcomes.specs.Wrong.Row.{wrong, gives, late, refuses}
 use Rattle.outcomes.proofs.Shapes.{value, numbered, by-number, answering}
 use Rattle.outcomes.proofs.Tested.{Tested, equal, unequal, less, also, hence, where-below, where-most, at-each}
 

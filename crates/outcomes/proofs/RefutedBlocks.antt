@@ -28,8 +28,9 @@ use Rattle.passes.specs.Promises.{TurnPromise, TurnBackPromise, ClearPromise}
 use Rattle.axes.specs.declared.Answer.{Answer}
 use Rattle.axes.specs.Answers.{accepted, refused, refusedPlace}
 use Rattle.axes.specs.Promises.{ChainPromise, RequestPromise}
-use Rattle.outcomes.proofs.Wrong.{Case, Row, Refuted, refuted}
-use Rattle.outcomes.proofs.Wrong.Row.{wrong, gives, late, refuses}
+use Rattle.outcomes.specs.Wrong.{Case, Row, Refuted}
+use Rattle.outcomes.proofs.Wrong.{refuted}
+use Rattle.outcomes.specs.Wrong.Row.{wrong, gives, late, refuses}
 use Rattle.outcomes.proofs.Shapes.{Block, buffer, scratch, Slice, words, exactly, laid-out, moving, rearranging, replacing}
 
 -- the calls on a flat block and the swap, which answer a number

@@ -25,8 +25,9 @@ use Rattle.orbits.proofs.RightList.{every-cycle-once}
 use Rattle.cycles.specs.declared.Judged.{Judged}
 use Rattle.cycles.specs.Promise.{wrongCycles, cycleChecks, runChecks, JudgedAfter, JudgedAs, RunAs}
 use Rattle.cycles.proofs.OneOutcome.{judge-once}
-use Rattle.outcomes.proofs.Wrong.{Case, Row, Refuted, refuted}
-use Rattle.outcomes.proofs.Wrong.Row.{wrong, gives, late, refuses}
+use Rattle.outcomes.specs.Wrong.{Case, Row, Refuted}
+use Rattle.outcomes.proofs.Wrong.{refuted}
+use Rattle.outcomes.specs.Wrong.Row.{wrong, gives, late, refuses}
 use Rattle.outcomes.proofs.Tested.{Tested, alike, unlike, also, hence, at-each}
 use Rattle.outcomes.proofs.Shapes.{Slice, words, Target, laid-out, passing, left, words-only}
 

@@ -26,8 +26,9 @@ use Rattle.choice.specs.Conditions.{chooseChecks}
 use Rattle.choice.specs.Promises.{Four, ChosenAs}
 use Rattle.choice.specs.Promises.Four.{of-first, of-second}
 use Rattle.choice.proofs.OneOutcome.{choose-once}
-use Rattle.outcomes.proofs.Wrong.{Case, Row, Refuted, refuted}
-use Rattle.outcomes.proofs.Wrong.Row.{wrong, gives, late, refuses}
+use Rattle.outcomes.specs.Wrong.{Case, Row, Refuted}
+use Rattle.outcomes.proofs.Wrong.{refuted}
+use Rattle.outcomes.specs.Wrong.Row.{wrong, gives, late, refuses}
 use Rattle.outcomes.proofs.Tested.{Tested, less, holds, also, hence, where-true, at-each}
 use Rattle.outcomes.proofs.Shapes.{value, numbered, answering, by-number}
 

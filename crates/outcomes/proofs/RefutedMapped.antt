@@ -11,8 +11,9 @@ use Rattle.stages.specs.Stages.{Memory, stage, next, remaining, call}
 use Rattle.stages.specs.Lines.{stagesOf}
 use Rattle.passes.specs.Lines.{lineAt, skipped}
 use Rattle.passes.specs.Restart.{memory, turnStages, resumeChecks, ResumePromise}
-use Rattle.outcomes.proofs.Wrong.{Case, Row, Refuted, refuted}
-use Rattle.outcomes.proofs.Wrong.Row.{wrong, gives, late, refuses}
+use Rattle.outcomes.specs.Wrong.{Case, Row, Refuted}
+use Rattle.outcomes.proofs.Wrong.{refuted}
+use Rattle.outcomes.specs.Wrong.Row.{wrong, gives, late, refuses}
 use Rattle.outcomes.proofs.Shapes.{answering}
 
 -- a call with this budget: its number, and what it leaves

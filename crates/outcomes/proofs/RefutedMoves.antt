@@ -26,8 +26,9 @@ use Rattle.passes.specs.Lines.{skipped}
 use Rattle.passes.specs.Plain.{ColumnMoved, RowMoved, firstLines, LineTicked}
 use Rattle.passes.specs.Ticks.{tickChecks, doneAfter, TickPromise}
 use Rattle.passes.proofs.OneTick.{tick-once}
-use Rattle.outcomes.proofs.Wrong.{Case, Row, Refuted, refuted}
-use Rattle.outcomes.proofs.Wrong.Row.{wrong, gives, late, refuses}
+use Rattle.outcomes.specs.Wrong.{Case, Row, Refuted}
+use Rattle.outcomes.proofs.Wrong.{refuted}
+use Rattle.outcomes.specs.Wrong.Row.{wrong, gives, late, refuses}
 use Rattle.outcomes.proofs.Tested.{Tested, equal, alike, also, hence, where-below, where-most, where-equal, where-other, at-each}
 use Rattle.outcomes.proofs.Shapes.{Block, buffer, scratch, Slice, words, value, seen-right, moving, rearranging, replacing}
 

@@ -22,8 +22,9 @@ use Rattle.printer.specs.declared.Written.{Written}
 use Rattle.printer.specs.Writer.{shortBytes, writerChecks, releaseChecks, written, writtenTo, WrittenAs, ReleaseWrittenAs}
 use Rattle.printer.specs.RefusalWriter.{RefusalWrittenAs}
 use Rattle.job.specs.Job.{jobWords, jobScratch, jobText, jobNumber, jobPlace, Done}
-use Rattle.outcomes.proofs.Wrong.{Case, Row, Refuted, refuted}
-use Rattle.outcomes.proofs.Wrong.Row.{wrong, gives, late, refuses}
+use Rattle.outcomes.specs.Wrong.{Case, Row, Refuted}
+use Rattle.outcomes.proofs.Wrong.{refuted}
+use Rattle.outcomes.specs.Wrong.Row.{wrong, gives, late, refuses}
 use Rattle.outcomes.proofs.Shapes.{Slice, words}
 
 -- The conditions of a sheet in the reading order, each over what the lines before it say, read as far as they can be even where one of them is at fault: so

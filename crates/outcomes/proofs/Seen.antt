@@ -1,5 +1,4 @@
 -- What the checker reads of a call from the source is the call as a caller sees it: the arguments at entry, the answer and the slices at exit, by their names.
-use mathlib.Core.List.{List}
 use Prim.Native.Nat.{ℕ}
 use native.Mathlib.Omega.{arith}
 use lib.ListN.{take}

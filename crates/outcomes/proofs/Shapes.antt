@@ -17,7 +17,7 @@ use Rattle.refusals.specs.FirstOf.{Check, firstOf}
 use Rattle.refusals.specs.Scratch.{cleared}
 use Rattle.refusals.specs.Promise.{Rearranged}
 use Rattle.cameras.specs.Promises.{Changed}
-use Rattle.outcomes.proofs.Wrong.{Case}
+use Rattle.outcomes.specs.Wrong.{Case}
 use Rattle.outcomes.proofs.Tested.{Tested}
 
 -- what a call answers, and what it leaves in a lent buffer and in lent scratch

@@ -2,7 +2,7 @@
 use Rattle.sheet.proofs as sheet
 use Rattle.printer.proofs as printer
 use Rattle.job.proofs as job
-use Rattle.outcomes.proofs.Once.{Once}
+use Rattle.outcomes.specs.Once.{Once}
 
 pub read-once : Once sheet.read.Kinds.ps sheet.read.Kinds.r sheet.read.Reads.Post
 read-once t = let (x, y) = sheet.OneOutcome.read-once (t .first) (t .second) in (x, λ i. (_, (y i, _)))

@@ -2,7 +2,7 @@
 -- that the promise refutes every row of it, and names those that it does not. docs/PROMISES.md cites rows by their names.
 use mathlib.Core.Path.{_≡_, sym, ap, subst, _∙_}
 use mathlib.Core.Bool.{Bool, true, false, cond, not, _&&_}
-use mathlib.Core.List.{List, [], _∷_, List·Memᴰ, List·Memᴰ·not-nil, List·Memᴰ·cases-cons}
+use mathlib.Core.List.{List, [], _∷_, List·Memᴰ·not-nil, List·Memᴰ·cases-cons}
 use mathlib.Core.Logic.{⊎-elim}
 use Prim.Native.Nat.{ℕ}
 use Prim.Native.String.{String}
@@ -13,6 +13,8 @@ use Rattle.lists.specs.Same.{same}
 use Rattle.lists.proofs.Test.{both-left, both-right, eq→same}
 use Rattle.refusals.specs.FirstOf.{Check, firstOf}
 use Rattle.refusals.specs.Conditions.{some}
+use Rattle.outcomes.specs.Wrong.{Case, Row, Refutes, Refuted}
+use Rattle.outcomes.specs.Wrong.Row.{wrong, gives, late, refuses}
 
 -- two numbers that are said to be equal, and are not
 pub other-number : {a b : ℕ} → a ≡ b → T (not (eqb a b)) → ⊥
@@ -21,24 +23,6 @@ other-number {a} {b} e n = T-not (eqb a b) n (subst (λ (x : ℕ). T (eqb a x)) 
 -- two lists
 pub other-list : {xs ys : List ℕ} → xs ≡ ys → T (not (same xs ys)) → ⊥
 other-list {xs} {ys} e n = T-not (same xs ys) n (eq→same xs ys e)
-
--- A call on one entry: what it promises there of an outcome, its checks, the number of an outcome; and the right outcome, which is the only one that the
--- promise allows if the test `seen` passes.
-pub record Case (O : Type 0) : Type 1 where
-  pub Promise : O → Type 0
-  pub checks : List Check
-  pub number : O → ℕ
-  pub right : O
-  pub seen : Bool
-  pub only : T seen → (o : O) → Promise o → o ≡ right
-
--- A wrong version, by its name and an entry: what it leaves in a part of the outcome; the number that it gives; the number that it gives where another is
--- due, because it makes its checks in another order; or that it refuses, with whatever number.
-pub data Row (O : Type 0) : Type 1 where
-  wrong : String → Case O → (O → List ℕ) → List ℕ → Row O
-  gives : String → Case O → ℕ → Row O
-  late : String → Case O → ℕ → ℕ → Row O
-  refuses : String → Case O → Row O
 
 -- the condition of a number holds
 abbrev pub holds : ℕ → List Check → Bool
@@ -62,13 +46,6 @@ module _ {O : Type 0} where
       && (eqb due (c .number (c .right)) && (eqb due (firstOf (c .checks)) && (holds k (c .checks) && holds due (c .checks)))))
   test (refuses n c) = c .seen && eqb (c .number (c .right)) 0
 
-  -- no outcome that the promise allows is the version's
-  abbrev pub Refutes : Row O → Type 0
-  Refutes (wrong n c part leaves) = (o : O) → c .Promise o → part o ≡ leaves → ⊥
-  Refutes (gives n c k) = (o : O) → c .Promise o → c .number o ≡ k → ⊥
-  Refutes (late n c k due) = (o : O) → c .Promise o → c .number o ≡ k → ⊥
-  Refutes (refuses n c) = (o : O) → c .Promise o → (c .number o ≡ 0 → ⊥) → ⊥
-
   -- another number than that of the only outcome
   other : (c : Case O) (k : ℕ) → T (c .seen) → T (not (eqb k (c .number (c .right)))) → (o : O) → c .Promise o → c .number o ≡ k → ⊥
   other c k seen t o p e = other-number (sym e ∙ ap (c .number) (c .only seen o p)) t
@@ -84,10 +61,6 @@ module _ {O : Type 0} where
   abbrev pub failing : List (Row O) → List String
   failing [] = []
   failing (r ∷ rs) = cond (test r) (failing rs) (name r ∷ failing rs)
-
-  -- every row of a table is refuted
-  abbrev pub Refuted : List (Row O) → Type 1
-  Refuted rows = (r : Row O) → List·Memᴰ r rows → Refutes r
 
   pub refuted : (rows : List (Row O)) → failing rows ≡ [] → Refuted rows
   refuted [] e r m = absurd (List·Memᴰ·not-nil m)
