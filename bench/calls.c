@@ -120,7 +120,7 @@ static void results(void) {
     for (size_t k = 0; k < 1024; k++) column[k] = UINT32_MAX;
     for (int round = 0; round < ROUNDS; round++) {
         double start = now();
-        bytes = zib_write_sheet(shape, 23, column, 1024, text, sizeof text).bytes;
+        bytes = zib_write_result(shape, 23, column, 1024, text, sizeof text).count;
         double written = now();
         zib_read_result(text, bytes, other, 1024);
         double read = now();

@@ -50,7 +50,7 @@ static int read_number(const char *text, size_t *number) {
 
 static int measure(struct turn *t, const char *m, const char *n) {
     if (read_number(m, &t->m) || read_number(n, &t->n)) return 1;
-    struct zib_lines lines = zib_lines(t->m, t->n);
+    struct zib_line_count lines = zib_lines(t->m, t->n);
     if (lines.number != 0) return refused(lines.number);
     t->longest = t->m < t->n ? t->n : t->m;
     t->words = t->m * t->n;

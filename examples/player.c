@@ -18,7 +18,7 @@ int main(void) {
     for (uint32_t frame = 0; frame < FRAMES; frame++)
         for (uint32_t camera = 0; camera < CAMERAS; camera++) block[frame * CAMERAS + camera] = 100 * camera + frame;
 
-    struct zib_lines lines = zib_lines(FRAMES, CAMERAS);
+    struct zib_line_count lines = zib_lines(FRAMES, CAMERAS);
     struct zib_line_record record = {0};
     while (record.done < lines.count) {
         /* ... the video frame is shown, and the gap begins ... */

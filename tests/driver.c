@@ -128,7 +128,7 @@ static void give_answer(struct zib_answer a) {
 static void give_plan(struct zib_planned p) {
     give(p.number);
     give_all(p.swaps, 10);
-    give(p.length);
+    give(p.count);
 }
 
 static void give_sheet(struct zib_sheet s) {
@@ -136,15 +136,15 @@ static void give_sheet(struct zib_sheet s) {
     give(s.place);
     give_all(s.lengths, 4);
     give_all(s.swaps, 32);
-    give(s.length);
+    give(s.count);
 }
 
 static void give_written(struct zib_written w) {
     give(w.number);
-    give(w.bytes);
+    give(w.count);
 }
 
-static void give_lines(struct zib_lines l) {
+static void give_lines(struct zib_line_count l) {
     give(l.number);
     give(l.count);
 }
@@ -159,7 +159,7 @@ static void give_home(struct zib_home h) {
     give(h.count);
 }
 
-static void give_result(struct zib_result s) {
+static void give_result(struct zib_result_sheet s) {
     give(s.number);
     give(s.place);
     give_all(s.lengths, 4);
@@ -204,7 +204,7 @@ static struct zib_part choose(void) {
 static void give_told(struct zib_told told) {
     give(told.number);
     give(told.place);
-    give(told.bytes);
+    give(told.count);
 }
 
 static void give_judged(struct zib_judged j) {
@@ -286,7 +286,7 @@ static void run(uint64_t call) {
         give_sheet(zib_read_sheet(buffers[0].at, buffers[0].bytes, words(1), word_count(1)));
         break;
     case WRITE_SHEET:
-        give_written(zib_write_sheet(sheet, numbers[4], words(0), word_count(0), buffers[1].at, buffers[1].bytes));
+        give_written(zib_write_result(sheet, numbers[4], words(0), word_count(0), buffers[1].at, buffers[1].bytes));
         break;
     case JOB:
         give_told(zib_job(buffers[0].at, buffers[0].bytes, words(1), words(2), buffers[3].at));

@@ -70,8 +70,8 @@ static void plan5(void) { answer = zib_plan5(given[0]).number; }
 
 /* Sheets: four lengths, then an order; the readers take what was written. */
 static struct zib_sheet_shape page(void) { return (struct zib_sheet_shape){{given[0], given[1], given[2], given[3]}}; }
-static void answer_written(struct zib_written w) { answer = w.number, written = w.bytes; }
-static void write_sheet(void) { answer_written(zib_write_sheet(page(), given[4], block, 1024, out, sizeof out)); }
+static void answer_written(struct zib_written w) { answer = w.number, written = w.count; }
+static void write_sheet(void) { answer_written(zib_write_result(page(), given[4], block, 1024, out, sizeof out)); }
 static void write_release(void) { answer_written(zib_write_release(page(), 2, given[4], block, 1024, out, sizeof out)); }
 static void read_result(void) { answer = zib_read_result(out, written, scratch, 1024).number; }
 static void read_sheet(void) { answer = zib_read_sheet(text, written, scratch, 1024).number; }

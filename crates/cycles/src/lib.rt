@@ -12,6 +12,7 @@ ghost use Rattle.orbits.specs.Private.{Small, Reciprocal};
 ghost use Rattle.cycles.specs.Private.{lengthOf, Compared};
 
 // The number that the call answers, and for 22 the place of the first pair that differs.
+#[repr(C)]
 pub struct Judged {
     pub number: u32,
     pub place: usize,

@@ -1,4 +1,5 @@
 // The C interface: each public call under a C name, with the promise of the call below it.
+ghost use mathlib.Core.Path.{_≡_};
 ghost use lib.ListN.{take};
 ghost use Rattle.passes.specs.Promises.{TurnPromise, TurnBackPromise};
 ghost use Rattle.halves.specs.Promise.{TurnPromise as HalvesPromise};
@@ -17,60 +18,11 @@ ghost use Rattle.passes.specs.Ticks.{LinesPromise};
 ghost use Rattle.passes.specs.Restart.{memory, ResumePromise};
 ghost use Rattle.ticks.specs.Steps.{StepPromise};
 ghost use Rattle.cycles.specs.Promise.{JudgedAs, RunAs};
-ghost use Rattle.exports.specs.Records.{sheetRead, sheetWritten, homeAfter, resultRead, linesCounted, cyclesJudged};
 
 // The lengths of a sheet's four axes.
 #[repr(C)]
 pub struct SheetShape {
     pub lens: [usize; 4],
-}
-
-// What the sheet reader answers.
-#[repr(C)]
-pub struct Sheet {
-    pub number: u32,
-    pub place: usize,
-    pub lens: [usize; 4],
-    pub swaps: [usize; 32],
-    pub count: usize,
-}
-
-// What the sheet writer answers.
-#[repr(C)]
-pub struct Written {
-    pub number: u32,
-    pub count: usize,
-}
-
-// What the count of repeats answers.
-#[repr(C)]
-pub struct Home {
-    pub number: u32,
-    pub count: usize,
-}
-
-// What the reader of result sheets answers.
-#[repr(C)]
-pub struct ResultSheet {
-    pub number: u32,
-    pub place: usize,
-    pub lens: [usize; 4],
-    pub release: usize,
-    pub order: usize,
-}
-
-// What the count of a turn's lines answers.
-#[repr(C)]
-pub struct Lines {
-    pub number: u32,
-    pub count: usize,
-}
-
-// What judging a list of cycles, or running it, answers.
-#[repr(C)]
-pub struct Judged {
-    pub number: u32,
-    pub place: usize,
 }
 
 // The flat turn of m by n by passes.
@@ -169,45 +121,24 @@ pub extern "C" fn zib_plan5(order: usize) -> plans::Planned
 
 // Reads a sheet into a word buffer.
 #[no_mangle]
-pub extern "C" fn zib_read_sheet(bytes: &[u8], words: &mut [u32]) -> Sheet
-    ensures { λ r. ⌜ ReadAs (now (words .entry)) (now (bytes .entry)) (sheetRead r) (now (words .exit)) ⌝ }
+pub extern "C" fn zib_read_sheet(bytes: &[u8], words: &mut [u32]) -> sheet::Sheet
+    ensures { λ r. ⌜ ReadAs (now (words .entry)) (now (bytes .entry)) r (now (words .exit)) ⌝ }
 {
-    let s = sheet::read(bytes, words);
-    let lens = s.lens;
-    let swaps = s.swaps;
-    Sheet {
-        number: s.number,
-        place: s.place,
-        lens: lens,
-        swaps: swaps,
-        count: s.count,
-    }
+    sheet::read(bytes, words)
 }
 
 // Writes the result sheet of a block into a byte buffer.
 #[no_mangle]
-pub extern "C" fn zib_write_sheet(
+pub extern "C" fn zib_write_result(
     shape: SheetShape,
     order: usize,
     words: &[u32],
     out: &mut [u8],
-) -> Written
-    ensures { λ r. ⌜ WrittenAs (shape .lens) order (now (words .entry)) (now (out .entry)) (sheetWritten r) (now (out .exit)) ⌝ }
+) -> printer::Written
+    ensures { λ r. ⌜ WrittenAs (shape .lens) order (now (words .entry)) (now (out .entry)) r (now (out .exit)) ⌝ }
 {
     let lens = shape.lens;
-    let w = printer::write(lens, order, words, out);
-    Written {
-        number: w.number,
-        count: w.count,
-    }
-}
-
-// What the whole job answers.
-#[repr(C)]
-pub struct Told {
-    pub number: u32,
-    pub place: usize,
-    pub count: usize,
+    printer::write_result(lens, order, words, out)
 }
 
 // The whole job on a sheet: read, run through its chain, its result sheet or its refusal written.
@@ -217,27 +148,18 @@ pub extern "C" fn zib_job(
     words: &mut [u32; 1024],
     scratch: &mut [u32; 1024],
     out: &mut [u8; 16384],
-) -> Told
+) -> job::Told
     ensures { λ r. ⌜ Done (now (bytes .entry)) (now (words .entry)) (now (scratch .entry)) (now (out .entry)) (r .number) (r .place) (r .count) (now (words .exit)) (now (scratch .exit)) (now (out .exit)) ⌝ }
 {
-    let told = job::job(bytes, words, scratch, out);
-    Told {
-        number: told.number,
-        place: told.place,
-        count: told.count,
-    }
+    job::job(bytes, words, scratch, out)
 }
 
 // How often the turn of m by n is repeated until every block of that shape is home.
 #[no_mangle]
-pub extern "C" fn zib_repeats(m: usize, n: usize) -> Home
-    ensures { λ r. ⌜ RepeatsPromise m n (homeAfter r) ⌝ }
+pub extern "C" fn zib_repeats(m: usize, n: usize) -> home::Home
+    ensures { λ r. ⌜ RepeatsPromise m n r ⌝ }
 {
-    let h = home::repeats(m, n);
-    Home {
-        number: h.number,
-        count: h.count,
-    }
+    home::repeats(m, n)
 }
 
 // Removes a camera's column from a block of frames by cameras words.
@@ -299,18 +221,10 @@ pub extern "C" fn zib_from_tiles(
 
 // Reads a result sheet into a word buffer.
 #[no_mangle]
-pub extern "C" fn zib_read_result(bytes: &[u8], words: &mut [u32]) -> ResultSheet
-    ensures { λ r. ⌜ ResultReadAs (now (words .entry)) (now (bytes .entry)) (resultRead r) (now (words .exit)) ⌝ }
+pub extern "C" fn zib_read_result(bytes: &[u8], words: &mut [u32]) -> sheet::ResultSheet
+    ensures { λ r. ⌜ ResultReadAs (now (words .entry)) (now (bytes .entry)) r (now (words .exit)) ⌝ }
 {
-    let s = sheet::read_result(bytes, words);
-    let lens = s.lens;
-    ResultSheet {
-        number: s.number,
-        place: s.place,
-        lens: lens,
-        release: s.release,
-        order: s.order,
-    }
+    sheet::read_result(bytes, words)
 }
 
 // Writes the result sheet of a block, with the release of its order number, into a byte buffer.
@@ -321,15 +235,11 @@ pub extern "C" fn zib_write_release(
     order: usize,
     words: &[u32],
     out: &mut [u8],
-) -> Written
-    ensures { λ r. ⌜ ReleaseWrittenAs (shape .lens) release order (now (words .entry)) (now (out .entry)) (sheetWritten r) (now (out .exit)) ⌝ }
+) -> printer::Written
+    ensures { λ r. ⌜ ReleaseWrittenAs (shape .lens) release order (now (words .entry)) (now (out .entry)) r (now (out .exit)) ⌝ }
 {
     let lens = shape.lens;
-    let w = printer::write_release(lens, release, order, words, out);
-    Written {
-        number: w.number,
-        count: w.count,
-    }
+    printer::write_release(lens, release, order, words, out)
 }
 
 // The offset and the delay of one exchange of four readings.
@@ -376,14 +286,10 @@ pub extern "C" fn zib_choose_number(first: &[i64], second: &[i64]) -> u32
 
 // How many lines the turn of m by n by passes has.
 #[no_mangle]
-pub extern "C" fn zib_lines(m: usize, n: usize) -> Lines
-    ensures { λ r. ⌜ LinesPromise m n (linesCounted r) ⌝ }
+pub extern "C" fn zib_lines(m: usize, n: usize) -> passes::LineCount
+    ensures { λ r. ⌜ LinesPromise m n r ⌝ }
 {
-    let l = passes::lines(m, n);
-    Lines {
-        number: l.number,
-        count: l.count,
-    }
+    passes::lines(m, n)
 }
 
 // One line of the turn of m by n; the record of the lines done is lent, and advanced where it stands.
@@ -417,24 +323,30 @@ pub extern "C" fn zib_resume(
 
 // Judges a list of the cycles of the turn of m by n: start, length, start, length.
 #[no_mangle]
-pub extern "C" fn zib_judge_cycles(list: &[u32], m: usize, n: usize) -> Judged
-    ensures { λ r. ⌜ JudgedAs m n (now (list .entry)) (cyclesJudged r) ⌝ }
+pub extern "C" fn zib_judge_cycles(list: &[u32], m: usize, n: usize) -> cycles::Judged
+    ensures { λ r. ⌜ JudgedAs m n (now (list .entry)) r ⌝ }
 {
-    let j = cycles::judge(list, m, n);
-    Judged {
-        number: j.number,
-        place: j.place,
-    }
+    cycles::judge(list, m, n)
 }
 
 // Runs a list of the cycles of the turn of m by n on the block: the flat turn, without scratch.
 #[no_mangle]
-pub extern "C" fn zib_run_cycles(list: &[u32], buf: &mut [u32], m: usize, n: usize) -> Judged
-    ensures { λ r. ⌜ RunAs m n (now (list .entry)) (now (buf .entry)) (cyclesJudged r) (now (buf .exit)) ⌝ }
+pub extern "C" fn zib_run_cycles(
+    list: &[u32],
+    buf: &mut [u32],
+    m: usize,
+    n: usize,
+) -> cycles::Judged
+    ensures { λ r. ⌜ RunAs m n (now (list .entry)) (now (buf .entry)) r (now (buf .exit)) ⌝ }
 {
-    let j = cycles::run(list, buf, m, n);
-    Judged {
-        number: j.number,
-        place: j.place,
-    }
+    cycles::run(list, buf, m, n)
+}
+
+// The version of these calls and records: 10,000 times its first number and 100 times its second. The name has it too, so that a program whose
+// header is of another version does not link.
+#[no_mangle]
+pub extern "C" fn zib_version_3_0() -> u32
+    ensures { λ r. ⌜ r ≡ 30000 ⌝ }
+{
+    30000
 }

@@ -3,6 +3,7 @@ ghost use Prim.Native.Nat.{_*_, _<_, _≤_};
 ghost use Rattle.home.specs.Promise.{Counts, RepeatsPromise};
 
 // The number that the call answers, and the count of repeats.
+#[repr(C)]
 pub struct Home {
     pub number: u32,
     pub count: usize,

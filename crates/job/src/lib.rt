@@ -18,6 +18,7 @@ fn run(words: &mut [u32], scratch: &mut [u32], lens: [usize; 4], swaps: &[usize]
 }
 
 // What the job answers: its number and place, 0 and 0 where the sheet is right, and how many bytes its text has.
+#[repr(C)]
 pub struct Told {
     pub number: u32,
     pub place: usize,
@@ -48,7 +49,7 @@ pub fn job(
     let answer = run(words, scratch, lens, &swaps[..count]);
     let turned = answer.lens;
     let front = [turned[0], turned[1], turned[2], turned[3]];
-    let written = printer::write(front, answer.order, words, out);
+    let written = printer::write_result(front, answer.order, words, out);
     Told {
         number: 0,
         place: 0,

@@ -115,9 +115,9 @@ module _ (κs : Lfts 2) where
     post = post;
   }
 
-  pub of-write : (args : Dens κs printer.write.Kinds.ps) → GoodsP κs printer.write.Kinds.ps args → (answer : Written)
-      (exit : AtExit (endedOf 2 printer.write.Kinds.ps printer.write.Kinds.r) κs) → printer.write.Reads.Post κs args answer exit → WriteCall
-  of-write args good answer exit post = record {
+  pub of-write-result : (args : Dens κs printer.write_result.Kinds.ps) → GoodsP κs printer.write_result.Kinds.ps args → (answer : Written)
+      (exit : AtExit (endedOf 2 printer.write_result.Kinds.ps printer.write_result.Kinds.r) κs) → printer.write_result.Reads.Post κs args answer exit → WriteCall
+  of-write-result args good answer exit post = record {
     lengths = args .0;
     order = args .1 .0;
     words = args .1 .1 .0 .now;

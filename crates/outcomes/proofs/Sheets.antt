@@ -10,8 +10,8 @@ read-once t = let (x, y) = sheet.OneOutcome.read-once (t .first) (t .second) in 
 pub read-result-once : Once sheet.read_result.Kinds.ps sheet.read_result.Kinds.r sheet.read_result.Reads.Post
 read-result-once t = let (x, y) = sheet.OneOutcome.read-result-once (t .first) (t .second) in (x, λ i. (_, (y i, _)))
 
-pub write-once : Once printer.write.Kinds.ps printer.write.Kinds.r printer.write.Reads.Post
-write-once t = let (x, y) = printer.OneOutcome.write-once (t .first) (t .second) in (x, λ i. (_, (_, (_, (y i, _)))))
+pub write-result-once : Once printer.write_result.Kinds.ps printer.write_result.Kinds.r printer.write_result.Reads.Post
+write-result-once t = let (x, y) = printer.OneOutcome.write-result-once (t .first) (t .second) in (x, λ i. (_, (_, (_, (y i, _)))))
 
 pub write-release-once : Once printer.write_release.Kinds.ps printer.write_release.Kinds.r printer.write_release.Reads.Post
 write-release-once t = let (x, y) = printer.OneOutcome.write-release-once (t .first) (t .second) in (x, λ i. (_, (_, (_, (_, (y i, _))))))

@@ -45,6 +45,7 @@ pub fn turn_back(buf: &mut [u32], scratch: &mut [u32], m: usize, n: usize) -> u3
 }
 
 // How many lines a turn has: the number, and the count, 0 in a refusal.
+#[repr(C)]
 pub struct LineCount {
     pub number: u32,
     pub count: usize,

@@ -7,9 +7,9 @@ use Rattle.printer.specs.declared.Written.{Written}
 use Rattle.printer.specs.Writer.{WrittenAs, ReleaseWrittenAs}
 use Rattle.printer.specs.RefusalWriter.{RefusalWrittenAs}
 
-pub write-once : {ds : List ℕ} {order : ℕ} {words out : List ℕ} {r r′ : Written} {o o′ : List ℕ}
+pub write-result-once : {ds : List ℕ} {order : ℕ} {words out : List ℕ} {r r′ : Written} {o o′ : List ℕ}
     → WrittenAs ds order words out r o → WrittenAs ds order words out r′ o′ → (r ≡ r′) × (o ≡ o′)
-write-once p q = (p .answers ∙ sym (q .answers), p .bytes ∙ sym (q .bytes))
+write-result-once p q = (p .answers ∙ sym (q .answers), p .bytes ∙ sym (q .bytes))
 
 pub write-release-once : {ds : List ℕ} {release order : ℕ} {words out : List ℕ} {r r′ : Written} {o o′ : List ℕ}
     → ReleaseWrittenAs ds release order words out r o → ReleaseWrittenAs ds release order words out r′ o′ → (r ≡ r′) × (o ≡ o′)

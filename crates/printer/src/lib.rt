@@ -13,6 +13,7 @@ ghost use Rattle.printer.specs.Writer.{nothingWritten, WrittenAs, Releas
 ghost use Rattle.printer.specs.RefusalWriter.{RefusalWrittenAs};
 
 // What the writer did: its number, and the count of bytes written.
+#[repr(C)]
 pub struct Written {
     pub number: u32,
     pub count: usize,
@@ -63,7 +64,7 @@ fn put_result(
 }
 
 // Writes the result sheet at the start of `out`.
-pub fn write(lens: [usize; 4], order: usize, words: &[u32], out: &mut [u8]) -> Written
+pub fn write_result(lens: [usize; 4], order: usize, words: &[u32], out: &mut [u8]) -> Written
     ensures { λ r. ⌜ WrittenAs lens order (now (words .entry)) (now (out .entry)) r (now (out .exit)) ⌝ }
 {
     let number = blocks::sheet_number(&lens, words);

@@ -10,6 +10,7 @@ ghost use Rattle.sheet.specs.Reader.{ReadAs};
 ghost use Rattle.sheet.specs.ResultReader.{ResultReadAs};
 
 // What a sheet says: its number and place, its lengths, its swaps (unused ones 0) and how many they are.
+#[repr(C)]
 pub struct Sheet {
     pub number: u32,
     pub place: usize,
@@ -19,6 +20,7 @@ pub struct Sheet {
 }
 
 // What a result sheet says: its number and place, its lengths, its release, 0 where it names none, and its order number.
+#[repr(C)]
 pub struct ResultSheet {
     pub number: u32,
     pub place: usize,

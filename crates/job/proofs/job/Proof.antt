@@ -38,7 +38,7 @@ returns-2 c =
     let r : tie.After-read = search in
     met-accepted (omega arith) (omega arith) (omega arith) (taken (r .read .ensures) (e .if1 .left) .1) (a .run .ensures)
     (first-four (a .run .result .lens) (omega (arith, five a)))
-    (c .write .ensures)
+    (c .write-result .ensures)
 
 pub job-spec : {M : Type 1} → statement M
 job-spec =

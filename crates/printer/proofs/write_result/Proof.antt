@@ -1,4 +1,4 @@
--- `write` meets its contract: the first check that holds is its number; where none of those before 24 does, `put_result` answers.
+-- `write_result` meets its contract: the first check that holds is its number; where none of those before 24 does, `put_result` answers.
 use native.Mathlib.Omega.{arith}
 use borrow.Author.Needs.{needs}
 use Rattle.lists.proofs.Via.{via}
@@ -6,8 +6,8 @@ use Rattle.text.specs.Right.{SheetNumbers}
 use Rattle.text.proofs.Rows.{words-held}
 use Rattle.blocks.proofs.Block.{on-sheet}
 use Rattle.printer.proofs.Writes.{refused-block, refused-order, accepted}
-use Rattle.printer.proofs.write.Statement.{statement}
-use Rattle.printer.proofs.write.Tie as tie
+use Rattle.printer.proofs.write_result.Statement.{statement}
+use Rattle.printer.proofs.write_result.Tie as tie
 
 held : (x : tie.After-shared-slice-known) → SheetNumbers (x .before .args .words .now)
 held x = words-held (x .before .args .words .now) (λ k. omega (arith, x .shared-slice-known .given k))
@@ -24,8 +24,8 @@ put-result-requires c κs = (on-sheet _ _ (search via), omega arith, search)
 returns-3 : tie.Need-returns-3
 returns-3 c = let r : tie.After-put-result = search in accepted (held (search)) (search via) (search) (r .put-result .ensures)
 
-pub write-spec : {M : Type 1} → statement M
-write-spec =
+pub write-result-spec : {M : Type 1} → statement M
+write-result-spec =
     tie.close
     (tie.spec
     (search needs)

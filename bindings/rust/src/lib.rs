@@ -1,9 +1,9 @@
-//! Blocks of 32-bit words rearranged within their buffer: safe calls over the proved archive for x86-64.
+//! Blocks of 32-bit words rearranged within their buffer: safe calls over the proved archive.
 //!
 //! The archive's calls are proved for slices that are there, aligned and apart, and written by nobody else meanwhile. Safe Rust sees to all of
 //! that, so these functions ask for nothing and need no test of their own. A refused call has changed nothing.
 //!
-//! Link with the installed archive: `rustc -L native=PREFIX/lib program.rs`, this file beside it as `mod zibsnarda`. No packages are needed.
+//! Install the library by `./install.sh PREFIX` and build with `ZIBSNARDA_PREFIX=PREFIX`, or let pkg-config find it: build.rs says where the archive is.
 
 use std::fmt;
 
@@ -17,11 +17,12 @@ pub struct Refused {
 }
 
 /// Each number with its name in C and the sentence that says when it is given.
+// The numbers: written by share/numbers.
 const NUMBERS: [(u32, &str, &str); 25] = [
     (1, "ZIB_BAD_LENGTH", "an axis length is 0 or above 4,096; the camera count afterwards too; in joining the camera count or F"),
     (2, "ZIB_TOO_MANY_WORDS", "the lengths multiply to more than 1,048,576"),
     (3, "ZIB_SHORT_BUFFER", "the buffer has fewer words than the block"),
-    (4, "ZIB_SHORT_SCRATCH", "scratch has fewer words than the call needs: a flat turn the longer side, a chain the longest axis that it exchanges, a request what its plan needs, tiles of r rows r·n words"),
+    (4, "ZIB_SHORT_SCRATCH", "scratch has fewer words than the call needs: a flat turn the longer side, a chain the longest axis that it exchanges, a request what its plan needs, tiles of r rows r times n words"),
     (5, "ZIB_LONG_CHAIN", "the chain has more than 32 swaps"),
     (6, "ZIB_BAD_SWAP", "a swap number is above 2, on five axes above 3; place is the first such, from 0"),
     (7, "ZIB_BAD_ORDER", "the order number is above 23, of five axes above 119"),
@@ -44,6 +45,7 @@ const NUMBERS: [(u32, &str, &str); 25] = [
     (25, "ZIB_OTHER_COLUMN", "the column's length isn't the frame count"),
     (26, "ZIB_BAD_RUN", "a run isn't four readings (offset and delay); a run's length isn't a multiple of four (choosing)"),
 ];
+// The end of the numbers.
 
 impl Refused {
     /// The number's name in C.
@@ -89,7 +91,7 @@ pub type Lengths = [usize; 4];
 /// What a chain or a direct request on R axes answers: the new lengths, an order number, the swaps done. A chain answers the number of the order in which
 /// the axes now stand, in release 1; a request the number that it was given.
 #[derive(Clone, Copy, Debug, PartialEq, Eq)]
-pub struct Moved<const R: usize> {
+pub struct Answer<const R: usize> {
     pub lengths: [usize; R],
     pub order: usize,
     pub swaps: usize,
@@ -106,12 +108,12 @@ pub struct LineRecord {
 #[derive(Clone, Debug, PartialEq, Eq)]
 pub struct Sheet {
     pub lengths: Lengths,
-    pub chain: Vec<usize>,
+    pub swaps: Vec<usize>,
 }
 
 /// What a result sheet holds besides its words: lengths, the release (0 where the sheet names none) and the order number.
 #[derive(Clone, Copy, Debug, PartialEq, Eq)]
-pub struct SheetResult {
+pub struct ResultSheet {
     pub lengths: Lengths,
     pub release: usize,
     pub order: usize,
@@ -160,7 +162,7 @@ mod c {
     pub struct Planned {
         pub number: u32,
         pub swaps: [usize; 10],
-        pub length: usize,
+        pub count: usize,
     }
 
     #[repr(C)]
@@ -169,11 +171,11 @@ mod c {
         pub place: usize,
         pub lengths: [usize; 4],
         pub swaps: [usize; 32],
-        pub length: usize,
+        pub count: usize,
     }
 
     #[repr(C)]
-    pub struct SheetResult {
+    pub struct ResultSheet {
         pub number: u32,
         pub place: usize,
         pub lengths: [usize; 4],
@@ -182,10 +184,10 @@ mod c {
     }
 
     #[repr(C)]
-    pub struct Done {
+    pub struct Told {
         pub number: u32,
         pub place: usize,
-        pub bytes: usize,
+        pub count: usize,
     }
 
     #[repr(C)]
@@ -207,7 +209,6 @@ mod c {
         pub count: usize,
     }
 
-    #[link(name = "zibsnarda", kind = "static")]
     extern "C" {
         pub fn zib_turn(b: *mut u32, bn: usize, s: *mut u32, sn: usize, m: usize, n: usize) -> u32;
         pub fn zib_turn_back(b: *mut u32, bn: usize, s: *mut u32, sn: usize, m: usize, n: usize) -> u32;
@@ -229,17 +230,22 @@ mod c {
         pub fn zib_request5(b: *mut u32, bn: usize, s: *mut u32, sn: usize, shape: Shape, release: usize, order: usize) -> Answer;
         pub fn zib_plan5(order: usize) -> Planned;
         pub fn zib_read_sheet(t: *const u8, tn: usize, w: *mut u32, wn: usize) -> Sheet;
-        pub fn zib_write_sheet(shape: SheetShape, order: usize, w: *const u32, wn: usize, t: *mut u8, tn: usize) -> Counted;
+        pub fn zib_write_result(shape: SheetShape, order: usize, w: *const u32, wn: usize, t: *mut u8, tn: usize) -> Counted;
         pub fn zib_write_release(shape: SheetShape, release: usize, order: usize, w: *const u32, wn: usize, t: *mut u8, tn: usize) -> Counted;
-        pub fn zib_read_result(t: *const u8, tn: usize, w: *mut u32, wn: usize) -> SheetResult;
-        pub fn zib_job(t: *const u8, tn: usize, w: *mut u32, s: *mut u32, out: *mut u8) -> Done;
+        pub fn zib_read_result(t: *const u8, tn: usize, w: *mut u32, wn: usize) -> ResultSheet;
+        pub fn zib_job(t: *const u8, tn: usize, w: *mut u32, s: *mut u32, out: *mut u8) -> Told;
         pub fn zib_offset_delay(run: *const i64, rn: usize) -> Pair;
         pub fn zib_to_frames(offset: i64, ticks: usize) -> Frames;
         pub fn zib_join(shifts: *const i64, sn: usize, frames: usize) -> Pair;
         pub fn zib_choose(f: *const i64, fnn: usize, s: *const i64, sn: usize, part: *mut Part);
+        pub fn zib_version_3_0() -> u32;
         pub fn zib_choose_number(f: *const i64, fnn: usize, s: *const i64, sn: usize) -> u32;
     }
 }
+
+/// The name has the version: a program over an archive of another version does not link.
+#[used]
+static LINKED_VERSION: unsafe extern "C" fn() -> u32 = c::zib_version_3_0;
 
 /// Turns the block of m rows and n columns that fills the buffer: the word at j·m + i is then the one that stood at i·n + j. Scratch has at
 /// least max(m, n) words; that many first words of it are zero afterwards. 1, 2, 3, 13, 4.
@@ -405,10 +411,10 @@ fn shape<const R: usize>(lengths: [usize; R]) -> c::Shape {
     c::Shape { lengths: five }
 }
 
-fn moved<const R: usize>(a: c::Answer) -> Answered<Moved<R>> {
+fn moved<const R: usize>(a: c::Answer) -> Answered<Answer<R>> {
     let mut lengths = [0; R];
     lengths.copy_from_slice(&a.lengths[..R]);
-    answered(a.number, a.place, Moved { lengths, order: a.order, swaps: a.swaps })
+    answered(a.number, a.place, Answer { lengths, order: a.order, swaps: a.swaps })
 }
 
 /// Runs a chain of at most 32 swaps on a block of four axes; swap k exchanges the axes at places k and k + 1. Scratch has as many words as the
@@ -419,7 +425,7 @@ fn moved<const R: usize>(a: c::Answer) -> Answered<Moved<R>> {
 /// let moved = zibsnarda::chain(&mut block, &mut [0; 3], [1, 1, 2, 3], &[2]).unwrap();
 /// assert_eq!((block, moved.lengths, moved.order), ([0, 3, 1, 4, 2, 5], [1, 1, 3, 2], 1));
 /// ```
-pub fn chain(buffer: &mut [u32], scratch: &mut [u32], lengths: Lengths, swaps: &[usize]) -> Answered<Moved<4>> {
+pub fn chain(buffer: &mut [u32], scratch: &mut [u32], lengths: Lengths, swaps: &[usize]) -> Answered<Answer<4>> {
     let (b, bn, s, sn) = (buffer.as_mut_ptr(), buffer.len(), scratch.as_mut_ptr(), scratch.len());
     moved(unsafe { c::zib_chain(b, bn, s, sn, shape(lengths), swaps.as_ptr(), swaps.len()) })
 }
@@ -431,7 +437,7 @@ pub fn chain(buffer: &mut [u32], scratch: &mut [u32], lengths: Lengths, swaps: &
 /// let moved = zibsnarda::chain5(&mut block, &mut [0; 3], [1, 1, 1, 2, 3], &[3]).unwrap();
 /// assert_eq!((block, moved.lengths, moved.order), ([0, 3, 1, 4, 2, 5], [1, 1, 1, 3, 2], 1));
 /// ```
-pub fn chain5(buffer: &mut [u32], scratch: &mut [u32], lengths: [usize; 5], swaps: &[usize]) -> Answered<Moved<5>> {
+pub fn chain5(buffer: &mut [u32], scratch: &mut [u32], lengths: [usize; 5], swaps: &[usize]) -> Answered<Answer<5>> {
     let (b, bn, s, sn) = (buffer.as_mut_ptr(), buffer.len(), scratch.as_mut_ptr(), scratch.len());
     moved(unsafe { c::zib_chain5(b, bn, s, sn, shape(lengths), swaps.as_ptr(), swaps.len()) })
 }
@@ -444,7 +450,7 @@ pub fn chain5(buffer: &mut [u32], scratch: &mut [u32], lengths: [usize; 5], swap
 /// let moved = zibsnarda::request(&mut block, &mut [0; 3], [1, 1, 2, 3], 1, 1).unwrap();
 /// assert_eq!((block, moved.swaps), ([0, 3, 1, 4, 2, 5], 1));
 /// ```
-pub fn request(buffer: &mut [u32], scratch: &mut [u32], lengths: Lengths, release: usize, order: usize) -> Answered<Moved<4>> {
+pub fn request(buffer: &mut [u32], scratch: &mut [u32], lengths: Lengths, release: usize, order: usize) -> Answered<Answer<4>> {
     let (b, bn, s, sn) = (buffer.as_mut_ptr(), buffer.len(), scratch.as_mut_ptr(), scratch.len());
     moved(unsafe { c::zib_request(b, bn, s, sn, shape(lengths), release, order) })
 }
@@ -456,7 +462,7 @@ pub fn request(buffer: &mut [u32], scratch: &mut [u32], lengths: Lengths, releas
 /// let moved = zibsnarda::request5(&mut block, &mut [0; 3], [1, 1, 1, 2, 3], 1, 1).unwrap();
 /// assert_eq!((block, moved.swaps), ([0, 3, 1, 4, 2, 5], 1));
 /// ```
-pub fn request5(buffer: &mut [u32], scratch: &mut [u32], lengths: [usize; 5], release: usize, order: usize) -> Answered<Moved<5>> {
+pub fn request5(buffer: &mut [u32], scratch: &mut [u32], lengths: [usize; 5], release: usize, order: usize) -> Answered<Answer<5>> {
     let (b, bn, s, sn) = (buffer.as_mut_ptr(), buffer.len(), scratch.as_mut_ptr(), scratch.len());
     moved(unsafe { c::zib_request5(b, bn, s, sn, shape(lengths), release, order) })
 }
@@ -468,7 +474,7 @@ pub fn request5(buffer: &mut [u32], scratch: &mut [u32], lengths: [usize; 5], re
 /// ```
 pub fn plan(order: usize) -> Answered<Vec<usize>> {
     let p = unsafe { c::zib_plan(order) };
-    answered(p.number, 0, p.swaps[..p.length].to_vec())
+    answered(p.number, 0, p.swaps[..p.count].to_vec())
 }
 
 /// [`plan`] of an order of five axes.
@@ -478,7 +484,7 @@ pub fn plan(order: usize) -> Answered<Vec<usize>> {
 /// ```
 pub fn plan5(order: usize) -> Answered<Vec<usize>> {
     let p = unsafe { c::zib_plan5(order) };
-    answered(p.number, 0, p.swaps[..p.length].to_vec())
+    answered(p.number, 0, p.swaps[..p.count].to_vec())
 }
 
 /// Reads a sheet and stores its words from the start of the word buffer, if the whole sheet is right. 9, 10, 1, 11, 3, 10, 5, 6, 10.
@@ -486,11 +492,11 @@ pub fn plan5(order: usize) -> Answered<Vec<usize>> {
 /// ```
 /// let mut words = [0; 2];
 /// let sheet = zibsnarda::read_sheet(b"shape\t1\t1\t1\t2\nchain\t2\nrow\t7\t8\n", &mut words).unwrap();
-/// assert_eq!((sheet.lengths, sheet.chain, words), ([1, 1, 1, 2], vec![2], [7, 8]));
+/// assert_eq!((sheet.lengths, sheet.swaps, words), ([1, 1, 1, 2], vec![2], [7, 8]));
 /// ```
 pub fn read_sheet(text: &[u8], words: &mut [u32]) -> Answered<Sheet> {
     let s = unsafe { c::zib_read_sheet(text.as_ptr(), text.len(), words.as_mut_ptr(), words.len()) };
-    answered(s.number, s.place, Sheet { lengths: s.lengths, chain: s.swaps[..s.length].to_vec() })
+    answered(s.number, s.place, Sheet { lengths: s.lengths, swaps: s.swaps[..s.count].to_vec() })
 }
 
 /// Writes the result sheet of a block from the start of the byte buffer, and answers how many bytes it has. 16,384 always suffice.
@@ -498,11 +504,11 @@ pub fn read_sheet(text: &[u8], words: &mut [u32]) -> Answered<Sheet> {
 ///
 /// ```
 /// let mut text = [0; 64];
-/// let bytes = zibsnarda::write_sheet([1, 1, 1, 2], 0, &[7, 8], &mut text).unwrap();
-/// assert_eq!(&text[..bytes], b"shape\t1\t1\t1\t2\norder\t0\nrow\t7\t8\n");
+/// let count = zibsnarda::write_result([1, 1, 1, 2], 0, &[7, 8], &mut text).unwrap();
+/// assert_eq!(&text[..count], b"shape\t1\t1\t1\t2\norder\t0\nrow\t7\t8\n");
 /// ```
-pub fn write_sheet(lengths: Lengths, order: usize, words: &[u32], text: &mut [u8]) -> Answered<usize> {
-    let w = unsafe { c::zib_write_sheet(c::SheetShape { lengths }, order, words.as_ptr(), words.len(), text.as_mut_ptr(), text.len()) };
+pub fn write_result(lengths: Lengths, order: usize, words: &[u32], text: &mut [u8]) -> Answered<usize> {
+    let w = unsafe { c::zib_write_result(c::SheetShape { lengths }, order, words.as_ptr(), words.len(), text.as_mut_ptr(), text.len()) };
     answered(w.number, 0, w.count)
 }
 
@@ -510,8 +516,8 @@ pub fn write_sheet(lengths: Lengths, order: usize, words: &[u32], text: &mut [u8
 ///
 /// ```
 /// let mut text = [0; 64];
-/// let bytes = zibsnarda::write_release([1, 1, 1, 2], 2, 0, &[7, 8], &mut text).unwrap();
-/// assert_eq!(&text[..bytes], b"shape\t1\t1\t1\t2\norder\t2\t0\nrow\t7\t8\n");
+/// let count = zibsnarda::write_release([1, 1, 1, 2], 2, 0, &[7, 8], &mut text).unwrap();
+/// assert_eq!(&text[..count], b"shape\t1\t1\t1\t2\norder\t2\t0\nrow\t7\t8\n");
 /// ```
 pub fn write_release(lengths: Lengths, release: usize, order: usize, words: &[u32], text: &mut [u8]) -> Answered<usize> {
     let (w, wn, t, tn) = (words.as_ptr(), words.len(), text.as_mut_ptr(), text.len());
@@ -526,15 +532,15 @@ pub fn write_release(lengths: Lengths, release: usize, order: usize, words: &[u3
 /// let result = zibsnarda::read_result(b"shape\t1\t1\t1\t2\norder\t2\t0\nrow\t7\t8\n", &mut words).unwrap();
 /// assert_eq!((result.release, result.order, words), (2, 0, [7, 8]));
 /// ```
-pub fn read_result(text: &[u8], words: &mut [u32]) -> Answered<SheetResult> {
+pub fn read_result(text: &[u8], words: &mut [u32]) -> Answered<ResultSheet> {
     let s = unsafe { c::zib_read_result(text.as_ptr(), text.len(), words.as_mut_ptr(), words.len()) };
-    answered(s.number, s.place, SheetResult { lengths: s.lengths, release: s.release, order: s.order })
+    answered(s.number, s.place, ResultSheet { lengths: s.lengths, release: s.release, order: s.order })
 }
 
 /// What the whole job leaves: the bytes of its text, and why the sheet was refused, if it was; the text then says so too.
 #[derive(Clone, Copy, Debug, PartialEq, Eq)]
-pub struct Done {
-    pub bytes: usize,
+pub struct Told {
+    pub count: usize,
     pub refused: Option<Refused>,
 }
 
@@ -543,13 +549,13 @@ pub struct Done {
 ///
 /// ```
 /// let (mut words, mut scratch, mut out) = ([0; 1024], [0; 1024], [0; 16384]);
-/// let done = zibsnarda::job(b"shape\t1\t1\t1\t2\nchain\t2\nrow\t7\t8\n", &mut words, &mut scratch, &mut out);
-/// assert_eq!(&out[..done.bytes], b"shape\t1\t1\t2\t1\norder\t1\nrow\t7\nrow\t8\n");
+/// let told = zibsnarda::job(b"shape\t1\t1\t1\t2\nchain\t2\nrow\t7\t8\n", &mut words, &mut scratch, &mut out);
+/// assert_eq!(&out[..told.count], b"shape\t1\t1\t2\t1\norder\t1\nrow\t7\nrow\t8\n");
 /// assert_eq!(zibsnarda::job(b"", &mut words, &mut scratch, &mut out).refused.unwrap().number, 10);
 /// ```
-pub fn job(text: &[u8], words: &mut [u32; 1024], scratch: &mut [u32; 1024], out: &mut [u8; 16384]) -> Done {
+pub fn job(text: &[u8], words: &mut [u32; 1024], scratch: &mut [u32; 1024], out: &mut [u8; 16384]) -> Told {
     let d = unsafe { c::zib_job(text.as_ptr(), text.len(), words.as_mut_ptr(), scratch.as_mut_ptr(), out.as_mut_ptr()) };
-    Done { bytes: d.bytes, refused: answered(d.number, d.place, ()).err() }
+    Told { count: d.count, refused: answered(d.number, d.place, ()).err() }
 }
 
 /// The offset and the delay of one exchange of four readings in ticks: sent, received, returned, received back. 26, 18.
