@@ -1,45 +1,91 @@
 #!/bin/sh
-# Proves the library and the program `turn`, then installs the header, the archive for x86-64, its pkg-config file, the program and its
-# manual page, and where there is a C compiler for x86-64 the shared library that Python loads. Says a line for each.
-# Usage: ./install.sh [PREFIX]                (default /usr/local)
-#        ./install.sh --uninstall [PREFIX]    removes what was installed, and nothing else
+# Proves the library and the program `turn`, and installs them under a prefix.
 set -eu
-uninstall=
-[ "${1:-}" != --uninstall ] || { uninstall=yes; shift; }
-prefix=${1:-/usr/local}
-header=include/zibsnarda.h archive=lib/libzibsnarda.a pc=lib/pkgconfig/zibsnarda.pc shared=lib/libzibsnarda-python.so program=bin/turn
-manual=share/man/man1/turn.1
+usage() {
+    cat <<'USAGE'
+Usage: ./install.sh [--target MACHINE] [PREFIX]    (default: this machine, /usr/local)
+       ./install.sh --uninstall [PREFIX]           removes what was installed, and nothing else
+MACHINE is x86_64 or aarch64. DESTDIR is put before the prefix where it is set.
+Installed are the header, the archive, the shared library, the files for pkg-config and CMake, the Python module, the programs `turn` and `turn-sheet`
+and their manual pages. The first time takes about 8 minutes, for all is proved; what stands proved is not proved again.
+USAGE
+}
+
+# said on standard error, and the end
+stop() {
+    echo "install.sh: $*" >&2
+    exit 2
+}
+
+uninstall='' target=$(uname -m) prefix=/usr/local
+while [ $# -gt 0 ]; do
+    case $1 in
+        --help | -h) usage && exit 0 ;;
+        --uninstall) uninstall=yes ;;
+        --target) target=${2:?install.sh: --target needs a machine} && shift ;;
+        -*) usage >&2 && exit 2 ;;
+        *) [ $# -eq 1 ] && [ -n "$1" ] || { usage >&2 && exit 2; } && prefix=$1 ;;
+    esac
+    shift
+done
+prefix=$(realpath -m -- "$prefix")
+root=${DESTDIR:-}$prefix
+cd "$(dirname "$(readlink -f -- "$0")")"
+python=lib/python3/site-packages/zibsnarda
+files="include/zibsnarda.h lib/libzibsnarda.a lib/libzibsnarda.so.3 lib/pkgconfig/zibsnarda.pc lib/cmake/zibsnarda/zibsnarda-config.cmake
+    lib/cmake/zibsnarda/zibsnarda-config-version.cmake $python/__init__.py $python/py.typed bin/turn bin/turn-sheet
+    share/man/man1/turn.1 share/man/man1/turn-sheet.1"
 
 if [ -n "$uninstall" ]; then
-    for file in "$header" "$archive" "$shared" "$pc" "$program" "$manual"; do
-        [ ! -e "$prefix/$file" ] || { rm -- "$prefix/$file"; echo "removed $prefix/$file"; }
+    for file in $files; do
+        [ ! -e "$root/$file" ] || { rm -- "$root/$file" && echo "removed $root/$file"; }
     done
+    [ ! -d "$root" ] || find "$root/$python" "$root/lib/cmake" "$root/lib/pkgconfig" "$root/share/man" -depth -type d -empty -delete 2>/dev/null || true
+    for folder in lib/python3/site-packages lib/python3 lib include bin share; do
+        rmdir -- "$root/$folder" 2>/dev/null || true
+    done
+    rmdir -- "$root" 2>/dev/null || true
     exit 0
 fi
 
-mkdir -p "$prefix"
-prefix=$(cd "$prefix" && pwd)
-cd "$(dirname "$0")"
-mkdir -p target
-{ rt staticlib exports && rt check turn; } >target/install.log 2>&1 || { cat target/install.log >&2; exit 1; }
+# all that can be wrong with the words is found before anything is proved
+. share/build.sh
+known_target "$target" || stop "no code is made for $target: say --target x86_64 or --target aarch64"
+mkdir -p -- "$root" 2>/dev/null && [ -w "$root" ] || stop "cannot write to $root"
+mkdir -p "$made/$target"
+stands "$made/$target/libzibsnarda.a" "$made/$target/turn" || echo "proving: about 8 minutes the first time, a line for each crate" >&2
+make_library "$target"
+cc=$(c_compiler "$target")
+[ "$target" != x86_64 ] && [ -z "$cc" ] || make_program "$target"
 
 # put MODE FILE PLACE
 put() {
-    install -D -m "$1" "$2" "$prefix/$3"
-    echo "installed $prefix/$3"
+    install -D -m "$1" -- "$2" "$root/$3"
+    echo "installed $root/$3"
 }
 
 version=$(sed -n 's/^#define ZIB_VERSION "\(.*\)"$/\1/p' include/zibsnarda.h)
-sed -e "s|@PREFIX@|$prefix|" -e "s|@VERSION@|$version|" share/zibsnarda.pc >target/zibsnarda.pc
-put 644 include/zibsnarda.h "$header"
-put 644 target/staticlib/libexports.a "$archive"
-# under a name of its own, so that -lzibsnarda is the archive
-if [ "$(uname -m)" = x86_64 ] && command -v cc >/dev/null 2>&1; then
-    cc -shared -Wl,--whole-archive target/staticlib/libexports.a -Wl,--no-whole-archive -o target/libzibsnarda-python.so
-    put 755 target/libzibsnarda-python.so "$shared"
+for file in zibsnarda.pc zibsnarda-config-version.cmake; do
+    sed -e "s/@VERSION@/$version/" -e "s/@TARGET@/$target/" "share/$file" >"$made/$target/$file"
+done
+put 644 include/zibsnarda.h include/zibsnarda.h
+put 644 "$made/$target/libzibsnarda.a" lib/libzibsnarda.a
+put 755 "$made/$target/libzibsnarda.so.3" lib/libzibsnarda.so.3
+put 644 "$made/$target/zibsnarda.pc" lib/pkgconfig/zibsnarda.pc
+put 644 share/zibsnarda-config.cmake lib/cmake/zibsnarda/zibsnarda-config.cmake
+put 644 "$made/$target/zibsnarda-config-version.cmake" lib/cmake/zibsnarda/zibsnarda-config-version.cmake
+put 644 bindings/python/zibsnarda/__init__.py "$python/__init__.py"
+put 644 bindings/python/zibsnarda/py.typed "$python/py.typed"
+if [ -n "$cc" ]; then
+    "$cc" -std=c99 -O2 -Iinclude share/turn-sheet.c "$made/$target/libzibsnarda.a" -o "$made/$target/turn-sheet"
+    put 755 "$made/$target/turn-sheet" bin/turn-sheet
+    put 644 share/turn-sheet.1 share/man/man1/turn-sheet.1
 else
-    echo "no C compiler for x86-64: $prefix/$shared, which Python loads, is not made"
+    echo "no C compiler for $target: $root/bin/turn-sheet is not made"
 fi
-put 644 target/zibsnarda.pc "$pc"
-put 755 target/bin/turn "$program"
-put 644 share/turn.1 "$manual"
+if [ -e "$made/$target/turn" ]; then
+    put 755 "$made/$target/turn" bin/turn
+    put 644 share/turn.1 share/man/man1/turn.1
+else
+    echo "no C compiler for $target: $root/bin/turn is not made"
+fi

@@ -1,13 +1,17 @@
 """The Python binding compared with what plain Python computes: prints how many comparisons held, and stops at the first that does not."""
 import doctest
 import itertools
-import pathlib
+import pickle
 import random
 import sys
 from array import array
 
-sys.path.insert(0, str(pathlib.Path(__file__).parent.parent / "bindings" / "python"))
-import zibsnarda  # noqa: E402
+import zibsnarda
+
+try:
+    import numpy
+except ImportError:
+    numpy = None
 
 held = 0
 
@@ -50,9 +54,9 @@ def flat_turns():
             expect(list(lent) == turned, f"the turn of {m} by {n}")
         zibsnarda.turn_back(lent, scratch, m, n)
         expect(lent == block and list(scratch) == [0] * max(m, n) + [7], f"the way back of {m} by {n}")
-        done = 0
-        while done < zibsnarda.lines(m, n):
-            done = zibsnarda.tick(lent, scratch, done, m, n)
+        record = zibsnarda.LineRecord()
+        while record.done < zibsnarda.lines(m, n):
+            zibsnarda.tick(lent, scratch, record, m, n)
         expect(list(lent) == turned, f"the turn of {m} by {n}, a line a call")
         expect(refusal(zibsnarda.turn, lent, array("I", [0] * (max(m, n) - 1)), m, n) == (4, 0), "short scratch")
         expect(refusal(zibsnarda.turn, memoryview(lent)[1:], scratch, m, n) == (3, 0), "a short buffer")
@@ -98,11 +102,11 @@ def sheets():
     text = b"shape\t1\t1\t2\t3\nchain\t2\nrow\t1\t2\t3\nrow\t4\t5\t6\n"
     lent, scratch, out = array("I", [0] * 1024), array("I", [0] * 1024), bytearray(16384)
     done = zibsnarda.job(text, lent, scratch, out)
-    expect(out[: done.bytes] == b"shape\t1\t1\t3\t2\norder\t1\nrow\t1\t4\nrow\t2\t5\nrow\t3\t6\n" and done.refused is None, "the job")
-    expect(zibsnarda.read_result(out[: done.bytes], lent) == ([1, 1, 3, 2], 0, 1), "its result read back")
+    expect(out[: done.count] == b"shape\t1\t1\t3\t2\norder\t1\nrow\t1\t4\nrow\t2\t5\nrow\t3\t6\n" and done.refused is None, "the job")
+    expect(zibsnarda.read_result(out[: done.count], lent) == ([1, 1, 3, 2], 0, 1), "its result read back")
     done = zibsnarda.job(text[:-1], lent, scratch, out)
     expect((done.refused.number, done.refused.place) == (10, 4), "a line without its end")
-    expect(out[: done.bytes] == b"refused\t10\t4\n", "its text")
+    expect(out[: done.count] == b"refused\t10\t4\n", "its text")
 
 
 def raises(kind, call, label):
@@ -120,8 +124,59 @@ def memory():
         raises(ValueError, lambda: zibsnarda.turn(block, lent, 2, 3), "buffers that overlap are taken")
     apart = memoryview(bytearray(29))[1:25].cast("I")
     raises(ValueError, lambda: zibsnarda.turn(apart, scratch, 2, 3), "a buffer that is not aligned is taken")
-    for buffer in (array("H", [0] * 6), bytes(24), memoryview(words(12))[::2]):
+    for buffer in (array("H", [0] * 6), bytes(24), memoryview(words(12))[::2], bytearray(24), *wrong_formats("fid", 6)):
         raises(TypeError, lambda: zibsnarda.turn(buffer, scratch, 2, 3), f"{buffer} is taken")
+        raises(TypeError, lambda: zibsnarda.turn(block, buffer, 2, 3), f"scratch {buffer} is taken")
+        raises(TypeError, lambda: zibsnarda.resume(block, scratch, buffer, 2, 3, 1), f"a progress word {buffer} is taken")
+        raises(TypeError, lambda: zibsnarda.read_sheet(buffer if isinstance(buffer, array) else array("b", [1]), block), "a text of other items is taken")
+    for buffer in wrong_formats("fiI", 6):
+        raises(TypeError, lambda: zibsnarda.judge_cycles(buffer, 2, 3) if buffer.format != "I" else zibsnarda.offset_delay(buffer), f"{buffer.format} is taken")
+        raises(TypeError, lambda: zibsnarda.add_camera(block, 6, 1, 0, buffer) if buffer.format != "I" else zibsnarda.join(buffer, 1), f"{buffer.format} is taken")
+    for buffer in wrong_formats("dQ", 4):
+        raises(TypeError, lambda: zibsnarda.offset_delay(buffer), f"readings {buffer.format} are taken")
+        raises(TypeError, lambda: zibsnarda.choose(buffer, buffer), f"readings {buffer.format} are taken")
+    try:
+        zibsnarda.turn(array("f", [0] * 6), scratch, 2, 3)
+    except TypeError as error:
+        expect("unsigned 32-bit" in str(error) and "'f'" in str(error), "the message says what was wanted and what was got")
+
+
+def wrong_formats(formats, count):
+    """Memory in other formats, with array alone."""
+    return [memoryview(array(letter, [0] * count)) for letter in formats]
+
+
+def with_numpy():
+    """What numpy computes, and what of numpy is refused."""
+    lengths, scratch = [2, 3, 4, 5], numpy.zeros(5, "uint32")
+    for number in range(24):
+        axes = zibsnarda.order_axes(number)
+        block = numpy.arange(120, dtype="uint32")
+        zibsnarda.request(block, scratch, lengths, 1, number)
+        expect((block == numpy.transpose(numpy.arange(120).reshape(lengths), axes).ravel()).all(), f"release 1 of {number} is numpy.transpose")
+        block = numpy.arange(120, dtype="uint32")
+        zibsnarda.request(block, scratch, lengths, 2, number)
+        moved = numpy.moveaxis(numpy.arange(120).reshape(lengths), (0, 1, 2, 3), axes)
+        expect((block == moved.ravel()).all(), f"release 2 of {number} is numpy.moveaxis")
+    block = numpy.arange(6, dtype="uint32").reshape(2, 3)
+    zibsnarda.turn(block, scratch, 2, 3)
+    expect((block.reshape(3, 2) == numpy.arange(6).reshape(2, 3).T).all(), "a 2-D array keeps its old shape")
+    for kind in (">u4", "float32", "int32", "float64", "uint64", "u2"):
+        raises(TypeError, lambda: zibsnarda.turn(numpy.zeros(6, kind), scratch, 2, 3), f"words {kind} are taken")
+    for kind in (">i8", "uint64", "float64", "int32"):
+        raises(TypeError, lambda: zibsnarda.offset_delay(numpy.array([0, 7, 9, 10], kind)), f"readings {kind} are taken")
+
+
+def names():
+    """Orders by their axes, refusals that are sent on, and what the module has."""
+    for count, most in ((4, 24), (5, 120)):
+        for number in range(most):
+            expect(zibsnarda.order_number(zibsnarda.order_axes(number, count)) == number, f"order {number} of {count} axes")
+    expect(refusal(zibsnarda.order_axes, 24) == (7, 0), "a bad order number")
+    raises(ValueError, lambda: zibsnarda.order_number((0, 0, 1, 2)), "an order with an axis twice is taken")
+    sent = pickle.loads(pickle.dumps(zibsnarda.Refused(6, 1)))
+    expect((sent.number, sent.place, sent.name, str(sent)) == (6, 1, "ZIB_BAD_SWAP", str(zibsnarda.Refused(6, 1))), "a refusal is sent on")
+    expect(all(hasattr(zibsnarda, name) for name in zibsnarda.__all__) and zibsnarda.__version__ == "3.0", "what the module has")
 
 
 # A number that C would cut down to its width never reaches the call.
@@ -140,6 +195,6 @@ random.seed(1)
 failed, tried = doctest.testmod(zibsnarda)
 expect(failed == 0 and tried > 0, "an example in the documentation")
 held += tried - 1
-for group in (flat_turns, orders, five_axes, stopped_turns, sheets, memory, numbers):
+for group in (flat_turns, orders, five_axes, stopped_turns, sheets, memory, numbers, names, *([with_numpy] if numpy else [])):
     group()
 print(held)

@@ -1,6 +1,8 @@
-# What this machine lacks to build and run code for x86-64, installed by apt-get where it can be. Sourced by the scripts.
+# What this machine lacks to build and run code for a kind of machine, installed by apt-get where it can be. Sourced by the scripts.
 
 machine=$(uname -m)
+# the kind of machine that the library is also made for; and the one whose code runs here by itself, or on an emulator
+case $machine in x86_64) other=aarch64 own=x86_64 ;; aarch64) other=x86_64 own=aarch64 ;; *) other='' own=x86_64 ;; esac
 
 # Runs a command as root, or says what could not be done.
 as_root() {
@@ -13,6 +15,7 @@ as_root() {
 # install PACKAGE...: nothing is asked, and little is said.
 install_packages() {
     log=$(mktemp)
+    echo "installing by apt-get: $*" >&2
     if [ -z "${lists_fresh:-}" ]; then as_root apt-get update -q >"$log" 2>&1 || { cat "$log" >&2; exit 1; }; fi
     lists_fresh=yes
     as_root env DEBIAN_FRONTEND=noninteractive apt-get install -y -q --no-install-recommends "$@" >"$log" 2>&1 || { cat "$log" >&2; exit 1; }
@@ -26,17 +29,23 @@ need() {
     command -v "$command" >/dev/null 2>&1 || install_packages "$@"
 }
 
-# A C compiler for x86-64 (cc), and what runs its programs here (run): nothing, or an emulator.
-need_x86_64() {
-    if [ "$machine" = x86_64 ]; then
+# need_target MACHINE: a C compiler for a kind of machine (cc), and what runs its programs here (run): nothing, or an emulator.
+need_target() {
+    if [ "$machine" = "$1" ]; then
         cc=gcc run=
         need gcc gcc libc6-dev
         need nm binutils
-    else
-        cc=x86_64-linux-gnu-gcc run=qemu-x86_64
-        need "$cc" gcc-x86-64-linux-gnu libc6-dev-amd64-cross
-        need "$run" qemu-user
+        return
     fi
+    case $1 in
+        x86_64) cc=x86_64-linux-gnu-gcc packages="gcc-x86-64-linux-gnu libc6-dev-amd64-cross" ;;
+        aarch64) cc=aarch64-linux-gnu-gcc packages="gcc-aarch64-linux-gnu libc6-dev-arm64-cross" ;;
+        *) echo "no code is made for $1" >&2 && exit 2 ;;
+    esac
+    run=qemu-$1
+    # shellcheck disable=SC2086
+    need "$cc" $packages
+    need "$run" qemu-user
 }
 
 # A Rust compiler for this machine; rustc links by cc.
@@ -46,11 +55,12 @@ need_rust() {
     need cc gcc libc6-dev
 }
 
-# build_outside FLAG...: the library under $out/prefix, and the driver (with the flags) and the test program in $out.
+# build_outside MACHINE FLAG...: the library for a kind of machine under $out/prefix, and the driver (with the flags) and the test program in $out.
 build_outside() {
     mkdir -p "$out"
     rm -rf "$out/prefix"
-    ./install.sh "$out/prefix" >"$out/installed.txt"
+    ./install.sh --target "$1" "$out/prefix" >"$out/installed.txt"
+    shift
     "$cc" -std=c11 -O2 -Wall -Wextra "$@" -I"$out/prefix/include" tests/driver.c -L"$out/prefix/lib" -lzibsnarda -o "$out/driver"
     rustc -O --edition 2021 tests/outside/main.rs -o "$out/outside"
 }

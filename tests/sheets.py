@@ -1,18 +1,18 @@
 #!/usr/bin/env python3
-"""Sheets for the program `turn`, with the answers an independent program gives.
+"""Sheets for the programs `turn` and `turn-sheet`, with the answers an independent program gives.
 
-usage: sheets.py make            write tests/sheets/NAME.in and NAME.out afresh
-       sheets.py check PROGRAM   run PROGRAM on each NAME.in, as a file and through a pipe in small pieces
+usage: sheets.py make                         write tests/sheets/NAME.in and NAME.out afresh
+       sheets.py check turn COMMAND..         run COMMAND on each NAME.in, as a file and through a pipe in small pieces
+       sheets.py check turn-sheet COMMAND..   the same of the program with an exit status
 
 The answers are computed here from document 01: the sheet is split into lines and fields, every word is copied to its new
 coordinates. Nothing is moved in place and no code is shared with the library. `check` compares all bytes with NAME.out, tries
-input that cannot be read and output that cannot be written, and ends with a line `N passed, M failed`. The program is for x86-64; on another processor it is run by qemu-x86_64 of Debian.
+input that cannot be read and output that cannot be written, and ends with a line `N passed, M failed`.
 """
 import array
 import fcntl
 import itertools
 import os
-import platform
 import re
 import subprocess
 import sys
@@ -328,13 +328,6 @@ def make():
 
 # ---- the program run on them ----
 
-def command(program):
-    """How PROGRAM, which is for x86-64, is run on this machine."""
-    if platform.machine() in ("x86_64", "AMD64"):
-        return [program]
-    return ["qemu-x86_64", "-L", "/usr/x86_64-linux-gnu", program]
-
-
 def run_on_file(words, path):
     with open(path, "rb") as given:
         done = subprocess.run(words, stdin=given, stdout=subprocess.PIPE, stderr=subprocess.PIPE, timeout=60)
@@ -364,6 +357,19 @@ def run_in_pieces(words, path):
     return child.returncode, out, err
 
 
+# Of each program what a right run leaves beside its output, as (status, standard error), for a sheet that is done, one that is refused, and the two faults. `turn` has
+# no status, and tells of a fault alone.
+PROGRAMS = {
+    "turn": {"done": (0, b""), "refused": (0, b""), "unread": (0, rb"read: [^\n]+\n"), "unwritten": (0, rb"write: [^\n]+\n")},
+    "turn-sheet": {
+        "done": (0, b""),
+        "refused": (1, rb"turn-sheet: standard input: [^\n]+ \(number \d+, place \d+\)\n(turn-sheet: the [^\n]+\n)*"),
+        "unread": (2, rb"turn-sheet: standard input: [^\n]+\n"),
+        "unwritten": (2, rb"turn-sheet: standard output: [^\n]+\n"),
+    },
+}
+
+
 def faults(words):
     """Input that cannot be read and output that cannot be written: nothing is printed but a line on standard error."""
     with open(os.path.join(FOLDER, "example.in"), "rb") as given, open("/dev/full", "wb") as full:
@@ -371,30 +377,33 @@ def faults(words):
         unread = subprocess.run(words, stdin=folder, stdout=subprocess.PIPE, stderr=subprocess.PIPE, timeout=60)
         os.close(folder)
         unwritten = subprocess.run(words, stdin=given, stdout=full, stderr=subprocess.PIPE, timeout=60)
-    yield "input that cannot be read", unread.stdout == b"" and re.fullmatch(rb"read: [^\n]+\n", unread.stderr)
-    yield "output that cannot be written", re.fullmatch(rb"write: [^\n]+\n", unwritten.stderr)
+    yield "unread", unread.returncode, unread.stdout, unread.stderr
+    yield "unwritten", unwritten.returncode, b"", unwritten.stderr
 
 
-def check(program):
-    words = command(os.path.abspath(program))
+def check(program, words):
     passed = failed = 0
+
+    def expect(what, kind, expected, status, out, err):
+        nonlocal passed, failed
+        wanted, says = PROGRAMS[program][kind]
+        if (status, out) == (wanted, expected) and re.fullmatch(says, err):
+            passed += 1
+        else:
+            failed += 1
+            print("%s: status %d for %d, %d bytes for %d, %r for %r, %r" % (what, status, wanted, len(out), len(expected), out[:60], expected[:60], err[:200]))
+
     names = sorted(name[:-3] for name in os.listdir(FOLDER) if name.endswith(".in"))
     for name in names:
         path = os.path.join(FOLDER, name)
         with open(path + ".out", "rb") as out:
             expected = out.read()
+        kind = "refused" if expected.startswith(b"refused") else "done"
         for way, run in (("as a file", run_on_file), ("in pieces", run_in_pieces)):
-            status, out, err = run(words, path + ".in")
-            if (status, out, err) == (0, expected, b""):
-                passed += 1
-            else:
-                failed += 1
-                print("%s, %s: status %d, %d bytes for %d, %r for %r, %r" % (name, way, status, len(out), len(expected), out[:60], expected[:60], err[:200]))
-    for fault, told in faults(words):
-        passed, failed = (passed + 1, failed) if told else (passed, failed + 1)
-        if not told:
-            print(fault + ": not told on standard error")
-    print("%d sheets, each as a file and in pieces" % len(names))
+            expect("%s, %s" % (name, way), kind, expected, *run(words, path + ".in"))
+    for kind, status, out, err in faults(words):
+        expect(kind, kind, b"", status, out, err)
+    print("%s: %d sheets, each as a file and in pieces" % (program, len(names)))
     print("%d passed, %d failed" % (passed, failed))
     return 0 if passed and not failed else 1
 
@@ -402,7 +411,7 @@ def check(program):
 if __name__ == "__main__":
     if sys.argv[1:] == ["make"]:
         make()
-    elif len(sys.argv) == 3 and sys.argv[1] == "check":
-        sys.exit(check(sys.argv[2]))
+    elif len(sys.argv) > 3 and sys.argv[1] == "check" and sys.argv[2] in PROGRAMS:
+        sys.exit(check(sys.argv[2], sys.argv[3:]))
     else:
         sys.exit(__doc__)

@@ -1,5 +1,5 @@
 // Runs the library's calls against an independent program that copies, and compares every word.
-// Usage: outside [--short] DRIVER-COMMAND...
+// Usage: outside [--short] [--group NAME] [--seed NUMBER] DRIVER-COMMAND...
 mod axes;
 mod bench;
 mod cameras;
@@ -21,29 +21,57 @@ mod tiles;
 
 const SEED: u64 = 20_240_601;
 
+type Group = (&'static str, fn(&mut bench::Bench, u64));
+
+/// The groups in the order in which they run, each with the seed that its place gives.
+const GROUPS: [Group; 12] = [
+    ("flat", flat::all),
+    ("axes", axes::all),
+    ("sheets", sheets::all),
+    ("repeats", repeats::all),
+    ("cameras", cameras::all),
+    ("tiles", tiles::all),
+    ("results", results::all),
+    ("desk", desk::all),
+    ("ticks", ticks::all),
+    ("cycles", cycles::all),
+    ("restart", restart::all),
+    ("five", five::all),
+];
+
+/// Takes `--short`, `--group NAME` and `--seed NUMBER` from the front of the words.
+fn options(words: &mut Vec<String>) -> (bool, Option<String>, u64) {
+    let (mut short, mut group, mut seed) = (false, None, SEED);
+    while words.first().map_or(false, |word| word.starts_with("--")) {
+        match words.remove(0).as_str() {
+            "--short" => short = true,
+            "--group" => group = Some(words.remove(0)),
+            "--seed" => seed = words.remove(0).parse().expect("a seed is a number"),
+            word => panic!("{word} is no option"),
+        }
+    }
+    (short, group, seed)
+}
+
 fn main() {
     let mut command: Vec<String> = std::env::args().skip(1).collect();
-    let short = command.first().map_or(false, |a| a == "--short");
-    if short {
-        command.remove(0);
-    }
-    println!("seeds {} to {}{}", SEED, SEED + 11, if short { ", short form" } else { "" });
+    let (short, group, seed) = options(&mut command);
+    let known = |name: &String| GROUPS.iter().any(|g| g.0 == name);
+    assert!(group.as_ref().map_or(true, known), "the groups are {}", GROUPS.map(|g| g.0).join(", "));
     let mut t = bench::Bench::new(driver::Driver::new(&command), short);
     guards::all(&mut t);
-    flat::all(&mut t, SEED);
-    axes::all(&mut t, SEED + 1);
-    sheets::all(&mut t, SEED + 2);
-    repeats::all(&mut t, SEED + 3);
-    cameras::all(&mut t, SEED + 4);
-    tiles::all(&mut t, SEED + 5);
-    results::all(&mut t, SEED + 6);
-    desk::all(&mut t, SEED + 7);
-    ticks::all(&mut t, SEED + 8);
-    cycles::all(&mut t, SEED + 9);
-    restart::all(&mut t, SEED + 10);
-    five::all(&mut t, SEED + 11);
+    for (place, (name, all)) in (0..).zip(GROUPS) {
+        if group.as_deref().map_or(true, |wanted| wanted == name) {
+            let before = t.failed;
+            all(&mut t, seed + place);
+            if t.failed > before {
+                println!("{} failed in {}: tests/run --group {} --seed {} runs it alone", t.failed - before, name, name, seed);
+            }
+        }
+    }
     let well = t.driver.end();
     t.verdict(well, || "the driver did not end well".to_string());
+    println!("seeds {} to {}{}", seed, seed + 11, if short { ", short form" } else { "" });
     println!("{} passed, {} failed", t.passed, t.failed);
     std::process::exit(if t.failed == 0 { 0 } else { 1 });
 }
