@@ -31,11 +31,8 @@ turn-halves-once t = let (x, y) = halves.OneOutcome.turn-once (t .first) (t .sec
 pub turn-chunks-once : Once halves.turn_chunks.Kinds.ps halves.turn_chunks.Kinds.r halves.turn_chunks.Reads.Post
 turn-chunks-once t = let (x, y) = halves.OneOutcome.turn-chunks-once (t .first) (t .second) in (x, λ i. (y i, _))
 
-pub swap-once : Once passes.swap.Kinds.ps passes.swap.Kinds.r passes.swap.Reads.Post
+pub swap-once : Once tours.swap.Kinds.ps tours.swap.Kinds.r tours.swap.Reads.Post
 swap-once t = let (x, y, z) = refusals.Swap.swap-once (t .first) (t .second) in (x, λ i. (y i, (z i, _)))
-
-pub along-cycles-once : Once tours.swap.Kinds.ps tours.swap.Kinds.r tours.swap.Reads.Post
-along-cycles-once t = let (x, y, z) = refusals.Swap.swap-once (t .first) (t .second) in (x, λ i. (y i, (z i, _)))
 
 pub clear-once : Once passes.clear.Kinds.ps passes.clear.Kinds.r passes.clear.Reads.Post
 clear-once t = let (x, y) = passes.OneOutcome.clear-once (t .first) (t .second) in (x, λ i. (y i, _))

@@ -1,4 +1,4 @@
--- Lines of one pass, or blocks of one swap, moved one after the other: T families of Q words at the offsets pos t 0, pos t 1, ..,
+-- Lines of one pass moved one after the other: T families of Q words at the offsets pos t 0, pos t 1, ..,
 -- no two families sharing an offset. After t of them, those before t have moved, the others stand.
 use mathlib.Core.Path.{_≡_, refl, sym, _∙_}
 use mathlib.Core.List.{List}

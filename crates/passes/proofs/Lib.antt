@@ -28,8 +28,6 @@ pub mod Ticks
 pub mod Stages
 -- the outcomes of a call of the mapped turn
 pub mod Resumed
--- the blocks of an adjacent swap, turned one after the other, are the swap
-pub mod Swaps
 -- how many stores a mapped turn makes at most
 pub mod Stores
 -- a run of budgets whose last is enough leaves the flat turn
@@ -40,7 +38,3 @@ pub mod OneOutcome
 pub mod OneTick
 -- a turn and its reverse, either one first, restore every word
 pub mod ThereAndBack
--- a block of chunks turned by recursion, and a swap that moves nothing
-pub mod Halved
--- whether a longer side comes of a shorter one by doubling it
-pub mod Doubles

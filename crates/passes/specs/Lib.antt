@@ -3,5 +3,4 @@ pub mod PrivateScratch
 pub mod Promises
 pub mod Ticks
 pub mod Restart
-pub mod PrivateChunks
 pub mod Plain

@@ -135,18 +135,6 @@ pub record Lies (m n base chunk : ℕ) (xs scratch : List ℕ) : Type 0 where
 abbrev pub WordsTurned : ℕ → ℕ → ℕ → ℕ → List ℕ → List ℕ → Type 0
 WordsTurned m n base chunk xs ys = Moved (m * n) (λ p. base + chunk * p) (λ p. (p % n) * m + p / n) (λ p. p) xs ys
 
--- the blocks of an adjacent swap lie in the buffer
-pub record BlocksLie (outer m n chunk : ℕ) (xs : List ℕ) : Type 0 where
-  pub blocks : 0 < outer
-  pub words : 0 < chunk
-  pub few : outer * chunk * (m * n) ≤ 1048576
-  pub enough : outer * chunk * (m * n) ≤ length xs
-
--- and scratch has room for the longer side
-pub record AllLie (outer m n chunk : ℕ) (xs scratch : List ℕ) : Type 0 where
-  pub lie : BlocksLie outer m n chunk xs
-  pub room : need (sides m n) ≤ length scratch
-
 -- a mapped turn can go on: its block is the buffer, and scratch has room for its longer side
 pub record Mapped (s : GroupedSides) (xs scratch : List ℕ) : Type 0 where
   pub grouped : Grouped s

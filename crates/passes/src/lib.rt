@@ -1,15 +1,13 @@
-// The flat turn by passes, in one call, one line a call or stages that a stop may cut, its reverse, and the adjacent swap of four axes.
+// The flat turn by passes, in one call, one line a call or stages that a stop may cut, and its reverse.
 mod column;
 mod gcd;
 mod line;
 mod restart;
 mod scratch;
 mod source;
-mod swapping;
 mod turning;
 mod walk;
 
-ghost use Rattle.refusals.specs.Promise.{SwapPromise};
 ghost use Rattle.passes.specs.Promises.{TurnPromise, TurnBackPromise, ClearPromise};
 ghost use Rattle.passes.specs.Ticks.{LinesPromise, TickPromise};
 ghost use Rattle.passes.specs.Restart.{memory, ResumePromise};
@@ -121,30 +119,6 @@ pub fn resume(
         return 23;
     }
     restart::go_on(buf, scratch, progress, s, budget);
-    0
-}
-
-// Exchanges the two axes in the middle of outer × m × n × chunk words, through scratch of max(m, n) words: 0, or 1, 2, 3, 13, 4.
-pub fn swap(
-    buf: &mut [u32],
-    scratch: &mut [u32],
-    outer: usize,
-    m: usize,
-    n: usize,
-    chunk: usize,
-) -> u32
-    ensures { λ r. ⌜ SwapPromise outer m n chunk (now (buf .entry)) (now (scratch .entry)) r (now (buf .exit)) (now (scratch .exit)) ⌝ }
-{
-    let number = checks::swaps::swap_number(buf, scratch, outer, m, n, chunk);
-    if number != 0 {
-        return number;
-    }
-    if swapping::along_cycles(m, n, chunk) {
-        return tours::swap(buf, scratch, outer, m, n, chunk);
-    }
-    let s = turning::group_sides(m, n);
-    swapping::turn_every(buf, scratch, s, outer, chunk);
-    scratch::clear_longest(scratch, m, n);
     0
 }
 

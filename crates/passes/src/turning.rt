@@ -8,14 +8,11 @@ ghost use mathlib.Core.Bool.{cond};
 ghost use mathlib.Core.Path.{_≡_};
 ghost use Prim.Native.Nat.{_+_, _<_, _≤_};
 ghost use lib.Dec.{ltb};
-ghost use Rattle.layout.specs.Layout.{Laid};
 ghost use Rattle.flat.specs.Turn.{sides};
 ghost use Rattle.flat.specs.Passes.{columnGroup};
 ghost use Rattle.refusals.specs.Scratch.{need};
 ghost use Rattle.passes.specs.Lines.{lineCount, lineOf, skipped};
-ghost use Rattle.passes.specs.PrivateScratch.{Grouped, Lies, AllLie, Past, WordsTurned};
-ghost use Rattle.refusals.specs.Calls.{swapBlock};
-ghost use Rattle.refusals.specs.Promise.{middle};
+ghost use Rattle.passes.specs.PrivateScratch.{Grouped, Lies, Past, WordsTurned};
 
 // How many columns of pass 1 are left out: all n of them where the sides share no factor above 1.
 fn left_out(n: usize, c: usize) -> usize
@@ -137,31 +134,5 @@ pub(crate) fn turn_home_at(
         l -= 1;
         let line = line_of(s, base, chunk, l);
         line::back(buf, scratch, s, line);
-    }
-}
-
-// Every block of an adjacent swap is turned where it lies: one for each block before the two axes and each word after them.
-pub(crate) fn turn_all(
-    buf: &mut [u32],
-    scratch: &mut [u32],
-    s: GroupedSides,
-    outer: usize,
-    chunk: usize,
-)
-    requires { ⌜ Grouped s × AllLie outer (s .m) (s .n) chunk (now buf) (now scratch) ⌝ }
-    ensures { λ _. ⌜ Laid (swapBlock outer (s .m) (s .n) chunk) middle (now (buf .entry)) (now (buf .exit)) × Past (need (sides (s .m) (s .n))) (now (scratch .entry)) (now (scratch .exit)) ⌝ }
-{
-    let words = s.m * s.n * chunk;
-    let count = outer * chunk;
-    let mut base = 0;
-    let mut word = 0;
-    for t in 0..count {
-        turn_at(buf, scratch, s, base + word, chunk);
-        word += 1;
-        if word < chunk {
-            continue;
-        }
-        word = 0;
-        base += words;
     }
 }
