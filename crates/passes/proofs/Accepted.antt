@@ -1,12 +1,11 @@
 -- What the calls' checks tell where none holds, and what the block's turn and the cleared scratch are then.
 use mathlib.Core.Path.{_≡_, sym, ap, _∙_}
 use mathlib.Core.List.{List, [], _∷_, _++_}
-use Prim.Native.Nat.{ℕ, _+_, _*_, _-_, _/_, _%_, _<_, _≤_}
+use Prim.Native.Nat.{ℕ, _+_, _*_, _-_, _<_, _≤_}
 use native.Mathlib.Omega.{arith}
 use native.Mathlib.Nat.{le-trans}
-use lib.ListN.{length, getD, drop, replicate, length-drop}
+use lib.ListN.{length, drop, replicate, length-drop}
 use lib.Seq.{ext-getD, getD-drop}
-use lib.Arith.{digits-div, digits-mod, digits-lt}
 use Rattle.refusals.specs.FirstOf.{check, firstOf}
 use Rattle.refusals.specs.Conditions.{shortScratch}
 use Rattle.refusals.specs.Calls.{passesChecks}
@@ -15,8 +14,8 @@ use Rattle.refusals.proofs.Promise.{accepted}
 use Rattle.refusals.proofs.Conditions.{Valid, InRange, valid, enough-scratch}
 use Rattle.refusals.proofs.Conditions.InRange.{none, more}
 use Rattle.flat.specs.Turn.{sides, Turn}
-use Rattle.flat.proofs.Turn.{volume-two, from-literal, turn-home}
-use Rattle.passes.specs.PrivateScratch.{Grouped, Lies, Past, WordsTurned}
+use Rattle.flat.proofs.Turn.{volume-two, turn-home}
+use Rattle.passes.specs.PrivateScratch.{Grouped, Lies, Past}
 use Rattle.passes.specs.Promises.{TurnPromise, TurnBackPromise}
 use Rattle.passes.specs.declared.line.GroupedSides.{GroupedSides}
 use Rattle.passes.proofs.Fits.{side-need}
@@ -49,25 +48,12 @@ flat-accepted m n buffer scratch e = go (v .0 .lengths)
     }
 
 -- the block of a flat call is the buffer
-pub flat-lies : {m n : ℕ} {buffer scratch : List ℕ} → Accepted m n buffer scratch → Lies m n 0 1 buffer scratch
+pub flat-lies : {m n : ℕ} {buffer scratch : List ℕ} → Accepted m n buffer scratch → Lies m n buffer scratch
 flat-lies {m} {n} a = record {
-  apart = omega arith;
-  inside = λ p h. omega (arith, a .exact);
+  inside = omega (arith, a .exact);
   rows = le-trans (side-need m n .0) (a .room);
   columns = le-trans (side-need m n .1) (a .room);
-  near = omega arith;
-  close = omega arith;
 }
-
--- turned there, it is turned
-pub flat-turned : (m n : ℕ) (xs ys : List ℕ) → WordsTurned m n 0 1 xs ys → Turn m n xs ys
-flat-turned m n xs ys t =
-    from-literal m n xs ys (t .same)
-    (λ i j hi hj.
-    let p = i * n + j in
-    let e : 0 + 1 * (p % n * m + p / n) ≡ j * m + i = omega (arith, ap (λ (z : ℕ). z * m) (digits-mod i hj), digits-div i hj) in
-    ap (λ (z : ℕ). getD ys z 0) (sym e) ∙ t .placed p (digits-lt hi hj) ∙ ap (λ (z : ℕ). getD xs z 0) (omega arith))
-    (λ k h. t .others k (λ j d e. omega arith))
 
 -- scratch whose first words are zeroed is cleared, whatever stood there
 pub past-cleared : {k : ℕ} {scratch held : List ℕ} → Past k scratch held → cleared k held ≡ cleared k scratch
@@ -78,12 +64,12 @@ past-cleared {k} {scratch} {held} p =
 
 -- what a flat call asks once the sides are grouped, and the outcomes of a block that is turned, or turned home, and of the cleared scratch
 module _ {m n : ℕ} {s : GroupedSides} (is : (s .m ≡ m) × (s .n ≡ n) × Grouped s) where
-  pub flat-asked : {b sc : List ℕ} → Accepted m n b sc → Grouped s × Lies (s .m) (s .n) 0 1 b sc
+  pub flat-asked : {b sc : List ℕ} → Accepted m n b sc → Grouped s × Lies (s .m) (s .n) b sc
   flat-asked a = (is .2, rw (is .0, is .1) (flat-lies a))
 
   module _ {b₀ sc₀ b sc sc′ : List ℕ} (good : firstOf (passesChecks (sides m n) b₀ sc₀) ≡ 0) (zeroed : sc′ ≡ cleared (need (sides m n)) sc) where
-    pub turn-outcome : WordsTurned (s .m) (s .n) 0 1 b₀ b × Past (need (sides (s .m) (s .n))) sc₀ sc → TurnPromise m n b₀ sc₀ 0 b sc′
-    turn-outcome t = let u = rw (is .0, is .1) at t in accepted good (flat-turned m n b₀ b (u .0)) (zeroed ∙ past-cleared (u .1))
+    pub turn-outcome : Turn (s .m) (s .n) b₀ b × Past (need (sides (s .m) (s .n))) sc₀ sc → TurnPromise m n b₀ sc₀ 0 b sc′
+    turn-outcome t = let u = rw (is .0, is .1) at t in accepted good (u .0) (zeroed ∙ past-cleared (u .1))
 
-    pub turn-back-outcome : WordsTurned (s .m) (s .n) 0 1 b b₀ × Past (need (sides (s .m) (s .n))) sc₀ sc → TurnBackPromise m n b₀ sc₀ 0 b sc′
-    turn-back-outcome t = let u = rw (is .0, is .1) at t in accepted good (turn-home (flat-turned m n b b₀ (u .0))) (zeroed ∙ past-cleared (u .1))
+    pub turn-back-outcome : Turn (s .m) (s .n) b b₀ × Past (need (sides (s .m) (s .n))) sc₀ sc → TurnBackPromise m n b₀ sc₀ 0 b sc′
+    turn-back-outcome t = let u = rw (is .0, is .1) at t in accepted good (turn-home (u .0)) (zeroed ∙ past-cleared (u .1))

@@ -12,8 +12,8 @@ pub mod Lifted
 pub mod Family
 -- steps run one after the other, and cut where a pass ends
 pub mod Ran
--- the lines of a block turn it where it lies
-pub mod Strided
+-- the lines of a block turn it
+pub mod Passed
 -- every line of a block that lies in the buffer fits
 pub mod Fits
 -- a block on its way: after some of its lines, one more, and at the end

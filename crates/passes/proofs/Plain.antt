@@ -16,7 +16,7 @@ use Rattle.flat.specs.Passes.{row1, column2, row3}
 use Rattle.passes.specs.Lines.{Moved, column, row, lineOf, skipped, lineCount, posOn, LineMoved}
 use Rattle.passes.specs.Plain.{ColumnMoved, RowMoved, firstLines, LineTicked}
 use Rattle.passes.specs.declared.line.Line.{Line}
-use Rattle.passes.proofs.Strided.{line1, line2, line3, column-at, row-at}
+use Rattle.passes.proofs.Passed.{line1, line2, line3, column-at, row-at}
 
 module _ (m n : ℕ) (xs ys : List ℕ) (hn : 0 < n) (exact : length xs ≡ m * n) where
   -- a place is the cell of a row and a column, or lies past both lists
@@ -86,36 +86,36 @@ plain-count m n = omega (arith, shared m n)
 
 -- what a tick leaves, as the functions have it
 pub record Stepped (m n done : ℕ) (xs ys : List ℕ) : Type 0 where
-  pub moved : done < lineCount m n → LineMoved m n (lineOf m n 0 1 done) xs ys
+  pub moved : done < lineCount m n → LineMoved m n (lineOf m n done) xs ys
   pub still : lineCount m n ≤ done → ys ≡ xs
 
 module _ (m n done : ℕ) (xs ys : List ℕ) (hn : 0 < n) (exact : length xs ≡ m * n) where
   -- the line that the lines done name has moved
   abbrev Now : Type 0
-  Now = LineMoved m n (lineOf m n 0 1 done) xs ys
+  Now = LineMoved m n (lineOf m n done) xs ys
 
   -- whichever line that is
-  named : {A : Type 0} (l : Line) → lineOf m n 0 1 done ≡ l → A ↔ LineMoved m n l xs ys → A ↔ Now
+  named : {A : Type 0} (l : Line) → lineOf m n done ≡ l → A ↔ LineMoved m n l xs ys → A ↔ Now
   named {A} l e f = subst (λ (z : Line). A ↔ LineMoved m n z xs ys) (sym e) f
 
   in-1 : done < firstLines m n → ColumnMoved m n done (λ i. row1 m n i done) xs ys ↔ Now
   in-1 h =
       let z : skipped m n + done ≡ done = omega (arith, none-out m n done h) in
       let d : done < n = omega (arith, shared m n) in
-      named (column m n 0 1 1 done) (rw z (line1 m n 0 1 done d))
-      (column-plain m n xs ys hn exact (posOn (column m n 0 1 1 done)) (λ i. row1 m n i done) done d (λ i. column-at m n 0 1 1 done i ∙ omega arith))
+      named (column m n 1 done) (rw z (line1 m n done d))
+      (column-plain m n xs ys hn exact (posOn (column m n 1 done)) (λ i. row1 m n i done) done d (column-at m n 1 done))
 
   in-2 : (i : ℕ) → i < m → done ≡ firstLines m n + i → RowMoved m n i (λ j. column2 m n i j) xs ys ↔ Now
   in-2 i h e =
       let z : skipped m n + done ≡ n + i = omega (arith, shared m n) in
-      named (row n 0 1 i) (rw z (line2 m n 0 1 i h))
-      (row-plain m n xs ys hn exact (posOn (row n 0 1 i)) (λ j. column2 m n i j) i h (λ j. row-at m n 0 1 i j ∙ omega arith))
+      named (row n i) (rw z (line2 m n i h))
+      (row-plain m n xs ys hn exact (posOn (row n i)) (λ j. column2 m n i j) i h (row-at m n i))
 
   in-3 : (j : ℕ) → j < n → done ≡ firstLines m n + m + j → ColumnMoved m n j (λ i. row3 m n i j) xs ys ↔ Now
   in-3 j h e =
       let z : skipped m n + done ≡ n + m + j = omega (arith, shared m n) in
-      named (column m n 0 1 3 j) (rw z (line3 m n 0 1 j))
-      (column-plain m n xs ys hn exact (posOn (column m n 0 1 3 j)) (λ i. row3 m n i j) j h (λ i. column-at m n 0 1 3 j i ∙ omega arith))
+      named (column m n 3 j) (rw z (line3 m n j))
+      (column-plain m n xs ys hn exact (posOn (column m n 3 j)) (λ i. row3 m n i j) j h (column-at m n 3 j))
 
   -- what a tick leaves, in plain words and as the functions have it
   pub plain-ticked : LineTicked m n done xs ys ↔ Stepped m n done xs ys

@@ -30,10 +30,10 @@ use Rattle.passes.specs.PrivateScratch.{Fits}
 use Rattle.passes.specs.Promises.{TurnPromise}
 use Rattle.passes.specs.Restart.{memory, turnLines, turnStages, resumeChecks, ResumePromise, Finished, Restarts}
 use Rattle.passes.specs.Restart.Restarts.{none, more}
-use Rattle.passes.proofs.Accepted.{Accepted, flat-accepted, flat-lies, flat-turned}
+use Rattle.passes.proofs.Accepted.{Accepted, flat-accepted, flat-lies}
 use Rattle.passes.proofs.Fits.{line-fits, line-short}
 use Rattle.passes.proofs.Lifted.{received-moved}
-use Rattle.passes.proofs.Strided.{LineStep, skipped-le, skipped-few, lines-turn}
+use Rattle.passes.proofs.Passed.{LineStep, skipped-le, skipped-few, lines-turn}
 use Rattle.passes.proofs.Ran.{Ran, ran-more}
 use Rattle.passes.proofs.Ran.Ran.{done}
 use Rattle.passes.proofs.Stores.{at-most}
@@ -70,30 +70,30 @@ module _ {m n : ℕ} where
     flat-sides : Sides m n
     flat-sides = sides-are m n (a .m-pos) (a .n-pos)
 
-    fits : (t : ℕ) → t < lineCount m n → Fits m n (lineOf m n 0 1 t) b₀ sc₀
+    fits : (t : ℕ) → t < lineCount m n → Fits m n (lineOf m n t) b₀ sc₀
     fits t h = line-fits (a .m-pos) (a .n-pos) (flat-lies a) (skipped m n + t) (omega (arith, skipped-few m n (a .m-pos) (a .n-pos)))
 
     -- the lines lie in the buffer
     lines-fit : moves.Fit (turnLines m n) b₀ sc₀
     lines-fit = record {
       inside = λ t k h d. fits t h .inside k d;
-      apart = λ t j k h _ _ e. eq-of-mul-eq-mul-left (lineOf m n 0 1 t .stride) (fits t h .step) j k (omega arith);
-      short = λ t h. line-short m n 0 1 (skipped m n + t) (omega (arith, skipped-few m n (a .m-pos) (a .n-pos)));
+      apart = λ t j k h _ _ e. eq-of-mul-eq-mul-left (lineOf m n t .stride) (fits t h .step) j k (omega arith);
+      short = λ t h. line-short m n (skipped m n + t) (omega (arith, skipped-few m n (a .m-pos) (a .n-pos)));
       room = a .room;
     }
 
     -- the lines so far have moved, one after the other
     abbrev Through : ℕ → List ℕ → Type 0
-    Through t xs = Ran (LineStep m n 0 1) (skipped m n + t) (skipped m n) b₀ xs
+    Through t xs = Ran (LineStep m n) (skipped m n + t) (skipped m n) b₀ xs
 
     through-none : Through 0 b₀
-    through-none = subst (λ (d : ℕ). Ran (LineStep m n 0 1) d (skipped m n) b₀ b₀) (omega arith) done
+    through-none = subst (λ (d : ℕ). Ran (LineStep m n) d (skipped m n) b₀ b₀) (omega arith) done
 
     through-more : (t : ℕ) (xs ys : List ℕ) → t < lineCount m n → Through t xs → moves.LineMoved (turnLines m n) t xs ys → Through (suc t) ys
     through-more t xs ys h r p =
-        let l = lineOf m n 0 1 t in
+        let l = lineOf m n t in
         let q : Moved (l .count) (posOn l) (λ k. k) (received m n (l .pass) (l .index)) xs ys = record { same = p .same; placed = p .placed; others = p .others } in
-        subst (λ (d : ℕ). Ran (LineStep m n 0 1) d (skipped m n) b₀ ys) (omega arith)
+        subst (λ (d : ℕ). Ran (LineStep m n) d (skipped m n) b₀ ys) (omega arith)
         (ran-more r (received-moved l flat-sides (fits t h .of-pass) (fits t h .within) q))
 
     -- so an uncut turn from the start is finished
@@ -103,9 +103,8 @@ module _ {m n : ℕ} where
         let y = finish (turnStages m n) (memory b₀ sc₀ 0) in
         let all : skipped m n + lineCount m n ≡ n + m + n = omega (arith, skipped-few m n (a .m-pos) (a .n-pos)) in
         record {
-          turned = flat-turned m n b₀ (y .buffer)
-              (lines-turn m n 0 1 (a .m-pos) (a .n-pos) (omega arith) (skipped m n) (skipped-le m n (a .m-pos) (a .n-pos))
-              (subst (λ (d : ℕ). Ran (LineStep m n 0 1) d (skipped m n) b₀ (y .buffer)) all (e .moved)));
+          turned = lines-turn m n (a .m-pos) (a .n-pos) (skipped m n) (skipped-le m n (a .m-pos) (a .n-pos))
+              (subst (λ (d : ℕ). Ran (LineStep m n) d (skipped m n) b₀ (y .buffer)) all (e .moved));
           zeroed = e .cleared;
           counted = e .counted;
         }

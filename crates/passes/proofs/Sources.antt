@@ -16,7 +16,7 @@ use Rattle.passes.specs.PrivateScratch.{Grouped, StandsAt, Low, Inside, 
 use Rattle.passes.specs.declared.line.GroupedSides.{GroupedSides}
 use Rattle.passes.specs.declared.line.Line.{Line}
 use Rattle.passes.specs.declared.source.Source.{Source}
-use Rattle.passes.proofs.Strided.{groups-le}
+use Rattle.passes.proofs.Passed.{groups-le}
 
 -- the numbers on the way to the source of place 0 of row i, where k·c is the first multiple of c from i on
 pub record Start (s : GroupedSides) (i k : ℕ) : Type 0 where

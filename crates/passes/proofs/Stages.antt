@@ -34,7 +34,7 @@ mapped-in {b = b} {sc} {b′} {sc′} e f g = record { grouped = g .grouped; lie
 pub stage-size : (m n p : ℕ) (x : Memory) → length (turnStages m n .words p x) ≡ stageWords m n p
 stage-size m n p x = length-words (turnLines m n) p x
 
-pub line-words : (m n p : ℕ) {l : Line} → p < lineCount m n * 2 → l ≡ lineOf m n 0 1 (p / 2) → l .count ≡ stageWords m n p
+pub line-words : (m n p : ℕ) {l : Line} → p < lineCount m n * 2 → l ≡ lineOf m n (p / 2) → l .count ≡ stageWords m n p
 line-words m n p h e = ap (λ (l : Line). l .count) e ∙ rw (lt-ltb p (lineCount m n * 2) h)
 
 pub clear-words : (m n p : ℕ) → lineCount m n * 2 ≤ p → need (sides m n) ≡ stageWords m n p
@@ -43,23 +43,23 @@ clear-words m n p h = rw (le-ltb p (lineCount m n * 2) h)
 module _ {s : GroupedSides} {b sc : List ℕ} (g : Mapped s b sc) (p until : ℕ) (few : until ≤ stageWords (s .m) (s .n) p) where
   module _ (h : p < lineCount (s .m) (s .n) * 2) where
     -- its line fits, and it has as many words as the stage
-    pub stage-fits : Fits (s .m) (s .n) (lineOf (s .m) (s .n) 0 1 (p / 2)) b sc
+    pub stage-fits : Fits (s .m) (s .n) (lineOf (s .m) (s .n) (p / 2)) b sc
     stage-fits = going-fits (g .grouped) (g .lies) (p / 2) b sc (stage-line p h) refl (past-none (need (sides (s .m) (s .n))) sc)
 
-    pub stage-few : until ≤ lineOf (s .m) (s .n) 0 1 (p / 2) .count
+    pub stage-few : until ≤ lineOf (s .m) (s .n) (p / 2) .count
     stage-few = rw (lt-ltb p (lineCount (s .m) (s .n) * 2) h) at few
 
     pub stored-lift : {sc′ : List ℕ} → p % 2 ≡ 0
-        → (let l = lineOf (s .m) (s .n) 0 1 (p / 2) in Filled (λ k. k) (λ k. getD b (posOn l (received (s .m) (s .n) (l .pass) (l .index) k)) 0) until sc sc′)
+        → (let l = lineOf (s .m) (s .n) (p / 2) in Filled (λ k. k) (λ k. getD b (posOn l (received (s .m) (s .n) (l .pass) (l .index) k)) 0) until sc sc′)
         → memory b sc′ p ≡ after (take until (turnStages (s .m) (s .n) .words p (memory b sc p))) (memory b sc p)
     stored-lift e f =
         ap (λ (l : List ℕ). memory b l p) (filled-is (λ i j _ _ q. q) (λ k d. omega (arith, stage-few, stage-fits .room)) f)
         ∙ sym (part-lift (turnLines (s .m) (s .n)) p until (memory b sc p) h e stage-few)
 
-    pub stored-back : {b′ : List ℕ} → (p % 2 ≡ 0 → ⊥) → Filled (posOn (lineOf (s .m) (s .n) 0 1 (p / 2))) (λ k. getD sc k 0) until b b′
+    pub stored-back : {b′ : List ℕ} → (p % 2 ≡ 0 → ⊥) → Filled (posOn (lineOf (s .m) (s .n) (p / 2))) (λ k. getD sc k 0) until b b′
         → memory b′ sc p ≡ after (take until (turnStages (s .m) (s .n) .words p (memory b sc p))) (memory b sc p)
     stored-back e f =
-        let l = lineOf (s .m) (s .n) 0 1 (p / 2) in
+        let l = lineOf (s .m) (s .n) (p / 2) in
         ap (λ (z : List ℕ). memory z sc p)
         (filled-is (λ i j _ _ q. eq-of-mul-eq-mul-left (l .stride) (stage-fits .step) i j (omega arith)) (λ k d. stage-fits .inside k (le-trans d stage-few)) f)
         ∙ sym (part-return (turnLines (s .m) (s .n)) p until (memory b sc p) h e stage-few)

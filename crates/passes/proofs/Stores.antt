@@ -17,7 +17,7 @@ use Rattle.stages.proofs.Blocks.{block, block-pays, block-falls}
 use Rattle.passes.specs.Lines.{lineAt, skipped, lineCount}
 use Rattle.passes.specs.PrivateScratch.{stageWords}
 use Rattle.passes.specs.Restart.{turnStages}
-use Rattle.passes.proofs.Strided.{line1, line2, line3}
+use Rattle.passes.proofs.Passed.{line1, line2, line3}
 use Rattle.passes.proofs.Stages.{stage-size, line-words, clear-words}
 
 module _ (m n : ℕ) (h : skipped m n ≤ n) where
@@ -39,19 +39,19 @@ module _ (m n : ℕ) (h : skipped m n ≤ n) where
   cost p = block 0 one m p + block one (m * 2) n p + block two (n * 2) m p + block three 1 (need (sides m n)) p
 
   words-1 : (p : ℕ) → p < one → stageWords m n p ≡ m
-  words-1 p d = sym (line-words m n p (omega (arith, all)) (sym (line1 m n 0 1 (skipped m n + p / 2) (omega arith))))
+  words-1 p d = sym (line-words m n p (omega (arith, all)) (sym (line1 m n (skipped m n + p / 2) (omega arith))))
 
   words-2 : (p : ℕ) → one ≤ p → p < two → stageWords m n p ≡ n
   words-2 p l d =
       let i = skipped m n + p / 2 - n in
       let e : skipped m n + p / 2 ≡ n + i = omega arith in
-      sym (line-words m n p (omega (arith, all)) (sym (ap (lineAt m n 0 1) e ∙ line2 m n 0 1 i (omega arith))))
+      sym (line-words m n p (omega (arith, all)) (sym (ap (lineAt m n) e ∙ line2 m n i (omega arith))))
 
   words-3 : (p : ℕ) → two ≤ p → p < three → stageWords m n p ≡ m
   words-3 p l d =
       let i = skipped m n + p / 2 - (n + m) in
       let e : skipped m n + p / 2 ≡ n + m + i = omega arith in
-      sym (line-words m n p (omega (arith, all)) (sym (ap (lineAt m n 0 1) e ∙ line3 m n 0 1 i)))
+      sym (line-words m n p (omega (arith, all)) (sym (ap (lineAt m n) e ∙ line3 m n i)))
 
   words-4 : (p : ℕ) → three ≤ p → stageWords m n p ≡ need (sides m n)
   words-4 p l = sym (clear-words m n p (omega (arith, all)))

@@ -20,7 +20,7 @@ use Rattle.passes.specs.Ticks.{pastCount, tickChecks, TickPromise}
 use Rattle.passes.specs.declared.line.GroupedSides.{GroupedSides}
 use Rattle.passes.proofs.Accepted.{flat-accepted, flat-lies, flat-asked, past-cleared}
 use Rattle.passes.proofs.Fits.{line-fits, past-none, past-more}
-use Rattle.passes.proofs.Strided.{skipped-few}
+use Rattle.passes.proofs.Passed.{skipped-few}
 use Rattle.passes.proofs.Going.{going-fits, going-short}
 use Rattle.passes.proofs.Plain.{Stepped, plain-ticked}
 
@@ -70,7 +70,7 @@ module _ (m n done : ℕ) (b sc : List ℕ) where
     }
 
     -- a line is left, and has moved
-    pub one-moved : {b′ sc₁ sc′ : List ℕ} → done < lineCount m n → LineMoved m n (lineOf m n 0 1 done) b b′ → Past (need (sides m n)) sc sc₁
+    pub one-moved : {b′ sc₁ sc′ : List ℕ} → done < lineCount m n → LineMoved m n (lineOf m n done) b b′ → Past (need (sides m n)) sc sc₁
         → sc′ ≡ cleared (need (sides m n)) sc₁ → TickPromise m n done b sc (record { number = 0; done = done + 1 }) b′ sc′
     one-moved h l p z = record {
       block = promise.accepted (in-time (omega arith)) (plainly (record { moved = λ _. l; still = λ k. absurd (omega arith) })) (z ∙ past-cleared p);
@@ -81,15 +81,15 @@ module _ (m n done : ℕ) (b sc : List ℕ) where
 -- the line that is next, in the sides as they are grouped
 module _ {m n done : ℕ} {s : GroupedSides} (is : (s .m ≡ m) × (s .n ≡ n) × Grouped s) (b sc : List ℕ)
     (good : firstOf (passesChecks (sides m n) b sc) ≡ 0) (h : done < lineCount (s .m) (s .n)) where
-  asked : Grouped s × Lies (s .m) (s .n) 0 1 b sc
+  asked : Grouped s × Lies (s .m) (s .n) b sc
   asked = flat-asked is (flat-accepted m n b sc good)
 
-  pub next-fits : Grouped s × Fits (s .m) (s .n) (lineOf (s .m) (s .n) 0 1 done) b sc
+  pub next-fits : Grouped s × Fits (s .m) (s .n) (lineOf (s .m) (s .n) done) b sc
   next-fits = (asked .0, going-fits (asked .0) (asked .1) done b sc h refl (past-none (need (sides (s .m) (s .n))) sc))
 
   -- it has moved, and scratch is cleared
-  pub tick-moved : {b′ sc₁ sc′ : List ℕ} → LineMoved (s .m) (s .n) (lineOf (s .m) (s .n) 0 1 done) b b′
-      → Past (lineOf (s .m) (s .n) 0 1 done .count) sc sc₁ → sc′ ≡ cleared (need (sides m n)) sc₁
+  pub tick-moved : {b′ sc₁ sc′ : List ℕ} → LineMoved (s .m) (s .n) (lineOf (s .m) (s .n) done) b b′
+      → Past (lineOf (s .m) (s .n) done .count) sc sc₁ → sc′ ≡ cleared (need (sides m n)) sc₁
       → TickPromise m n done b sc (record { number = 0; done = done + 1 }) b′ sc′
   tick-moved l p z =
       let past = past-more (going-short (asked .0) (asked .1) done h) (past-none (need (sides (s .m) (s .n))) sc) p in
@@ -100,7 +100,7 @@ module _ (m n done : ℕ) (b sc : List ℕ) where
   pub flat-passed : firstOf (tickChecks m n done b sc) ≡ 0 → firstOf (passesChecks (sides m n) b sc) ≡ 0
   flat-passed e = passed-first (passesChecks (sides m n) b sc) (check 12 (pastCount m n done) ∷ []) e
 
-  pub line-there : firstOf (passesChecks (sides m n) b sc) ≡ 0 → done < lineCount m n → Fits m n (lineOf m n 0 1 done) b sc
+  pub line-there : firstOf (passesChecks (sides m n) b sc) ≡ 0 → done < lineCount m n → Fits m n (lineOf m n done) b sc
   line-there good h =
       let a = flat-accepted m n b sc good in
       line-fits (a .m-pos) (a .n-pos) (flat-lies a) (skipped m n + done) (omega (arith, skipped-few m n (a .m-pos) (a .n-pos)))

@@ -1,5 +1,5 @@
 -- Lines of a block: rows in pass 2, columns in passes 1 and 3, numbered across the passes. The word in row i and column j of
--- an m by n block stands at base + chunk · (i·n + j) of the buffer. Assumes nothing: these are definitions.
+-- an m by n block, with which the buffer begins, stands at i·n + j. Assumes nothing: these are definitions.
 use mathlib.Core.Bool.{cond}
 use mathlib.Core.Path.{_≡_}
 use mathlib.Core.List.{List}
@@ -25,18 +25,18 @@ abbrev pub received : ℕ → ℕ → ℕ → ℕ → ℕ → ℕ
 received m n p t k = cond (eqb p 1) (row1 m n k t) (cond (eqb p 2) (source2 m n t k) (row3 m n k t))
 
 -- column j in pass p
-abbrev pub column : ℕ → ℕ → ℕ → ℕ → ℕ → ℕ → Line
-column m n base chunk p j = record { pass = p; index = j; start = base + chunk * j; stride = chunk * n; count = m }
+abbrev pub column : ℕ → ℕ → ℕ → ℕ → Line
+column m n p j = record { pass = p; index = j; start = j; stride = n; count = m }
 
 -- row i in pass 2
-abbrev pub row : ℕ → ℕ → ℕ → ℕ → Line
-row n base chunk i = record { pass = 2; index = i; start = base + chunk * (i * n); stride = chunk; count = n }
+abbrev pub row : ℕ → ℕ → Line
+row n i = record { pass = 2; index = i; start = i * n; stride = 1; count = n }
 
 -- line t where no pass is left out: the n columns of pass 1, then the m rows of pass 2, then the n columns of pass 3
-unfoldable pub lineAt : ℕ → ℕ → ℕ → ℕ → ℕ → Line
-lineAt m n base chunk t =
-    cond (ltb t n) (column m n base chunk 1 t)
-    (cond (ltb t (n + m)) (row n base chunk (t - n)) (column m n base chunk 3 (t - (n + m))))
+unfoldable pub lineAt : ℕ → ℕ → ℕ → Line
+lineAt m n t =
+    cond (ltb t n) (column m n 1 t)
+    (cond (ltb t (n + m)) (row n (t - n)) (column m n 3 (t - (n + m))))
 
 -- how many columns of pass 1 are left out: all of them where the sides share no factor
 unfoldable pub skipped : ℕ → ℕ → ℕ
@@ -47,8 +47,8 @@ abbrev pub lineCount : ℕ → ℕ → ℕ
 lineCount m n = n + m + n - skipped m n
 
 -- line l of a turn, counted from 0
-abbrev pub lineOf : ℕ → ℕ → ℕ → ℕ → ℕ → Line
-lineOf m n base chunk l = lineAt m n base chunk (skipped m n + l)
+abbrev pub lineOf : ℕ → ℕ → ℕ → Line
+lineOf m n l = lineAt m n (skipped m n + l)
 
 -- where the word of place k of a line stands
 abbrev pub posOn : Line → ℕ → ℕ

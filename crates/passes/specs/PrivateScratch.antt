@@ -12,7 +12,7 @@ use Rattle.flat.specs.Turn.{sides}
 use Rattle.flat.specs.Passes.{rowGroup, columnGroup}
 use Rattle.walks.specs.PrivateWalk.{walk, starts}
 use Rattle.walks.specs.PrivateSource.{Inverse, StateAt}
-use Rattle.passes.specs.Lines.{Moved, paired, posOn, skipped, lineCount, lineOf}
+use Rattle.passes.specs.Lines.{paired, posOn, skipped, lineCount, lineOf}
 use Rattle.passes.specs.declared.line.GroupedSides.{GroupedSides}
 use Rattle.passes.specs.declared.line.Line.{Line}
 use Rattle.passes.specs.declared.source.Source.{Source}
@@ -122,25 +122,18 @@ pub record Past (n : ℕ) (before after : List ℕ) : Type 0 where
   pub same : length after ≡ length before
   pub rest : (k : ℕ) → n ≤ k → getD after k 0 ≡ getD before k 0
 
--- an m by n block lies in the buffer at base, its words `chunk` apart, and scratch has room for its longer side
-pub record Lies (m n base chunk : ℕ) (xs scratch : List ℕ) : Type 0 where
-  pub apart : 0 < chunk
-  pub inside : (p : ℕ) → p < m * n → base + chunk * p < length xs
+-- the buffer begins with an m by n block, and scratch has room for its longer side
+pub record Lies (m n : ℕ) (xs scratch : List ℕ) : Type 0 where
+  pub inside : m * n ≤ length xs
   pub rows : m ≤ length scratch
   pub columns : n ≤ length scratch
-  pub near : base ≤ 1048576
-  pub close : chunk ≤ 1048576
-
--- the block has been turned where it lies: the word of offset i·n + j stands at offset j·m + i, every other word of the buffer stands
-abbrev pub WordsTurned : ℕ → ℕ → ℕ → ℕ → List ℕ → List ℕ → Type 0
-WordsTurned m n base chunk xs ys = Moved (m * n) (λ p. base + chunk * p) (λ p. (p % n) * m + p / n) (λ p. p) xs ys
 
 -- a mapped turn can go on: its block is the buffer, and scratch has room for its longer side
 pub record Mapped (s : GroupedSides) (xs scratch : List ℕ) : Type 0 where
   pub grouped : Grouped s
-  pub lies : Lies (s .m) (s .n) 0 1 xs scratch
+  pub lies : Lies (s .m) (s .n) xs scratch
   pub room : need (sides (s .m) (s .n)) ≤ length scratch
 
 -- how many words stage p stores: those of its line, or those that are cleared
 abbrev pub stageWords : ℕ → ℕ → ℕ → ℕ
-stageWords m n p = cond (ltb p (lineCount m n * 2)) (lineOf m n 0 1 (p / 2) .count) (need (sides m n))
+stageWords m n p = cond (ltb p (lineCount m n * 2)) (lineOf m n (p / 2) .count) (need (sides m n))

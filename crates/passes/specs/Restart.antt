@@ -22,9 +22,9 @@ memory buffer scratch progress = record { buffer = buffer; scratch = scratch; pr
 abbrev pub turnLines : ℕ → ℕ → Lines
 turnLines m n = record {
   lines = lineCount m n;
-  count = λ t. lineOf m n 0 1 t .count;
-  pos = λ t k. posOn (lineOf m n 0 1 t) k;
-  src = λ t k. received m n (lineOf m n 0 1 t .pass) (lineOf m n 0 1 t .index) k;
+  count = λ t. lineOf m n t .count;
+  pos = λ t k. posOn (lineOf m n t) k;
+  src = λ t k. received m n (lineOf m n t .pass) (lineOf m n t .index) k;
   need = need (sides m n);
 }
 

@@ -22,7 +22,7 @@ pub fn turn(buf: &mut [u32], scratch: &mut [u32], m: usize, n: usize) -> u32
         return number;
     }
     let s = turning::group_sides(m, n);
-    turning::turn_at(buf, scratch, s, 0, 1);
+    turning::turn_at(buf, scratch, s);
     scratch::clear_longest(scratch, m, n);
     0
 }
@@ -37,7 +37,7 @@ pub fn turn_back(buf: &mut [u32], scratch: &mut [u32], m: usize, n: usize) -> u3
         return number;
     }
     let s = turning::group_sides(m, n);
-    turning::turn_home_at(buf, scratch, s, 0, 1);
+    turning::turn_home_at(buf, scratch, s);
     scratch::clear_longest(scratch, m, n);
     0
 }
@@ -89,7 +89,7 @@ pub fn tick(buf: &mut [u32], scratch: &mut [u32], m: usize, n: usize, done: usiz
         scratch::clear_longest(scratch, m, n);
         return Ticked { number: 0, done };
     }
-    let line = turning::line_of(s, 0, 1, done);
+    let line = turning::line_of(s, done);
     line::forth(buf, scratch, s, line);
     scratch::clear_longest(scratch, m, n);
     Ticked {

@@ -25,7 +25,7 @@ fn stage_words(s: GroupedSides, p: usize) -> usize
     ensures { λ r. ⌜ r ≡ stageWords (s .m) (s .n) p ⌝ }
 {
     if p < turning::line_count(s) * 2 {
-        let line = turning::line_of(s, 0, 1, p / 2);
+        let line = turning::line_of(s, p / 2);
         return line.count;
     }
     let lens = [s.m, s.n];
@@ -41,7 +41,7 @@ fn store(buf: &mut [u32], scratch: &mut [u32], s: GroupedSides, p: usize, until:
         scratch::zero(scratch, until);
         return;
     }
-    let line = turning::line_of(s, 0, 1, p / 2);
+    let line = turning::line_of(s, p / 2);
     if p % 2 == 0 {
         line::lift(buf, scratch, s, line, until);
         return;

@@ -1,4 +1,4 @@
-// Blocks turned where they lie, line by line.
+// A block turned line by line.
 use crate::column;
 use crate::gcd;
 use crate::line;
@@ -8,11 +8,11 @@ ghost use mathlib.Core.Bool.{cond};
 ghost use mathlib.Core.Path.{_≡_};
 ghost use Prim.Native.Nat.{_+_, _<_, _≤_};
 ghost use lib.Dec.{ltb};
-ghost use Rattle.flat.specs.Turn.{sides};
+ghost use Rattle.flat.specs.Turn.{sides, Turn};
 ghost use Rattle.flat.specs.Passes.{columnGroup};
 ghost use Rattle.refusals.specs.Scratch.{need};
 ghost use Rattle.passes.specs.Lines.{lineCount, lineOf, skipped};
-ghost use Rattle.passes.specs.PrivateScratch.{Grouped, Lies, Past, WordsTurned};
+ghost use Rattle.passes.specs.PrivateScratch.{Grouped, Lies, Past};
 
 // How many columns of pass 1 are left out: all n of them where the sides share no factor above 1.
 fn left_out(n: usize, c: usize) -> usize
@@ -62,9 +62,9 @@ pub(crate) fn first_moved(s: GroupedSides) -> usize
 }
 
 // Line l of a block, counted from 0 across the passes.
-pub(crate) fn line_of(s: GroupedSides, base: usize, chunk: usize, l: usize) -> Line
-    requires { ⌜ Grouped s × (base ≤ 1048576) × (chunk ≤ 1048576) × (l < lineCount (s .m) (s .n)) ⌝ }
-    ensures { λ r. ⌜ r ≡ lineOf (s .m) (s .n) base chunk l ⌝ }
+pub(crate) fn line_of(s: GroupedSides, l: usize) -> Line
+    requires { ⌜ Grouped s × (l < lineCount (s .m) (s .n)) ⌝ }
+    ensures { λ r. ⌜ r ≡ lineOf (s .m) (s .n) l ⌝ }
 {
     let m = s.m;
     let n = s.n;
@@ -73,8 +73,8 @@ pub(crate) fn line_of(s: GroupedSides, base: usize, chunk: usize, l: usize) -> L
         return Line {
             pass: 1,
             index: t,
-            start: base + chunk * t,
-            stride: chunk * n,
+            start: t,
+            stride: n,
             count: m,
         };
     }
@@ -83,8 +83,8 @@ pub(crate) fn line_of(s: GroupedSides, base: usize, chunk: usize, l: usize) -> L
         return Line {
             pass: 2,
             index: i,
-            start: base + chunk * (i * n),
-            stride: chunk,
+            start: i * n,
+            stride: 1,
             count: n,
         };
     }
@@ -92,47 +92,35 @@ pub(crate) fn line_of(s: GroupedSides, base: usize, chunk: usize, l: usize) -> L
     Line {
         pass: 3,
         index: j,
-        start: base + chunk * j,
-        stride: chunk * n,
+        start: j,
+        stride: n,
         count: m,
     }
 }
 
 // The block is turned by its passes.
-pub(crate) fn turn_at(
-    buf: &mut [u32],
-    scratch: &mut [u32],
-    s: GroupedSides,
-    base: usize,
-    chunk: usize,
-)
-    requires { ⌜ Grouped s × Lies (s .m) (s .n) base chunk (now buf) (now scratch) ⌝ }
-    ensures { λ _. ⌜ WordsTurned (s .m) (s .n) base chunk (now (buf .entry)) (now (buf .exit)) × Past (need (sides (s .m) (s .n))) (now (scratch .entry)) (now (scratch .exit)) ⌝ }
+pub(crate) fn turn_at(buf: &mut [u32], scratch: &mut [u32], s: GroupedSides)
+    requires { ⌜ Grouped s × Lies (s .m) (s .n) (now buf) (now scratch) ⌝ }
+    ensures { λ _. ⌜ Turn (s .m) (s .n) (now (buf .entry)) (now (buf .exit)) × Past (need (sides (s .m) (s .n))) (now (scratch .entry)) (now (scratch .exit)) ⌝ }
 {
     let first = first_moved(s);
     let count = line_count(s);
     for l in first..count {
-        let line = line_of(s, base, chunk, l);
+        let line = line_of(s, l);
         column::forth(buf, scratch, s, line);
     }
 }
 
 // The passes of the block are undone, the last first.
-pub(crate) fn turn_home_at(
-    buf: &mut [u32],
-    scratch: &mut [u32],
-    s: GroupedSides,
-    base: usize,
-    chunk: usize,
-)
-    requires { ⌜ Grouped s × Lies (s .m) (s .n) base chunk (now buf) (now scratch) ⌝ }
-    ensures { λ _. ⌜ WordsTurned (s .m) (s .n) base chunk (now (buf .exit)) (now (buf .entry)) × Past (need (sides (s .m) (s .n))) (now (scratch .entry)) (now (scratch .exit)) ⌝ }
+pub(crate) fn turn_home_at(buf: &mut [u32], scratch: &mut [u32], s: GroupedSides)
+    requires { ⌜ Grouped s × Lies (s .m) (s .n) (now buf) (now scratch) ⌝ }
+    ensures { λ _. ⌜ Turn (s .m) (s .n) (now (buf .exit)) (now (buf .entry)) × Past (need (sides (s .m) (s .n))) (now (scratch .entry)) (now (scratch .exit)) ⌝ }
 {
     let first = first_moved(s);
     let mut l = line_count(s);
     while first < l {
         l -= 1;
-        let line = line_of(s, base, chunk, l);
+        let line = line_of(s, l);
         line::back(buf, scratch, s, line);
     }
 }

@@ -16,8 +16,8 @@ use Rattle.flat.specs.Turn.{sides, Turn}
 use Rattle.passes.specs.Lines.{skipped, lineCount}
 use Rattle.passes.proofs.Ran.{Ran, ran-more}
 use Rattle.passes.proofs.Ran.Ran.{done}
-use Rattle.passes.proofs.Strided.{LineStep, skipped-le, skipped-few, lines-turn}
-use Rattle.passes.proofs.Accepted.{Accepted, flat-accepted, flat-turned}
+use Rattle.passes.proofs.Passed.{LineStep, skipped-le, skipped-few, lines-turn}
+use Rattle.passes.proofs.Accepted.{Accepted, flat-accepted}
 use Rattle.passes.proofs.Plain.{plain-count, Stepped}
 use Rattle.passes.proofs.Ticks.{flat-passed, in-time, stepped}
 use Rattle.ticks.specs.Steps.{StepPromise}
@@ -27,7 +27,7 @@ use Rattle.ticks.specs.declared.LineRecord.{LineRecord}
 
 -- the lines that are done have moved, one after the other
 abbrev Through : ℕ → ℕ → List ℕ → ℕ → List ℕ → Type 0
-Through m n xs d ys = Ran (LineStep m n 0 1) (skipped m n + d) (skipped m n) xs ys
+Through m n xs d ys = Ran (LineStep m n) (skipped m n + d) (skipped m n) xs ys
 
 module _ {m n : ℕ} where
   -- what an accepted call found
@@ -70,14 +70,14 @@ module _ {m n : ℕ} where
       (λ (h : before .done < lineCount m n).
       let next : after .done ≡ before .done + 1 = p .given refl ∙ rw (lt-ltb (before .done) (lineCount m n) h) in
       let e : suc (skipped m n + before .done) ≡ skipped m n + after .done = omega arith in
-      subst (λ (d : ℕ). Ran (LineStep m n 0 1) d (skipped m n) xs zs) e (ran-more r (left p .moved h)))
+      subst (λ (d : ℕ). Ran (LineStep m n) d (skipped m n) xs zs) e (ran-more r (left p .moved h)))
       (λ (h : lineCount m n ≤ before .done).
       let e : before .done ≡ after .done = sym (p .given refl ∙ rw (le-ltb (before .done) (lineCount m n) h)) in
       rw (← e, left p .still h) r)
       (lt-or-ge (before .done) (lineCount m n))
 
   run-through : {xs : List ℕ} {k : ℕ} {r : LineRecord} {ys : List ℕ} → Run m n xs k r ys → Through m n xs (r .done) ys
-  run-through {xs} begun = subst (λ (d : ℕ). Ran (LineStep m n 0 1) d (skipped m n) xs xs) (omega arith) done
+  run-through {xs} begun = subst (λ (d : ℕ). Ran (LineStep m n) d (skipped m n) xs xs) (omega arith) done
   run-through (accepted run p) = one-more p (run-through run)
   run-through {xs} (refused run z p) =
       let r = run-through run in
@@ -88,9 +88,8 @@ module _ {m n : ℕ} where
   run-turned {xs} {k} {r} {ys} run some h =
       let s = sides-sound run some in
       let all : skipped m n + r .done ≡ n + m + n = omega (arith, run-record run, skipped-few m n (s .0) (s .1)) in
-      flat-turned m n xs ys
-      (lines-turn m n 0 1 (s .0) (s .1) (omega arith) (skipped m n) (skipped-le m n (s .0) (s .1))
-      (subst (λ (d : ℕ). Ran (LineStep m n 0 1) d (skipped m n) xs ys) all (run-through run)))
+      lines-turn m n (s .0) (s .1) (skipped m n) (skipped-le m n (s .0) (s .1))
+      (subst (λ (d : ℕ). Ran (LineStep m n) d (skipped m n) xs ys) all (run-through run))
 
   -- and a call after that changes neither buffer nor record, whether it is refused or not
   pub run-over : {xs : List ℕ} {k : ℕ} {r : LineRecord} {ys : List ℕ} → Run m n xs k r ys → lineCount m n ≤ k

@@ -1,7 +1,7 @@
 -- `first_moved` meets its contract: no more columns are left out than stand still.
 use Prim.Native.Nat.{_≤_}
 use native.Mathlib.Omega.{arith}
-use Rattle.passes.proofs.Strided.{skipped-le}
+use Rattle.passes.proofs.Passed.{skipped-le}
 use Rattle.passes.proofs.turning.first_moved.Statement.{statement}
 use Rattle.passes.proofs.turning.first_moved.Tie as tie
 

@@ -7,7 +7,7 @@ use borrow.Author.Needs.{needs}
 use lib.Dec.{ltb}
 use Rattle.flat.proofs.Sides.{sides-are}
 use Rattle.passes.specs.Lines.{skipped}
-use Rattle.passes.proofs.Strided.{groups-le}
+use Rattle.passes.proofs.Passed.{groups-le}
 use Rattle.passes.proofs.turning.group_sides.Statement.{statement}
 use Rattle.passes.proofs.turning.group_sides.Tie as tie
 

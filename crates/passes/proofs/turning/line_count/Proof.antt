@@ -3,7 +3,7 @@ use Prim.Native.Nat.{_≤_}
 use native.Mathlib.Nat.{le-trans}
 use native.Mathlib.Omega.{arith}
 use borrow.Author.Needs.{needs}
-use Rattle.passes.proofs.Strided.{skipped-le, groups-le}
+use Rattle.passes.proofs.Passed.{skipped-le, groups-le}
 use Rattle.passes.proofs.turning.line_count.Statement.{statement}
 use Rattle.passes.proofs.turning.line_count.Tie as tie
 

@@ -1,4 +1,4 @@
--- `line_of` meets its contract: the three passes by their line numbers; sides of at most 4,096 keep every product small.
+-- `line_of` meets its contract: the three passes by their line numbers; sides of at most 4,096 keep the one product small.
 use mathlib.Core.Path.{_≡_}
 use Prim.Native.Nat.{ℕ, _+_, _*_, _-_, _≤_}
 use native.Mathlib.Nat.{mul-le-mul}
@@ -15,26 +15,11 @@ module _ (x : tie.Start) where
   abbrev number : ℕ
   number = x .args .s .skipped + x .args .l
 
-  -- the words before a place of the block
-  abbrev words : ℕ → ℕ
-  words k = x .args .chunk * k
-
-  column : words (x .args .s .n) ≤ 4294967296
-  column = mul-le-mul (x .pre .2) (x .pre .0 .n-few)
-
-  pass-1 : number ≤ 4096 → words number ≤ 4294967296
-  pass-1 h = mul-le-mul (x .pre .2) h
-
-  pass-2 : number - x .args .s .n ≤ 4096
-      → ((number - x .args .s .n) * x .args .s .n ≤ 16777216) × (words ((number - x .args .s .n) * x .args .s .n) ≤ 17592186044416)
-  pass-2 h = (mul-le-mul h (x .pre .0 .n-few), mul-le-mul (x .pre .2) (mul-le-mul h (x .pre .0 .n-few)))
-
-  pass-3 : number - (x .args .s .n + x .args .s .m) ≤ 4096 → words (number - (x .args .s .n + x .args .s .m)) ≤ 4294967296
-  pass-3 h = mul-le-mul (x .pre .2) h
+  row-start : number - x .args .s .n ≤ 4096 → (number - x .args .s .n) * x .args .s .n ≤ 16777216
+  row-start h = mul-le-mul h (x .pre .0 .n-few)
 
   -- a line of that number is the line asked for
-  numbered : {i : Line} → i ≡ lineAt (x .args .s .m) (x .args .s .n) (x .args .base) (x .args .chunk) number
-      → i ≡ lineOf (x .args .s .m) (x .args .s .n) (x .args .base) (x .args .chunk) (x .args .l)
+  numbered : {i : Line} → i ≡ lineAt (x .args .s .m) (x .args .s .n) number → i ≡ lineOf (x .args .s .m) (x .args .s .n) (x .args .l)
   numbered e = rw (← x .pre .0 .skipped-is) e
 
 returns : tie.Need-returns
@@ -54,18 +39,10 @@ line-of-spec =
     tie.close
     (tie.spec
     (search needs)
-    (λ c. omega (arith, pass-1 (search) (omega arith)))
-    (λ c. omega (arith, pass-1 (search) (omega arith)))
-    (λ c. omega (arith, column (search)))
     returns
     (search needs)
-    (λ c. omega (arith, pass-2 (search) (omega arith)))
-    (λ c. omega (arith, pass-2 (search) (omega arith)))
-    (λ c. omega (arith, pass-2 (search) (omega arith)))
+    (λ c. omega (arith, row-start (search) (omega arith)))
     returns-2
     (search needs)
     (search needs)
-    (λ c. omega (arith, pass-3 (search) (omega arith)))
-    (λ c. omega (arith, pass-3 (search) (omega arith)))
-    (λ c. omega (arith, column (search)))
     returns-3)

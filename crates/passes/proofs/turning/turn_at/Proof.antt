@@ -9,10 +9,10 @@ use Rattle.passes.proofs.turning.turn_at.Statement.{statement}
 use Rattle.passes.proofs.turning.turn_at.Tie as tie
 
 abbrev Inv-loop : tie.InvT-loop
-Inv-loop buf₀ scratch₀ s base chunk first count l₀ buf scratch l = (count ≡ lineCount (s .m) (s .n)) × Forth s base chunk buf₀ scratch₀ l buf scratch
+Inv-loop buf₀ scratch₀ s first count l₀ buf scratch l = (count ≡ lineCount (s .m) (s .n)) × Forth s buf₀ scratch₀ l buf scratch
 
 abbrev μ-loop : tie.MeasureT-loop
-μ-loop buf₀ scratch₀ s base chunk first count l₀ buf scratch l = count - l
+μ-loop buf₀ scratch₀ s first count l₀ buf scratch l = count - l
 
 -- the places that the answers look back to
 abbrev Start : Type 0

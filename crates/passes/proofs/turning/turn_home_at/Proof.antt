@@ -8,10 +8,10 @@ use Rattle.passes.proofs.turning.turn_home_at.Statement.{statement}
 use Rattle.passes.proofs.turning.turn_home_at.Tie as tie
 
 abbrev Inv-loop : tie.InvT-loop
-Inv-loop buf₀ scratch₀ s base chunk first l₀ buf scratch l = (first ≤ l) × Home s base chunk buf₀ scratch₀ l buf scratch
+Inv-loop buf₀ scratch₀ s first l₀ buf scratch l = (first ≤ l) × Home s buf₀ scratch₀ l buf scratch
 
 abbrev μ-loop : tie.MeasureT-loop
-μ-loop buf₀ scratch₀ s base chunk first l₀ buf scratch l = l
+μ-loop buf₀ scratch₀ s first l₀ buf scratch l = l
 
 -- the places that the answers look back to
 abbrev Start : Type 0
