@@ -1,0 +1,13 @@
+-- A call that makes its move where the runs lie inside, and one that changes nothing where they do not.
+use mathlib.Core.Path.{refl}
+use mathlib.Core.List.{List}
+use Prim.Native.Nat.{ℕ}
+use Rattle.moves.specs.Promises.{Where}
+
+module _ {Fits : Type 0} {Right : List ℕ → Type 0} {before after : List ℕ} where
+  pub made : Fits → Right after → Where Fits Right before after
+  made f r = record { inside = λ g. r; kept = λ never. absurd (never f) }
+
+module _ {Fits : Type 0} {Right : List ℕ → Type 0} {before : List ℕ} where
+  pub unmade : (Fits → ⊥) → Where Fits Right before before
+  unmade never = record { inside = λ f. absurd (never f); kept = λ n. refl }
