@@ -1,5 +1,3 @@
--- a stretch of the buffer filled word by word, from either end
-pub mod Filling
 -- a run moved word by word, or in sixteens and more than is asked
 pub mod OneRun
 -- the runs one after the other

@@ -6,7 +6,7 @@ use Prim.Native.Nat.{ℕ, suc, _+_, _*_, _-_, _≤_}
 use native.Mathlib.Omega.{arith}
 use lib.ListN.{length, getD, set, length-set}
 use lib.Seq.{getD-set-same, getD-set-other}
-use Rattle.cameras.specs.Private.{Stretch}
+use Rattle.moves.specs.Stretch.{Stretch}
 use Rattle.cameras.proofs.Runs.{RunClosed, RunOpened, at}
 
 module _ {n k r wide : ℕ} (all : n ≤ wide) (few : wide ≤ n + r + 1) where

@@ -5,7 +5,8 @@ use Prim.Native.Nat.{ℕ, _+_, _*_, _-_}
 use native.Mathlib.Nat.{mul-le-mul-right}
 use native.Mathlib.Omega.{arith}
 use Rattle.cameras.specs.Columns.{Removed}
-use Rattle.cameras.specs.Private.{Stretch, Closed}
+use Rattle.moves.specs.Stretch.{Stretch}
+use Rattle.cameras.specs.Private.{Closed}
 use Rattle.cameras.proofs.Runs.{at}
 
 pub removed : {frames n k : ℕ} {xs ys zs : List ℕ} → Closed frames n k xs ys → Stretch (frames * n) frames (λ p. 0) ys zs → Removed frames n k xs zs

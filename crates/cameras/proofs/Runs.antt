@@ -11,8 +11,9 @@ use lib.ListN.{length, getD, set, length-set}
 use lib.Seq.{getD-set-same, getD-set-other}
 use borrow.Author.Tests.{lt-ltb, le-ltb}
 use Rattle.lists.proofs.Decide.{lt-or-ge, eq-or-ne}
+use Rattle.moves.specs.Stretch.{Stretch}
 use Rattle.cameras.specs.Columns.{past, Added}
-use Rattle.cameras.specs.Private.{Stretch, Before, From, ClosedTo, OpenedFrom, Closed}
+use Rattle.cameras.specs.Private.{Before, From, ClosedTo, OpenedFrom, Closed}
 
 -- columns before k stand, columns from k on are one further
 pub past-before : (k j : ℕ) → j < k → past k j ≡ j

@@ -6,13 +6,6 @@ use Prim.Native.Nat.{ℕ, suc, _+_, _*_, _<_, _≤_}
 use lib.ListN.{length, getD}
 use Rattle.cameras.specs.Columns.{past}
 
--- count words from an offset on hold these values; words outside that stretch stand
-pub record Stretch (to count : ℕ) (value : ℕ → ℕ) (xs ys : List ℕ) : Type 0 where
-  pub same : length ys ≡ length xs
-  pub holds : (p : ℕ) → p < count → getD ys (to + p) 0 ≡ value p
-  pub below : (q : ℕ) → q < to → getD ys q 0 ≡ getD xs q 0
-  pub above : (q : ℕ) → to + count ≤ q → getD ys q 0 ≡ getD xs q 0
-
 -- place (i, j) lies before column k of row r
 abbrev pub Before : ℕ → ℕ → ℕ → ℕ → Type 0
 Before k r i j = (i < r) ⊎ ((i ≡ r) × (j < k))

@@ -1,6 +1,5 @@
 // A camera's column taken out of a frames by cameras block within its buffer, and one put in.
 mod rows;
-mod words;
 
 ghost use mathlib.Core.Path.{_≡_};
 ghost use Prim.Native.Nat.{_-_};
@@ -81,7 +80,7 @@ pub fn remove(buf: &mut [u32], frames: usize, cameras: usize, column: usize) -> 
         return number;
     }
     rows::close(buf, frames, cameras - 1, column);
-    words::zero(buf, frames * (cameras - 1), frames);
+    moves::zero(buf, frames * (cameras - 1), frames);
     0
 }
 

@@ -2,7 +2,6 @@
 // k of the next row, in a block of n + 1 columns. Most runs move in sixteens, which take words past the run along: those are overwritten
 // later, and none of those that they overwrite is still to be read. The first few runs move too short a way for that, and the last few that close
 // may lie too near to the buffer's end: those move by themselves. Each kind has a loop of its own, so that no run is asked which it is.
-use crate::words;
 ghost use mathlib.Core.Path.{_≡_};
 ghost use Prim.Native.Nat.{suc, _+_, _*_, _<_, _≤_};
 ghost use lib.ListN.{length};
@@ -57,7 +56,7 @@ fn close_exact(buf: &mut [u32], low: usize, high: usize, n: usize, k: usize)
 {
     for r in low..high {
         let to = r * n + k;
-        words::exact_down(buf, to, to + r + 1, n);
+        moves::fall(buf, to, to + r + 1, n);
     }
 }
 
@@ -69,7 +68,7 @@ fn close_wide(buf: &mut [u32], low: usize, high: usize, n: usize, k: usize, more
 {
     for r in low..high {
         let to = r * n + k;
-        words::wide_down(buf, to, to + r + 1, more);
+        moves::fall(buf, to, to + r + 1, 16 + 16 * more);
     }
 }
 
@@ -100,7 +99,7 @@ pub(crate) fn close(buf: &mut [u32], frames: usize, n: usize, k: usize)
     let last = frames - 1;
     close_runs(buf, last, n, k);
     let to = last * n + k;
-    words::shift_down(buf, to, to + frames, n - k);
+    moves::fall(buf, to, to + frames, n - k);
 }
 
 // The runs before high open, the last first, each by itself, and the word of each row is stored.
@@ -112,7 +111,7 @@ fn open_exact(buf: &mut [u32], high: usize, n: usize, k: usize, column: &[u32])
     while 0 < r {
         r -= 1;
         let from = r * n + k;
-        words::exact_up(buf, from + r + 1, from, n);
+        moves::rise(buf, from + r + 1, from, n);
         buf[from + r] = column[r];
     }
 }
@@ -137,7 +136,7 @@ fn open_wide(
         r -= 1;
         let from = r * n + k;
         let end = from + n;
-        words::wide_up(buf, end + r + 1 - wide, end - wide, more);
+        moves::rise(buf, end + r + 1 - wide, end - wide, wide);
         buf[from + r] = column[r];
     }
 }
@@ -164,7 +163,7 @@ pub(crate) fn open(buf: &mut [u32], frames: usize, n: usize, k: usize, column: &
 {
     let last = frames - 1;
     let from = last * n + k;
-    words::shift_up(buf, from + frames, from, n - k);
+    moves::rise(buf, from + frames, from, n - k);
     buf[from + last] = column[last];
     open_runs(buf, last, n, k, column);
 }

@@ -21,17 +21,12 @@ mul-zero c =
     let h = checked (search) (search via) in
     omega (arith, h)
 
-zero-requires : tie.Need-zero-requires
-zero-requires c κs =
-    let r : tie.After-close = search in
-    let h = checked (search) (search via) in
-    omega (arith, h, r .close .ensures .same)
-
 returns-2 : tie.Need-returns-2
 returns-2 c =
     let z : tie.After-zero = search in
     let r : tie.After-close = search in
-    accepted (search via) (removed (r .close .ensures) (z .zero .ensures))
+    let h = checked (search) (search via) in
+    accepted (search via) (removed (r .close .ensures) (z .zero .ensures .inside (omega (arith, h, r .close .ensures .same))))
 
 pub remove-spec : {M : Type 1} → statement M
 remove-spec =
@@ -44,6 +39,6 @@ remove-spec =
     (λ c κs. let h = checked (search) (search via) in (h .some, h .any, h .low, h .thin, h .fits))
     (λ c. omega (arith, checked (search) (search via)))
     mul-zero
-    zero-requires
+    (search needs)
     (search needs)
     returns-2)

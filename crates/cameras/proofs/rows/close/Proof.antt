@@ -1,5 +1,6 @@
 -- `close` meets its contract: the runs close up, then the words behind the column of the last row.
 use mathlib.Core.Path.{_≡_}
+use mathlib.Core.Logic.{inl}
 use Prim.Native.Nat.{suc, _+_, _*_, _-_}
 use native.Mathlib.Omega.{arith}
 use borrow.Author.Needs.{needs}
@@ -12,9 +13,9 @@ ends s = last-row _ _ (omega arith)
 
 returns : tie.Need-returns
 returns c =
-    let d : tie.After-shift-down = search in
+    let d : tie.After-fall = search in
     let r : tie.After-close-runs = search in
-    all-closed (omega arith) (r .close-runs .ensures _ (none-closed (omega arith))) (omega arith) (omega arith) (d .shift-down .ensures)
+    all-closed (omega arith) (r .close-runs .ensures _ (none-closed (omega arith))) (omega arith) (omega arith) (d .fall .ensures .inside (omega (arith, ends (search)), omega (arith, ends (search)), inl (omega arith)))
 
 pub close-spec : {M : Type 1} → statement M
 close-spec =
@@ -26,6 +27,6 @@ close-spec =
     (λ c. omega (arith, ends (search)))
     (λ c. omega (arith, ends (search)))
     (search needs)
-    (λ c κs. (omega arith, omega (arith, ends (search))))
+    (search needs)
     (search needs)
     returns)

@@ -1,4 +1,5 @@
 -- `close_exact` meets its contract. The loop keeps that the runs passed have closed up; each is moved by itself.
+use mathlib.Core.Logic.{inl}
 use Prim.Native.Nat.{suc, _+_, _*_, _-_, _≤_}
 use native.Mathlib.Nat.{mul-le-mul-right}
 use native.Mathlib.Omega.{arith}
@@ -32,8 +33,8 @@ reach i =
 loop-again : tie.Need-loop-again Inv-loop μ-loop
 loop-again c =
     let l : Loop = search in
-    let m : tie.After-exact-down Inv-loop μ-loop = search in
-    closing-more (omega arith) (omega arith) (l .loop .inv) (run-closed (omega arith) (omega arith) (m .exact-down .ensures))
+    let m : tie.After-fall Inv-loop μ-loop = search in
+    closing-more (omega arith) (omega arith) (l .loop .inv) (run-closed (omega arith) (omega arith) (m .fall .ensures .inside (omega (arith, reach (search)), omega (arith, reach (search)), inl (omega arith))))
 
 pub close-exact-spec : {M : Type 1} → statement M
 close-exact-spec =
@@ -46,7 +47,7 @@ close-exact-spec =
     (λ c. omega (arith, reach (search)))
     (λ c. omega (arith, reach (search)))
     (λ c. omega (arith, reach (search)))
-    (λ c κs. (omega arith, omega (arith, reach (search))))
+    (search needs)
     (search needs)
     (search needs)
     loop-again

@@ -1,4 +1,5 @@
 -- `close_wide` meets its contract. The loop keeps that the runs passed have closed up; what each takes along lies before the next.
+use mathlib.Core.Logic.{inl}
 use Prim.Native.Nat.{suc, _+_, _*_, _-_, _<_, _≤_}
 use native.Mathlib.Nat.{mul-le-mul-right}
 use native.Mathlib.Omega.{arith}
@@ -37,8 +38,8 @@ reach i =
 loop-again : tie.Need-loop-again Inv-loop μ-loop
 loop-again c =
     let l : Loop = search in
-    let m : tie.After-wide-down Inv-loop μ-loop = search in
-    closing-more (omega arith) (omega arith) (l .loop .inv) (run-closed (omega arith) (omega (arith, reach (search))) (m .wide-down .ensures))
+    let m : tie.After-fall Inv-loop μ-loop = search in
+    closing-more (omega arith) (omega arith) (l .loop .inv) (run-closed (omega arith) (omega (arith, reach (search))) (m .fall .ensures .inside (omega (arith, reach (search)), omega (arith, reach (search)), inl (omega arith))))
 
 pub close-wide-spec : {M : Type 1} → statement M
 close-wide-spec =
@@ -51,7 +52,9 @@ close-wide-spec =
     (λ c. omega (arith, reach (search)))
     (λ c. omega (arith, reach (search)))
     (λ c. omega (arith, reach (search)))
-    (λ c κs. (omega arith, omega (arith, reach (search))))
+    (λ c. omega (arith, reach (search)))
+    (λ c. omega (arith, reach (search)))
+    (search needs)
     (search needs)
     (search needs)
     loop-again

@@ -12,18 +12,17 @@ ends : (s : tie.Start) → let a = s .args in a .frames * suc (a .n) ≡ (a .fra
 ends s = last-row _ _ (omega arith)
 
 slice-write-buf : tie.Need-slice-write-buf
-slice-write-buf c = let u : tie.After-shift-up = search in omega (arith, ends (search), u .shift-up .ensures .same)
+slice-write-buf c = omega (arith, ends (search))
 
 open-runs-requires : tie.Need-open-runs-requires
 open-runs-requires c κs =
-    let u : tie.After-shift-up = search in
-    (omega arith, omega arith, omega arith, omega arith, simp length-set (omega (arith, ends (search), u .shift-up .ensures .same)))
+    (omega arith, omega arith, omega arith, omega arith, simp length-set (omega (arith, ends (search))))
 
 returns : tie.Need-returns
 returns c =
     let r : tie.After-open-runs = search in
-    let u : tie.After-shift-up = search in
-    let last = last-opened (omega arith) (omega arith) (omega arith) (u .shift-up .ensures) in
+    let u : tie.After-rise = search in
+    let last = last-opened (omega arith) (omega arith) (omega arith) (u .rise .ensures .inside (omega arith, omega (arith, ends (search)))) in
     all-opened (omega arith) (r .open-runs .ensures _ _ (omega arith) last) (omega arith)
 
 pub open-spec : {M : Type 1} → statement M
@@ -35,7 +34,7 @@ open-spec =
     (λ c. omega (arith, ends (search)))
     (λ c. omega (arith, ends (search)))
     (search needs)
-    (λ c κs. (omega arith, omega (arith, ends (search))))
+    (search needs)
     (search needs)
     (search needs)
     (λ c. omega (arith, ends (search)))

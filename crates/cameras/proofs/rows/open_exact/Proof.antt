@@ -33,9 +33,9 @@ reach i =
 loop-again : tie.Need-loop-again Inv-loop μ-loop
 loop-again c =
     let l : Loop = search in
-    let m : tie.After-exact-up Inv-loop μ-loop = search in
+    let m : tie.After-rise Inv-loop μ-loop = search in
     opening-more (omega arith) (omega arith) (omega arith) (l .loop .inv)
-    (run-opened (omega arith) (omega arith) _ _ (omega arith) (omega arith) (omega (arith, reach (search))) (m .exact-up .ensures))
+    (run-opened (omega arith) (omega arith) _ _ (omega arith) (omega arith) (omega (arith, reach (search))) (m .rise .ensures .inside (omega arith, omega (arith, reach (search)))))
 
 pub open-exact-spec : {M : Type 1} → statement M
 open-exact-spec =
@@ -49,7 +49,7 @@ open-exact-spec =
     (λ c. omega (arith, reach (search)))
     (λ c. omega (arith, reach (search)))
     (λ c. omega (arith, reach (search)))
-    (λ c κs. (omega arith, omega (arith, reach (search))))
+    (search needs)
     (λ c. omega (arith, reach (search)))
     (λ c. omega (arith, reach (search)))
     (λ c. omega (arith, reach (search)))

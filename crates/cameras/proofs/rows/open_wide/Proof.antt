@@ -37,9 +37,9 @@ reach i =
 loop-again : tie.Need-loop-again Inv-loop μ-loop
 loop-again c =
     let l : Loop = search in
-    let m : tie.After-wide-up Inv-loop μ-loop = search in
+    let m : tie.After-rise Inv-loop μ-loop = search in
     opening-more (omega arith) (omega arith) (omega arith) (l .loop .inv)
-    (run-opened (omega arith) (omega (arith, reach (search))) _ _ (omega (arith, reach (search))) (omega (arith, reach (search))) (omega (arith, reach (search))) (m .wide-up .ensures))
+    (run-opened (omega arith) (omega (arith, reach (search))) _ _ (omega (arith, reach (search))) (omega (arith, reach (search))) (omega (arith, reach (search))) (m .rise .ensures .inside (omega arith, omega (arith, reach (search)))))
 
 pub open-wide-spec : {M : Type 1} → statement M
 open-wide-spec =
@@ -58,7 +58,7 @@ open-wide-spec =
     (λ c. omega (arith, reach (search)))
     (λ c. omega (arith, reach (search)))
     (λ c. omega (arith, reach (search)))
-    (λ c κs. (omega arith, omega (arith, reach (search))))
+    (search needs)
     (λ c. omega (arith, reach (search)))
     (λ c. omega (arith, reach (search)))
     (λ c. omega (arith, reach (search)))
