@@ -1,64 +1,107 @@
--- A small block is copied into the tile and written back column by column: column j of the tile is the stretch of m words from j·m on. Blocks so
--- turned one after the other, each a part of the buffer, are the layout whose last two axes are exchanged.
+-- A small block is lifted into the tile, its rows apart, and written back row by row or column by column: column j of the tile is the stretch of m words
+-- from j·m on. Blocks so turned one after the other, each a part of the buffer, are the layout whose two axes in the middle are exchanged.
 use mathlib.Core.Path.{_≡_, refl, sym, ap, ap₂, subst, _∙_}
 use mathlib.Core.Logic.{⊎-elim}
 use mathlib.Core.List.{List, [], _∷_}
 use Prim.Native.Nat.{ℕ, _+_, _*_, _-_, _/_, _%_, _<_, _≤_}
-use native.Mathlib.Nat.{zero-mul, mul-comm, mul-le-mul-right, add-mul, one-mul}
+use native.Mathlib.Nat.{zero-mul, mul-comm, mul-le-mul-right, add-mul, one-mul, le-mul-of-pos-right}
 use native.Mathlib.Omega.{arith}
 use lib.Arith.{digits-div, digits-mod, digits-lt}
 use lib.ListN.{length, getD}
-use borrow.Rule.Slice.PartMut.{midOf, putMid}
+use borrow.Rule.Slice.PartMut.{midOf, putMid, mid-len}
 use Rattle.lists.proofs.Decide.{eq-or-ne}
-use Rattle.layout.specs.Layout.{Within, at, pick}
-use Rattle.layout.specs.Layout.Within.{none, more}
-use Rattle.flat.specs.Turn.{Turn}
-use Rattle.flat.proofs.Turn.{from-literal}
 use Rattle.halves.specs.Private.{TurnedAt}
-use Rattle.halves.proofs.Lent.{at-three}
-use Rattle.halves.proofs.Chunks.{turned-words}
-use Rattle.halves.proofs.Blocks.{part-turned, TurnedTo, turned-more}
-use Rattle.strips.specs.Moves.{Stretch, Scattered, RowsOut}
-use Rattle.strips.specs.Steps.{BlocksTurned}
-use Rattle.strips.proofs.Filling.{Filled, nothing-filled, stretch-up}
-use Rattle.strips.proofs.Strips.{place, volume-three}
+use Rattle.halves.proofs.Blocks.{laid-turned, part-turned, TurnedTo, turned-more, all-turned}
+use Rattle.moves.specs.Stretch.{Stretch}
+use Rattle.strips.specs.Moves.{Scattered, RowsOut, Lifted}
+use Rattle.strips.specs.Bounds.{Held}
+use Rattle.strips.specs.Steps.{BlocksTurned, GridTurned}
+use Rattle.moves.proofs.Filling.{Filled, nothing-filled, piece-up}
+use Rattle.strips.proofs.Strips.{place, from-words}
 
--- word k of a tile of m by n words once it is turned
-abbrev pub turnedWord : ℕ → ℕ → List ℕ → ℕ → ℕ
-turnedWord m n tile k = getD tile (k % m * n + k / m) 0
+-- word k of a tile of m by n words that begins at an offset, once it is turned
+abbrev pub turnedWord : ℕ → ℕ → ℕ → List ℕ → ℕ → ℕ
+turnedWord at m n tile k = getD tile (at + (k % m * n + k / m)) 0
 
 -- column j of the tile, word p
-column-word : (m n j p : ℕ) (tile : List ℕ) → p < m → getD tile (j + p * n) 0 ≡ turnedWord m n tile (j * m + p)
-column-word m n j p tile h = place tile (omega (arith, ap₂ (λ (a b : ℕ). a * n + b) (digits-mod j h) (digits-div j h)))
+column-word : (at m n j p : ℕ) (tile : List ℕ) → p < m → getD tile (at + j + p * n) 0 ≡ turnedWord at m n tile (j * m + p)
+column-word at m n j p tile h = place tile (omega (arith, ap₂ (λ (a b : ℕ). at + (a * n + b)) (digits-mod j h) (digits-div j h)))
 
-pub columns-none : (m : ℕ) {value : ℕ → ℕ} {xs : List ℕ} → Filled 0 0 (0 * m) value xs xs
-columns-none m = rw zero-mul (nothing-filled 0)
+pub columns-none : (at m : ℕ) {value : ℕ → ℕ} {xs : List ℕ} → Filled at 0 (0 * m) value xs xs
+columns-none at m = rw zero-mul (nothing-filled 0)
 
 -- one column more is written
-pub column-more : (m n j : ℕ) (tile : List ℕ) {xs ys zs : List ℕ} → Filled 0 0 (j * m) (turnedWord m n tile) xs ys
-    → Stretch (j * m) m (λ u. getD tile (j + u * n) 0) ys zs → Filled 0 0 ((j + 1) * m) (turnedWord m n tile) xs zs
-column-more m n j tile {xs} {ys} {zs} f s =
-    let s′ : Stretch (0 + j * m) m (λ u. getD tile (j + u * n) 0) ys zs = subst (λ (to : ℕ). Stretch to m (λ u. getD tile (j + u * n) 0) ys zs) (omega arith) s in
-    stretch-up f s′ (λ p h. column-word m n j p tile h) (omega arith) (omega (arith, add-mul j 1 m, one-mul m))
+pub column-more : (at m n j : ℕ) (tile : List ℕ) {xs ys zs : List ℕ} → Filled at 0 (j * m) (turnedWord at m n tile) xs ys
+    → Stretch (at + j * m) m (λ u. getD tile (at + j + u * n) 0) ys zs → Filled at 0 ((j + 1) * m) (turnedWord at m n tile) xs zs
+column-more at m n j tile f s =
+    piece-up (j * m) f s (λ p h. column-word at m n j p tile h) (omega arith) (omega arith) (omega (arith, add-mul j 1 m, one-mul m)) (omega (arith, add-mul j 1 m, one-mul m))
 
--- column j of the tile ends within m by n words
+-- column j of the tile ends within m by n words, and of one that begins at an offset
 pub column-inside : {m n j size : ℕ} → m * n ≤ size → j < n → (u : ℕ) → u < m → j + u * n < size
 column-inside {m} {n} {j} {size} room h u k = omega (arith, digits-lt {q = u} {r = j} k h)
 
--- the words of a block, held in a tile and written turned, are the block turned
-pub tile-turned : {m n : ℕ} {xs ys tile held : List ℕ} → Stretch 0 (m * n) (λ k. getD xs (0 + k) 0) tile held
-    → Stretch 0 (n * m) (turnedWord m n held) xs ys → Turn m n xs ys
-tile-turned {m} {n} {xs} {ys} {tile} {held} c s =
-    from-literal m n xs ys (s .same)
-    (λ i j hi hj.
-    place ys {q = 0 + (j * m + i)} (omega arith)
-    ∙ s .holds (j * m + i) (digits-lt hj hi)
-    ∙ place held {q = 0 + (i * n + j)} (omega (arith, ap₂ (λ (a b : ℕ). a * n + b) (digits-mod j hi) (digits-div j hi)))
-    ∙ c .holds (i * n + j) (digits-lt hi hj)
-    ∙ place xs (omega arith))
-    (λ k h. s .above k (omega (arith, mul-comm m n)))
+pub column-from : (at : ℕ) {m n j size : ℕ} → at + m * n ≤ size → j < n → (u : ℕ) → u < m → at + j + u * n < size
+column-from at {m} {n} {j} {size} room h u k = omega (arith, digits-lt {q = u} {r = j} k h)
 
--- the same row by row: one row more is written, and all of them are the block turned
+-- runs one after the other: run j ends where the next begins, or before
+pub next-run : (size : ℕ) {j k : ℕ} → j < k → j * size + size ≤ k * size
+next-run size {j} {k} h =
+    let s : (j + 1) * size ≤ k * size = mul-le-mul-right size (omega arith) in
+    omega (arith, add-mul j 1 size, one-mul size)
+
+-- rows lifted, one by one, and all at once where an element is a word
+pub lifted-none : {n g : ℕ} {xs tile : List ℕ} → Lifted 0 n g xs tile tile
+lifted-none = record { same = refl; placed = λ i j u h. absurd (omega arith) }
+
+pub lifted-more : {e n g : ℕ} {xs before tile next : List ℕ} → Lifted e n g xs before tile → Stretch (e * (n * g)) (g * n) (turnedWord (e * (n * g)) n g xs) tile next
+    → Lifted (e + 1) n g xs before next
+lifted-more {e} {n} {g} {xs} {before} {tile} {next} l s = record {
+  same = s .same ∙ l .same;
+  placed = λ i j u hi hj hu.
+      let low : u * n + j < g * n = digits-lt hu hj in
+      ⊎-elim
+      (λ (z : i ≡ e). rw z
+      (place next {q = e * (n * g) + (u * n + j)} (omega arith)
+      ∙ s .holds (u * n + j) low
+      ∙ place xs {q = e * (n * g) + (j * g + u)} (omega (arith, ap₂ (λ (a b : ℕ). e * (n * g) + (a * g + b)) (digits-mod u hj) (digits-div u hj)))
+      ∙ place xs (omega arith)))
+      (λ (z : i ≡ e → ⊥).
+      let before-it = next-run (n * g) {j = i} {k = e} (omega arith) in
+      s .below ((i * g + u) * n + j) (omega arith) ∙ l .placed i j u (omega arith) hj hu)
+      (eq-or-ne i e);
+}
+
+pub lifted-words : {m n g : ℕ} {xs before tile : List ℕ} → g ≡ 1 → Stretch 0 (m * (n * g)) (λ k. getD xs (0 + k) 0) before tile → Lifted m n g xs before tile
+lifted-words {m} {n} {g} {xs} {before} {tile} one s = record {
+  same = s .same;
+  placed = λ i j u hi hj hu.
+      let first : u ≡ 0 = omega arith in
+      let low : i * n + j < m * n = digits-lt hi hj in
+      rw (one, first)
+      (place tile {q = 0 + (i * n + j)} (omega arith) ∙ s .holds (i * n + j) (omega (arith, ap (λ (z : ℕ). m * (n * z)) one)) ∙ place xs (omega arith));
+}
+
+-- the rows of a block, lifted into a tile and written turned, are the block turned: column by column, and row by row
+module _ {m n g : ℕ} {xs ys before tile : List ℕ} (l : Lifted m n g xs before tile) where
+  pub tile-turned : Stretch 0 (n * (m * g)) (turnedWord 0 (m * g) n tile) xs ys → GridTurned m n g xs ys
+  tile-turned s =
+      from-words m n g (s .same)
+      (λ i j u hi hj hu.
+      let low : i * g + u < m * g = digits-lt hi hu in
+      place ys {q = 0 + (j * (m * g) + (i * g + u))} (omega arith)
+      ∙ s .holds (j * (m * g) + (i * g + u)) (digits-lt hj low)
+      ∙ place tile {q = (i * g + u) * n + j} (omega (arith, ap₂ (λ (a b : ℕ). 0 + (a * n + b)) (digits-mod j low) (digits-div j low)))
+      ∙ l .placed i j u hi hj hu)
+      (λ k h. s .above k (omega arith))
+
+  pub rows-turned : RowsOut (m * g) (m * g) n tile xs ys → GridTurned m n g xs ys
+  rows-turned a =
+      from-words m n g (a .same)
+      (λ i j u hi hj hu.
+      place ys {q = j * (m * g) + (i * g + u)} (omega arith) ∙ a .placed (i * g + u) j (digits-lt hi hu) hj ∙ l .placed i j u hi hj hu)
+      (λ k h. a .tail k (omega arith))
+
+-- the same row by row: one row more is written
 module _ {m n : ℕ} {tile xs : List ℕ} where
   pub rows-none : RowsOut 0 m n tile xs xs
   rows-none = record { same = refl; placed = λ i j h k. absurd (omega arith); tail = λ k h. refl }
@@ -75,37 +118,49 @@ module _ {m n : ℕ} {tile xs : List ℕ} where
     tail = λ k h. s .others k (λ u hu is. omega (arith, digits-lt {q = u} {r = e} hu low, mul-comm m n)) ∙ a .tail k h;
   }
 
-  pub rows-turned : {ys before : List ℕ} → Stretch 0 (m * n) (λ k. getD xs (0 + k) 0) before tile → RowsOut m m n tile xs ys → Turn m n xs ys
-  rows-turned {ys} c a =
-      from-literal m n xs ys (a .same)
-      (λ i j hi hj. a .placed i j hi hj ∙ place tile {q = 0 + (i * n + j)} (omega arith) ∙ c .holds (i * n + j) (digits-lt hi hj) ∙ place xs (omega arith))
-      (a .tail)
-
 -- block t of y blocks lies in the buffer
 pub block-inside : {y t size : ℕ} (words : ℕ) → y * words ≤ size → t < y → t * words + words ≤ size
-block-inside {y} {t} words room h =
-    let k : (t + 1) * words ≤ y * words = mul-le-mul-right words (omega arith) in
-    omega (arith, add-mul t 1 words, one-mul words)
+block-inside {y} {t} words room h = omega (arith, next-run words {j = t} {k = y} h)
+
+-- how far the products of a small block go
+pub record Sizes (m n g size : ℕ) : Type 0 where
+  pub row : n * g ≤ size
+  pub lines : m * g ≤ size
+  pub places : m * n ≤ size
+
+pub sizes : {y m n g : ℕ} {xs tile : List ℕ} → Held y m n g xs tile → Sizes m n g (length tile)
+sizes {m = m} {n} {g} h =
+    let a = le-mul-of-pos-right (n * g) (h .rows) in
+    let b = le-mul-of-pos-right (m * g) (h .columns) in
+    let c = le-mul-of-pos-right (m * n) (h .words) in
+    record { row = omega (arith, h .room, a); lines = omega (arith, h .room, b); places = omega (arith, h .room, c) }
+
+-- one of many blocks
+pub one-held : (base end : ℕ) (ys : List ℕ) {y m n g : ℕ} {xs tile kept : List ℕ} → Held y m n g xs tile → length kept ≡ length tile → end ≡ base + m * n * g → end ≤ length ys
+    → Held 1 m n g (midOf base (end - base) ys) kept
+one-held base end ys h same is inside = record {
+  rows = h .rows;
+  columns = h .columns;
+  words = h .words;
+  inside = omega (arith, mid-len base end ys inside);
+  room = omega (arith, h .room);
+}
 
 -- one block more is turned
-pub block-more : {m n t : ℕ} {xs ys zs : List ℕ} → TurnedTo m n 1 t xs ys → t * (m * n) + m * n ≤ length ys
-    → Turn m n (midOf (t * (m * n)) (t * (m * n) + m * n - t * (m * n)) ys) zs
-    → TurnedTo m n 1 (t + 1) xs (putMid (t * (m * n)) (t * (m * n) + m * n - t * (m * n)) ys zs)
-block-more {m} {n} {t} {xs} {ys} {zs} a room s =
-    let at : TurnedAt m n 1 (t * (m * n)) ys (putMid (t * (m * n)) (t * (m * n) + m * n - t * (m * n)) ys zs) = part-turned (omega arith) room (turned-words s) in
-    turned-more a (subst (λ (base : ℕ). TurnedAt m n 1 base ys (putMid (t * (m * n)) (t * (m * n) + m * n - t * (m * n)) ys zs)) (omega arith) at)
+pub block-more : {m n g t : ℕ} {xs ys zs : List ℕ} → TurnedTo m n g t xs ys → t * (m * n * g) + m * n * g ≤ length ys
+    → GridTurned m n g (midOf (t * (m * n * g)) (t * (m * n * g) + m * n * g - t * (m * n * g)) ys) zs
+    → TurnedTo m n g (t + 1) xs (putMid (t * (m * n * g)) (t * (m * n * g) + m * n * g - t * (m * n * g)) ys zs)
+block-more a room s = turned-more a (part-turned refl room (laid-turned s))
 
--- all blocks are turned
-pub blocks-all : {y m n : ℕ} {xs ys : List ℕ} → TurnedTo m n 1 y xs ys → BlocksTurned y m n xs ys
-unfolding pick
-blocks-all {y} {m} {n} {xs} {ys} a = record {
-  same = a .same;
-  placed = λ x w. placed x w;
-  tail = λ k h. a .stands k (omega (arith, volume-three y m n));
-}
+-- blocks of one line, turned, are as they were
+pub rows-stand : {y m n g : ℕ} {xs : List ℕ} → m ≡ 1 → BlocksTurned y m n g xs xs
+rows-stand {y} {m} {n} {g} {xs} one = all-turned (record { same = refl; placed = λ k i j u hk hi hj hu. stands k i j u (omega arith); stands = λ p h. refl })
   where
-    placed : (x : List ℕ) → Within (y ∷ m ∷ n ∷ []) x → getD ys (at (pick (0 ∷ 2 ∷ 1 ∷ []) (y ∷ m ∷ n ∷ [])) (pick (0 ∷ 2 ∷ 1 ∷ []) x)) 0 ≡ getD xs (at (y ∷ m ∷ n ∷ []) x) 0
-    placed x (more {x = t} ht (more {x = i} hi (more {x = j} hj none))) =
-        place ys {q = t * (m * n * 1) + ((j * m + i) * 1 + 0)} (omega (arith, at-three y n m t j i))
-        ∙ a .placed t i j 0 ht hi hj (omega arith)
-        ∙ place xs (omega (arith, at-three y m n t i j))
+    stands : (k i j u : ℕ) → i ≡ 0 → getD xs (k * (m * n * g) + ((j * m + i) * g + u)) 0 ≡ getD xs (k * (m * n * g) + ((i * n + j) * g + u)) 0
+    stands k i j u z = rw (z, one) (place xs (omega arith))
+
+pub columns-stand : {y m n g : ℕ} {xs : List ℕ} → n ≡ 1 → BlocksTurned y m n g xs xs
+columns-stand {y} {m} {n} {g} {xs} one = all-turned (record { same = refl; placed = λ k i j u hk hi hj hu. stands k i j u (omega arith); stands = λ p h. refl })
+  where
+    stands : (k i j u : ℕ) → j ≡ 0 → getD xs (k * (m * n * g) + ((j * m + i) * g + u)) 0 ≡ getD xs (k * (m * n * g) + ((i * n + j) * g + u)) 0
+    stands k i j u z = rw (z, one) (place xs (omega arith))
