@@ -14,7 +14,7 @@ use Rattle.halves.specs.Private.{TurnedAt}
 use Rattle.halves.proofs.Blocks.{laid-turned, part-turned, TurnedTo, turned-more, all-turned}
 use Rattle.moves.specs.Stretch.{Stretch}
 use Rattle.strips.specs.Moves.{Scattered, RowsOut, Lifted}
-use Rattle.strips.specs.Bounds.{Held}
+use Rattle.strips.specs.Bounds.{Held, From}
 use Rattle.strips.specs.Steps.{BlocksTurned, GridTurned}
 use Rattle.moves.proofs.Filling.{Filled, nothing-filled, piece-up}
 use Rattle.strips.proofs.Strips.{place, from-words}
@@ -144,6 +144,16 @@ one-held base end ys h same is inside = record {
   words = h .words;
   inside = omega (arith, mid-len base end ys inside);
   room = omega (arith, h .room);
+}
+
+-- blocks of words from an offset on
+pub from-held : {base end y m n : ℕ} {xs tile : List ℕ} → From base y m n xs → m * n ≤ length tile → end ≡ base + y * (m * n) → Held y m n 1 (midOf base (end - base) xs) tile
+from-held {base} {end} {xs = xs} f room is = record {
+  rows = f .rows;
+  columns = f .columns;
+  words = omega arith;
+  inside = omega (arith, mid-len base end xs (omega (arith, f .inside)));
+  room = omega arith;
 }
 
 -- one block more is turned

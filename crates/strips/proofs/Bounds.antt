@@ -1,0 +1,145 @@
+-- The sizes of strips: a tile takes 8 to 64 lines, the long side is cut in as many lines and a rest, and what is left over, the tiles and the marks have room.
+use mathlib.Core.Path.{_≡_, ap, subst, _∙_}
+use mathlib.Core.List.{List}
+use mathlib.Core.Logic.{inl, inr, ⊎-elim}
+use Prim.Native.Nat.{ℕ, _+_, _*_, _-_, _/_, _%_, _<_, _≤_}
+use native.Mathlib.Nat.{mod-lt, div-add-mod', div-lt-iff-lt-mul, mul-le-mul, mul-le-mul-right, le-mul-of-pos-right, mul-pos}
+use native.Mathlib.Omega.{arith}
+use lib.ListN.{length}
+use borrow.Rule.Slice.PartMut.{midOf, mid-len}
+use Rattle.lists.proofs.Decide.{lt-or-ge}
+use Rattle.strips.specs.Bounds.{Held, From, Lines, Strip, Turnable}
+use Rattle.strips.specs.Steps.{BlocksTurned, GridTurned, PartTurned, Widened}
+use Rattle.strips.proofs.Strips.{by-rows, by-columns, joined-turn, parted-turn}
+
+-- as many lines as fit, and no more than 64
+pub lines-all : {x : ℕ} → 0 < x → x ≤ 64 → 512 / x < 64 → Lines x (512 / x)
+lines-all {x} some few less = record {
+  some = ⊎-elim (λ (h : 512 / x < 8). absurd (omega (arith, div-lt-iff-lt-mul some .0 h))) (λ (h : 8 ≤ 512 / x). h) (lt-or-ge (512 / x) 8);
+  few = omega arith;
+  room = omega (arith, div-add-mod' 512 x);
+}
+
+pub lines-most : {x : ℕ} → 64 ≤ 512 / x → Lines x 64
+lines-most {x} many = record { some = omega arith; few = omega arith; room = omega (arith, div-add-mod' 512 x, mul-le-mul-right x many) }
+
+-- a long side in y times s lines and q left over
+pub record Parted (short long g s y q : ℕ) : Type 0 where
+  pub whole : y * s + q ≡ long
+  pub sum : y * s * (short * g) + q * (short * g) ≡ long * (short * g)
+  pub left : q * (short * g) ≤ 512
+  pub some : 0 < y
+  pub far : y ≤ 512
+  pub thin : short ≤ 64
+  pub light : g ≤ 64
+  pub marks : short * y ≤ 32768
+  pub run : y * s * g ≤ 262144
+  pub chunk : s * g ≤ 4096
+  pub rest : q * g ≤ 512
+
+module _ {short long g s : ℕ} {xs tile : List ℕ} (t : Strip short long g xs tile) (l : Lines (short * g) s) where
+  -- no more lines than the long side has
+  reaches : s ≤ long
+  reaches = ⊎-elim (λ (k : long < s). absurd (omega (arith, t .enough, l .room, mul-le-mul-right (short * g) k))) (λ (k : s ≤ long). k) (lt-or-ge long s)
+
+  pub parted : Parted short long g s (long / s) (long % s)
+  parted =
+      let y = long / s in
+      let pos : 0 < s = omega (arith, l .some) in
+      let whole : y * s + long % s ≡ long = div-add-mod' long s in
+      let less : long % s < s = mod-lt long pos in
+      let one : 0 < y = ⊎-elim (λ (h : y < 1). absurd (omega (arith, reaches, div-lt-iff-lt-mul pos .0 h))) (λ (h : 1 ≤ y). h) (lt-or-ge y 1) in
+      let eight : 8 * y ≤ y * s = omega (arith, mul-le-mul-right y (l .some)) in
+      let few : y ≤ 512 = omega (arith, t .far) in
+      let thin : short ≤ 64 = omega (arith, t .narrow, le-mul-of-pos-right short (t .words)) in
+      let up : y * s ≤ 4096 = omega (arith, t .far) in
+      let light : g ≤ 64 = omega (arith, t .narrow, le-mul-of-pos-right g (t .some)) in
+      let left : long % s * (short * g) ≤ 512 = omega (arith, l .room, mul-le-mul-right (short * g) less) in
+      record {
+        whole = whole;
+        sum = omega (arith, ap (λ (z : ℕ). z * (short * g)) whole);
+        left = left;
+        some = one;
+        far = few;
+        thin = thin;
+        light = light;
+        marks = omega (arith, mul-le-mul thin few);
+        run = omega (arith, mul-le-mul up light);
+        chunk = omega (arith, mul-le-mul (l .few) light);
+        rest = omega (arith, left, le-mul-of-pos-right (long % s * g) (t .some));
+      }
+
+-- the steps of a strip have room: of a tall one and of a wide one
+module _ {short long g s y q : ℕ} {xs tile : List ℕ} (t : Strip short long g xs tile) (l : Lines (short * g) s) (p : Parted short long g s y q) where
+  some-lines : 0 < s
+  some-lines = omega (arith, l .some)
+
+  module _ {ys : List ℕ} (same : length ys ≡ length xs) where
+    pub tall-tiles : {room : List ℕ} → length room ≡ length tile → Held y s short g ys room
+    tall-tiles same-room = record {
+      rows = some-lines;
+      columns = t .some;
+      words = t .words;
+      inside = omega (arith, t .inside, p .sum);
+      room = omega (arith, t .room, l .room);
+    }
+
+    pub wide-tiles : {room : List ℕ} → length room ≡ length tile → Held y short s g ys room
+    wide-tiles same-room = record {
+      rows = t .some;
+      columns = some-lines;
+      words = t .words;
+      inside = omega (arith, t .inside, p .sum);
+      room = omega (arith, t .room, l .room);
+    }
+
+    pub tall-grid : {room : List ℕ} → length room ≡ length tile → Turnable y short (s * g) ys room
+    tall-grid same-room = record {
+      some-rows = p .some;
+      some-columns = t .some;
+      far-rows = omega (arith, p .far);
+      far-columns = omega (arith, p .thin);
+      few = omega (arith, p .marks);
+      some-words = mul-pos some-lines (t .words);
+      inside = omega (arith, t .inside, p .sum);
+      marked = omega (arith, p .marks, t .room);
+    }
+
+    pub wide-grid : {room : List ℕ} → length room ≡ length tile → Turnable short y (s * g) ys room
+    wide-grid same-room = record {
+      some-rows = t .some;
+      some-columns = p .some;
+      far-rows = omega (arith, p .thin);
+      far-columns = omega (arith, p .far);
+      few = omega (arith, p .marks);
+      some-words = mul-pos some-lines (t .words);
+      inside = omega (arith, t .inside, p .sum);
+      marked = omega (arith, p .marks, t .room);
+    }
+
+    pub tall-rest : From (short * (y * s * g)) q short g ys
+    tall-rest = record {
+      rows = t .some;
+      columns = t .words;
+      far-rows = omega (arith, p .thin);
+      far-columns = omega (arith, p .light);
+      inside = omega (arith, t .inside, p .sum);
+    }
+
+    pub wide-rest : From (short * (y * s * g)) q g short ys
+    wide-rest = record {
+      rows = t .words;
+      columns = t .some;
+      far-rows = omega (arith, p .light);
+      far-columns = omega (arith, p .thin);
+      inside = omega (arith, t .inside, p .sum);
+    }
+
+-- the steps of a strip are its turn: of a tall one and of a wide one
+pub tall-turned : {m n g s y q : ℕ} {xs vs ws ys zs : List ℕ} → y * s + q ≡ m → BlocksTurned y s n g xs vs → GridTurned y n (s * g) vs ws
+    → PartTurned (n * (y * s * g)) q n g ws ys → Widened n (y * s * g) (q * g) ys zs → GridTurned m n g xs zs
+tall-turned {n = n} {g} {xs = xs} {zs = zs} whole b t a w = subst (λ (k : ℕ). GridTurned k n g xs zs) whole (joined-turn (by-rows b t) a w)
+
+pub wide-turned : {m n g s y q : ℕ} {xs vs ws ys zs : List ℕ} → y * s + q ≡ n → Widened m (y * s * g) (q * g) vs xs → PartTurned (m * (y * s * g)) q g m vs ws
+    → GridTurned m y (s * g) ws ys → BlocksTurned y m s g ys zs → GridTurned m n g xs zs
+wide-turned {m} {g = g} {xs = xs} {zs = zs} whole w a t b = subst (λ (k : ℕ). GridTurned m k g xs zs) whole (parted-turn w a (by-columns t b))
