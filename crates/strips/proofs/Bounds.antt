@@ -1,16 +1,16 @@
 -- The sizes of strips: a tile takes 8 to 64 lines, the long side is cut in as many lines and a rest, and what is left over, the tiles and the marks have room.
-use mathlib.Core.Path.{_≡_, ap, subst, _∙_}
+use mathlib.Core.Path.{_≡_, refl, ap, subst, _∙_}
 use mathlib.Core.List.{List}
-use mathlib.Core.Logic.{inl, inr, ⊎-elim}
+use mathlib.Core.Logic.{_⊎_, inl, inr, ⊎-elim}
 use Prim.Native.Nat.{ℕ, _+_, _*_, _-_, _/_, _%_, _<_, _≤_}
 use native.Mathlib.Nat.{mod-lt, div-add-mod', div-lt-iff-lt-mul, mul-le-mul, mul-le-mul-right, le-mul-of-pos-right, mul-pos}
 use native.Mathlib.Omega.{arith}
-use lib.ListN.{length}
+use lib.ListN.{length, getD}
 use borrow.Rule.Slice.PartMut.{midOf, mid-len}
 use Rattle.lists.proofs.Decide.{lt-or-ge}
-use Rattle.strips.specs.Bounds.{Held, From, Lines, Strip, Turnable}
+use Rattle.strips.specs.Bounds.{Held, From, Lines, Strip, Narrow, Turnable}
 use Rattle.strips.specs.Steps.{BlocksTurned, GridTurned, PartTurned, Widened}
-use Rattle.strips.proofs.Strips.{by-rows, by-columns, joined-turn, parted-turn}
+use Rattle.strips.proofs.Strips.{place, from-words, grid-home, by-rows, by-columns, joined-turn, parted-turn}
 
 -- as many lines as fit, and no more than 64
 pub lines-all : {x : ℕ} → 0 < x → x ≤ 64 → 512 / x < 64 → Lines x (512 / x)
@@ -143,3 +143,80 @@ tall-turned {n = n} {g} {xs = xs} {zs = zs} whole b t a w = subst (λ (k : ℕ).
 pub wide-turned : {m n g s y q : ℕ} {xs vs ws ys zs : List ℕ} → y * s + q ≡ n → Widened m (y * s * g) (q * g) vs xs → PartTurned (m * (y * s * g)) q g m vs ws
     → GridTurned m y (s * g) ws ys → BlocksTurned y m s g ys zs → GridTurned m n g xs zs
 wide-turned {m} {g = g} {xs = xs} {zs = zs} whole w a t b = subst (λ (k : ℕ). GridTurned m k g xs zs) whole (parted-turn w a (by-columns t b))
+
+-- what a block with a short line is: a single line is turned as it stands, and else it is small, tall or wide
+pub row-turned : {m n g : ℕ} {xs : List ℕ} → m ≡ 1 → GridTurned m n g xs xs
+row-turned {m} {n} {g} {xs} one = from-words m n g refl (λ i j u hi hj hu. stands i j u (omega arith)) (λ k h. refl)
+  where
+    stands : (i j u : ℕ) → i ≡ 0 → getD xs ((j * m + i) * g + u) 0 ≡ getD xs ((i * n + j) * g + u) 0
+    stands i j u z = rw (z, one) (place xs (omega arith))
+
+pub column-turned : {m n g : ℕ} {xs : List ℕ} → n ≡ 1 → GridTurned m n g xs xs
+column-turned one = grid-home (row-turned one)
+
+module _ {y m n g : ℕ} {xs tile : List ℕ} (t : Narrow y m n g xs tile) where
+  -- a side times an element is no more words than the block of 4,096 lines of 64
+  pub light : g ≤ 64
+  light = ⊎-elim
+      (λ (h : m * g ≤ 64). omega (arith, le-mul-of-pos-right g (t .rows)))
+      (λ (h : n * g ≤ 64). omega (arith, le-mul-of-pos-right g (t .columns)))
+      (t .narrow)
+
+  pub narrow-places : m * n ≤ 16777216
+  narrow-places = omega (arith, mul-le-mul (t .far-rows) (t .far-columns))
+
+  pub narrow-words : m * n * g ≤ 1073741824
+  narrow-words = omega (arith, mul-le-mul narrow-places light)
+
+  -- one of many blocks
+  pub one-narrow : (base end : ℕ) (ys : List ℕ) {kept : List ℕ} → length kept ≡ length tile → end ≡ base + m * n * g → end ≤ length ys → Narrow 1 m n g (midOf base (end - base) ys) kept
+  one-narrow base end ys same is inside = record {
+    rows = t .rows;
+    columns = t .columns;
+    words = t .words;
+    far-rows = t .far-rows;
+    far-columns = t .far-columns;
+    narrow = t .narrow;
+    inside = omega (arith, mid-len base end ys inside);
+    room = same ∙ t .room;
+  }
+
+module _ {m n g : ℕ} {xs tile : List ℕ} (t : Narrow 1 m n g xs tile) where
+  pub narrow-small : m * n * g ≤ 512 → Held 1 m n g xs tile
+  narrow-small few = record { rows = t .rows; columns = t .columns; words = t .words; inside = t .inside; room = omega (arith, t .room) }
+
+  pub narrow-tall : n ≤ m → 512 < m * n * g → Strip n m g xs tile
+  narrow-tall less many = record {
+    some = t .columns;
+    words = t .words;
+    narrow = ⊎-elim (λ (h : m * g ≤ 64). omega (arith, mul-le-mul-right g less)) (λ (h : n * g ≤ 64). h) (t .narrow);
+    far = t .far-rows;
+    enough = omega arith;
+    inside = omega (arith, t .inside);
+    room = t .room;
+  }
+
+  pub narrow-wide : m ≤ n → 512 < m * n * g → Strip m n g xs tile
+  narrow-wide less many = record {
+    some = t .rows;
+    words = t .words;
+    narrow = ⊎-elim (λ (h : m * g ≤ 64). h) (λ (h : n * g ≤ 64). omega (arith, mul-le-mul-right g less)) (t .narrow);
+    far = t .far-columns;
+    enough = omega arith;
+    inside = omega (arith, t .inside);
+    room = t .room;
+  }
+
+-- blocks of words from an offset on
+pub from-narrow : {base end y m n : ℕ} {xs tile : List ℕ} → From base y m n xs → (m ≤ 64) ⊎ (n ≤ 64) → length tile ≡ 1024 → end ≡ base + y * (m * n)
+    → Narrow y m n 1 (midOf base (end - base) xs) tile
+from-narrow {base} {end} {xs = xs} f short room is = record {
+  rows = f .rows;
+  columns = f .columns;
+  words = omega arith;
+  far-rows = f .far-rows;
+  far-columns = f .far-columns;
+  narrow = ⊎-elim (λ h. inl (omega arith)) (λ h. inr (omega arith)) short;
+  inside = omega (arith, mid-len base end xs (omega (arith, f .inside)));
+  room = room;
+}

@@ -1,0 +1,28 @@
+-- `strip::turned` meets its contract: in each case what is called asks no more than is known there.
+use mathlib.Core.Path.{refl}
+use native.Mathlib.Omega.{arith}
+use borrow.Author.Needs.{needs}
+use Rattle.strips.proofs.Bounds.{row-turned, column-turned, narrow-places, narrow-words, narrow-small, narrow-tall, narrow-wide}
+use Rattle.strips.proofs.strip.turned.Statement.{statement}
+use Rattle.strips.proofs.strip.turned.Tie as tie
+
+pub turned-spec : {M : Type 1} → statement M
+turned-spec =
+    tie.close
+    (tie.spec
+    (λ c. (row-turned (search), refl))
+    (λ c. (column-turned (search), refl))
+    (λ c. let s : tie.Start = search in record { fits = omega (arith, narrow-places (s .pre)) })
+    (λ c. let s : tie.Start = search in record { fits = omega (arith, narrow-words (s .pre)) })
+    (λ c κs. let s : tie.Start = search in narrow-small (s .pre) (search))
+    (search needs)
+    (search needs)
+    (λ c. let k : tie.After-small = search in k .small .ensures)
+    (λ c κs. let s : tie.Start = search in narrow-tall (s .pre) (search) (search))
+    (search needs)
+    (search needs)
+    (λ c. let k : tie.After-tall-strip = search in k .tall-strip .ensures)
+    (λ c κs. let s : tie.Start = search in narrow-wide (s .pre) (omega arith) (search))
+    (search needs)
+    (search needs)
+    (λ c. let k : tie.After-wide-strip = search in k .wide-strip .ensures))
