@@ -1,0 +1,8 @@
+-- marks, one bit a place
+pub mod Bits
+-- a cycle followed from its first place on: what the marks tell
+pub mod Chasing
+-- the slices of the chunks meanwhile
+pub mod Slices
+-- cycle after cycle, and slice after slice: the block is turned
+pub mod Turned

@@ -1,0 +1,149 @@
+-- Cycle after cycle, and slice after slice. Before a slice no place is marked; at its end all are but the first and the last, whose source they are themselves.
+-- So each place has the slice of its source; once all slices have gone it has the whole chunk, and that is the layout whose first two axes are
+-- exchanged.
+use mathlib.Core.Path.{_≡_, refl, sym, ap, ap₂, _∙_}
+use mathlib.Core.Bool.{true, false}
+use mathlib.Core.List.{List, [], _∷_}
+use mathlib.Core.Logic.{⊎-elim}
+use Prim.Native.Nat.{ℕ, _+_, _*_, _-_, _/_, _%_, _<_, _≤_}
+use native.Mathlib.Nat.{mod-lt, mod-eq-of-lt, div-eq-of-lt, div-add-mod', zero-div, mul-comm, mul-le-mul}
+use native.Mathlib.Omega.{arith}
+use lib.Arith.{digits-div, digits-mod, digits-lt}
+use lib.ListN.{length, getD}
+use Rattle.lists.proofs.Decide.{decided, eq-or-ne, lt-or-ge}
+use Rattle.layout.specs.Layout.{Within, at, pick, volume}
+use Rattle.layout.specs.Layout.Within.{none, more}
+use Rattle.orbits.specs.Cycles.{takes}
+use Rattle.orbits.specs.Private.{Small}
+use Rattle.orbits.proofs.Stepping.{columns}
+use Rattle.orbits.proofs.Takes.{takes-permutes, takes-split, takes-last}
+use Rattle.moves.specs.Stretch.{Stretch}
+use Rattle.grids.specs.Grids.{GridTurned}
+use Rattle.grids.specs.Promises.{Turnable}
+use Rattle.grids.specs.Private.{bitAt, Level, Beside, Settled, Sliced}
+use Rattle.grids.proofs.Bits.{both, bit-none}
+
+-- the same word by two names of its offset
+place : (l : List ℕ) {p q : ℕ} → p ≡ q → getD l p 0 ≡ getD l q 0
+place l e = ap (λ (z : ℕ). getD l z 0) e
+
+-- a block that can be turned, with rows and columns exchanged
+module _ {m n chunk : ℕ} {xs marks : List ℕ} (t : Turnable m n chunk xs marks) where
+  pub grid-small : Small n m
+  grid-small = record { some = omega (arith, mul-le-mul (t .some-columns) (t .some-rows)); few = omega (arith, t .few, mul-comm n m) }
+
+  pub grid-inside : n * m * chunk ≤ length xs
+  grid-inside = rw (mul-comm n m) (t .inside)
+
+  pub grid-marked : n * m ≤ 32 * length marks
+  grid-marked = rw (mul-comm n m) (t .marked)
+
+-- a place that has been asked about is marked
+pub asked-more : (p : ℕ) (marks : List ℕ) → ((k : ℕ) → 0 < k → k < p → bitAt marks k ≡ true) → bitAt marks p ≡ true → (k : ℕ) → 0 < k → k < p + 1 → bitAt marks k ≡ true
+asked-more p marks all here k some h = ⊎-elim (λ (e : k ≡ p). ap (bitAt marks) e ∙ here) (λ (ne : k ≡ p → ⊥). all k some (omega arith)) (eq-or-ne k p)
+
+-- the words and the offsets of three axes
+volume-three : (a b c : ℕ) → volume (a ∷ b ∷ c ∷ []) ≡ a * b * c
+unfolding volume
+volume-three a b c = omega arith
+
+at-three : (a b c i j u : ℕ) → at (a ∷ b ∷ c ∷ []) (i ∷ j ∷ u ∷ []) ≡ (i * b + j) * c + u
+unfolding at volume
+at-three a b c i j u = omega arith
+
+module _ (n m : ℕ) where
+  pub none-marked : {before marks : List ℕ} → Stretch 0 ((n * m + 31) / 32) (λ u. 0) before marks → (q : ℕ) → q < n * m → bitAt marks q ≡ false
+  none-marked {before} {marks} s q h = bit-none marks q (place marks {q = 0 + q / 32} (omega arith) ∙ s .holds (q / 32) (omega arith))
+
+  pub level-none : (marks : List ℕ) → ((q : ℕ) → q < n * m → bitAt marks q ≡ false) → Level (takes n m) (n * m) marks
+  level-none marks free p h = free (takes n m p) (takes-permutes n m .within p h) ∙ sym (free p h)
+
+  pub settled-none : {w lo count : ℕ} {xs marks : List ℕ} → ((q : ℕ) → q < n * m → bitAt marks q ≡ false) → Settled n m w lo count xs marks xs
+  settled-none {marks = marks} free = record {
+    same = refl;
+    gone = λ p u h k t. both marks p t (free p h);
+    stand = λ p u h k e. refl;
+    others = λ k h. refl;
+  }
+
+  -- the first place is its own source
+  first-stays : 0 < m → 0 < n * m → takes n m 0 ≡ 0
+  first-stays some words = takes-split n m 0 some words ∙ ap₂ (λ (a b : ℕ). a * n + b) (mod-eq-of-lt some) (zero-div m) ∙ omega arith
+
+  -- all places between the first and the last are marked
+  pub settled-all : {w lo count p : ℕ} {xs marks ys : List ℕ} → Small n m → n * m - 1 ≤ p → ((k : ℕ) → 0 < k → k < p → bitAt marks k ≡ true) → Settled n m w lo count xs marks ys
+      → Sliced n m w lo count xs ys
+  settled-all {w} {lo} {count} {p} {xs} {marks} {ys} small last all s = record { same = s .same; gone = slice; others = s .others }
+    where
+      own : (q : ℕ) → q < n * m → bitAt marks q ≡ false → takes n m q ≡ q
+      own q h e = ⊎-elim
+          (λ (l : q < p). ⊎-elim
+          (λ (z : q ≡ 0). ap (takes n m) z ∙ first-stays (columns small) (small .some) ∙ sym z)
+          (λ (ne : q ≡ 0 → ⊥). both marks q (all q (omega arith) l) e)
+          (eq-or-ne q 0))
+          (λ (l : p ≤ q). takes-last n m q (omega arith))
+          (lt-or-ge q p)
+
+      slice : (q u : ℕ) → q < n * m → u < count → getD ys (q * w + lo + u) 0 ≡ getD xs (takes n m q * w + lo + u) 0
+      slice q u h k = decided (bitAt marks q) (λ t. s .gone q u h k t) (λ e. s .stand q u h k e ∙ ap (λ (z : ℕ). getD xs (z * w + lo + u) 0) (sym (own q h e)))
+
+  pub sliced-none : {w : ℕ} {xs : List ℕ} → Sliced n m w 0 0 xs xs
+  sliced-none = record { same = refl; gone = λ p u h k. absurd (omega arith); others = λ k h. refl }
+
+  -- word u of one chunk is no word v of another
+  other-word : (w p q u v : ℕ) → u < w → v < w → (u ≡ v → ⊥) → p * w + u ≡ q * w + v → ⊥
+  other-word w p q u v hu hv ne e = ne (sym (digits-mod p hu) ∙ ap (λ (z : ℕ). z % w) e ∙ digits-mod q hv)
+
+  -- one slice more
+  pub sliced-more : {w lo count hi : ℕ} {xs ys zs : List ℕ} → lo + count ≡ hi → hi ≤ w → Sliced n m w 0 lo xs ys → Sliced n m w lo count ys zs → Sliced n m w 0 hi xs zs
+  sliced-more {w} {lo} {count} {hi} {xs} {ys} {zs} all inside a b = record {
+    same = b .same ∙ a .same;
+    gone = λ p u h k. ⊎-elim
+        (λ (l : u < lo). b .others (p * w + 0 + u) (λ q v low short e. other-word w p q u (lo + v) (omega arith) (omega arith) (λ z. omega arith) (omega arith)) ∙ a .gone p u h l)
+        (λ (l : lo ≤ u).
+        let from = takes n m p in
+        place zs {q = p * w + lo + (u - lo)} (omega arith)
+        ∙ b .gone p (u - lo) h (omega arith)
+        ∙ a .others (from * w + lo + (u - lo)) (λ q v low short e. other-word w from q u v (omega arith) (omega arith) (λ z. omega arith) (omega arith))
+        ∙ place xs (omega arith))
+        (lt-or-ge u lo);
+    others = λ k beside.
+        b .others k (λ p u h l e. beside p (lo + u) h (omega arith) (omega arith))
+        ∙ a .others k (λ p u h l e. beside p u h (omega arith) e);
+  }
+
+  -- each place has the chunk of its source: the block is turned
+  pub sliced-all : {w hi : ℕ} {xs ys : List ℕ} → 0 < m → hi ≡ w → Sliced n m w 0 hi xs ys → GridTurned m n w xs ys
+  unfolding pick
+  sliced-all {w} {hi} {xs} {ys} some all s = record {
+    same = s .same;
+    placed = λ x i. placed x i;
+    tail = λ k h. s .others k (λ p u low short e. omega (arith, volume-three m n w, ap (λ (z : ℕ). z * w) (mul-comm m n), past p u low short));
+  }
+    where
+      past : (p u : ℕ) → p < n * m → u < hi → p * w + u < n * m * w
+      past p u low short = digits-lt low (omega arith)
+
+      chunk : (p u : ℕ) → p < n * m → u < w → getD ys (p * w + u) 0 ≡ getD xs (takes n m p * w + u) 0
+      chunk p u h k = place ys (omega arith) ∙ s .gone p u h (omega arith) ∙ place xs (omega arith)
+
+      placed : (x : List ℕ) → Within (m ∷ n ∷ w ∷ []) x → getD ys (at (pick (1 ∷ 0 ∷ 2 ∷ []) (m ∷ n ∷ w ∷ [])) (pick (1 ∷ 0 ∷ 2 ∷ []) x)) 0 ≡ getD xs (at (m ∷ n ∷ w ∷ []) x) 0
+      placed x (more {x = i} hi (more {x = j} hj (more {x = u} hu none))) =
+          let low : j * m + i < n * m = digits-lt hj hi in
+          let from : takes n m (j * m + i) ≡ i * n + j = takes-split n m (j * m + i) some low ∙ ap₂ (λ (a b : ℕ). a * n + b) (digits-mod j hi) (digits-div j hi) in
+          place ys (at-three n m w j i u) ∙ chunk (j * m + i) u low hu ∙ ap (λ (z : ℕ). getD xs (z * w + u) 0) from ∙ place xs (sym (at-three m n w i j u))
+
+  -- where a side is 1 every chunk stays
+  stays : {w : ℕ} {xs : List ℕ} → 0 < m → ((p : ℕ) → p < n * m → takes n m p ≡ p) → GridTurned m n w xs xs
+  stays {w} {xs} some own =
+      sliced-all some refl record { same = refl; gone = λ p u h k. ap (λ (z : ℕ). getD xs (z * w + 0 + u) 0) (sym (own p h)); others = λ k h. refl }
+
+  pub one-row : {w : ℕ} {xs : List ℕ} → m ≡ 1 → GridTurned m n w xs xs
+  one-row e = stays (omega arith) (λ p h.
+      let rest : p % m ≡ 0 = omega (arith, mod-lt p {m = m} (omega arith)) in
+      takes-split n m p (omega arith) h ∙ ap (λ (z : ℕ). z * n + p / m) rest ∙ omega (arith, div-add-mod' p m, ap (λ (z : ℕ). p / m * z) e))
+
+  pub one-column : {w : ℕ} {xs : List ℕ} → 0 < m → n ≡ 1 → GridTurned m n w xs xs
+  one-column some e = stays some (λ p h.
+      let low : p < m = omega (arith, ap (λ (z : ℕ). z * m) e) in
+      takes-split n m p some h ∙ ap₂ (λ (a b : ℕ). a * n + b) (mod-eq-of-lt low) (div-eq-of-lt low) ∙ ap (λ (z : ℕ). p * z + 0) e ∙ omega arith)

@@ -1,0 +1,95 @@
+-- `chunks::slice` meets its contract. The loop keeps that marked places have the slices of their sources and that those asked about are marked; the
+-- measure is how many are left.
+use mathlib.Core.Path.{_≡_, refl, sym, _∙_}
+use mathlib.Core.Bool.{true}
+use Prim.Native.Nat.{ℕ, _+_, _*_, _-_, _<_, _≤_}
+use native.Mathlib.Omega.{arith}
+use lib.ListN.{length}
+use borrow.Author.Needs.{needs}
+use Rattle.lists.proofs.Via.{via}
+use Rattle.orbits.specs.Cycles.{takes}
+use Rattle.grids.specs.Private.{bitAt, Level, Settled}
+use Rattle.grids.proofs.Slices.{fits-also}
+use Rattle.grids.proofs.Turned.{none-marked, level-none, settled-none, asked-more, settled-all}
+use Rattle.grids.proofs.chunks.slice.Statement.{statement}
+use Rattle.grids.proofs.chunks.slice.Tie as tie
+
+abbrev Inv-loop : tie.InvT-loop
+Inv-loop buf₀ marks₀ kept₀ g last p₀ buf marks kept p =
+    Settled (g .n) (g .m) (g .chunk) (g .lo) (g .count) buf₀ marks buf
+    × Level (takes (g .n) (g .m)) (g .n * g .m) marks
+    × (length marks ≡ length marks₀)
+    × (length kept ≡ length kept₀)
+    × (0 < p)
+    × ((k : ℕ) → 0 < k → k < p → bitAt marks k ≡ true)
+
+abbrev μ-loop : tie.MeasureT-loop
+μ-loop buf₀ marks₀ kept₀ g last p₀ buf marks kept p = last - p
+
+abbrev Loop : Type 0
+Loop = tie.At-loop Inv-loop μ-loop
+
+abbrev Begin : Type 0
+Begin = tie.Start Inv-loop μ-loop
+
+loop-holds : tie.Need-loop-holds Inv-loop μ-loop
+loop-holds c =
+    let z : tie.After-zero Inv-loop μ-loop = search in
+    let s : Begin = search in
+    let free = none-marked (s .args .g .n) (s .args .g .m) (z .zero .ensures .inside (omega (arith, s .pre .1))) in
+    (settled-none _ _ free, level-none _ _ _ free, refl, refl, omega arith, λ k a b. absurd (omega arith))
+
+loop-again : tie.Need-loop-again Inv-loop μ-loop
+loop-again c =
+    let l : Loop = search in
+    let i = l .loop .inv in
+    (i .0, i .1, i .2, i .3, omega arith, asked-more _ _ (i .5) (search via))
+
+follow-requires : tie.Need-follow-requires Inv-loop μ-loop
+follow-requires c κs =
+    let e : tie.Else1 Inv-loop μ-loop = search in
+    let k : tie.After-marked Inv-loop μ-loop = search in
+    let l : Loop = search in
+    let s : Begin = search in
+    let i = l .loop .inv in
+    ((fits-also (s .pre .0) (i .0 .same), omega (arith, i .2, s .pre .1), i .3 ∙ s .pre .2), (i .1, omega arith, sym (k .marked .ensures) ∙ e .if1 .left))
+
+loop-again-2 : tie.Need-loop-again-2 Inv-loop μ-loop
+loop-again-2 c =
+    let f : tie.After-follow Inv-loop μ-loop = search in
+    let l : Loop = search in
+    let i = l .loop .inv in
+    let t = f .follow .ensures in
+    (t .settled _ (i .0), t .level, t .same-marks ∙ i .2, omega (arith, i .3), omega arith, asked-more _ _ (λ k a b. t .kept k (i .5 k a b)) (t .here))
+
+returns : tie.Need-returns Inv-loop μ-loop
+returns c =
+    let l : Loop = search in
+    let s : Begin = search in
+    let i = l .loop .inv in
+    settled-all _ _ (s .pre .0 .follows .small) (omega arith) (i .5) (i .0)
+
+pub slice-spec : {M : Type 1} → statement M
+slice-spec =
+    tie.close
+    (tie.spec
+    Inv-loop
+    μ-loop
+    (λ c. let s : Begin = search in omega (arith, s .pre .0 .follows .small .few))
+    (λ c. let s : Begin = search in omega (arith, s .pre .0 .follows .small .some))
+    (λ c. let s : Begin = search in omega (arith, s .pre .0 .follows .small .few))
+    (λ c. let s : Begin = search in omega (arith, s .pre .0 .follows .small .few))
+    (search needs)
+    loop-holds
+    (λ c κs. let l : Loop = search in let s : Begin = search in omega (arith, l .loop .inv .2, s .pre .1))
+    (search needs)
+    (search needs)
+    loop-again
+    follow-requires
+    (search needs)
+    (search needs)
+    loop-again-2
+    (search needs)
+    (search needs)
+    (search needs)
+    returns)

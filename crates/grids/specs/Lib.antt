@@ -1,0 +1,3 @@
+pub mod Grids
+pub mod Promises
+pub mod Private

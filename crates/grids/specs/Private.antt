@@ -1,0 +1,63 @@
+-- These definitions serve only the contracts of private functions: a reader of the promises can pass over them.
+-- A block of chunks that is turned along the cycles of its turn, a slice of every chunk at a time, and what the marks tell meanwhile.
+use mathlib.Core.Path.{_≡_}
+use mathlib.Core.Bool.{Bool, true, false}
+use mathlib.Core.List.{List}
+use Prim.Native.Nat.{ℕ, _+_, _*_, _/_, _%_, _^_, _<_, _≤_}
+use lib.Dec.{eqb}
+use lib.ListN.{length, getD}
+use Rattle.orbits.specs.Private.{Small, Reciprocal}
+use Rattle.orbits.specs.Cycles.{takes}
+use Rattle.grids.specs.declared.chunks.Grid.{Grid}
+
+-- whether a place is marked: its bit of its word is 1
+unfoldable pub bitAt : List ℕ → ℕ → Bool
+bitAt marks place = eqb (getD marks (place / 32) 0 / 2 ^ (place % 32) % 2) 1
+
+-- a place is marked, every other is as it was
+pub record MarkedToo (place : ℕ) (before after : List ℕ) : Type 0 where
+  pub same : length after ≡ length before
+  pub here : bitAt after place ≡ true
+  pub others : (q : ℕ) → (q ≡ place → ⊥) → bitAt after q ≡ bitAt before q
+
+-- the sources of a grid's places can be found
+pub record Follows (g : Grid) : Type 0 where
+  pub small : Small (g .n) (g .m)
+  pub inverse : Reciprocal (g .m) (g .inverse)
+
+-- and its chunks lie in the words, with a slice of at most 80 words in each
+pub record Fits (g : Grid) (xs : List ℕ) : Type 0 where
+  pub follows : Follows g
+  pub inside : g .n * g .m * g .chunk ≤ length xs
+  pub slice : g .lo + g .count ≤ g .chunk
+  pub short : g .count ≤ 80
+
+-- a place is marked where its source is
+abbrev pub Level : (ℕ → ℕ) → ℕ → List ℕ → Type 0
+Level source places marks = (p : ℕ) → p < places → bitAt marks (source p) ≡ bitAt marks p
+
+-- a word lies outside the slice of count words from lo on of each chunk
+abbrev pub Beside : ℕ → ℕ → ℕ → ℕ → ℕ → Type 0
+Beside places w lo count k = (p u : ℕ) → p < places → u < count → k ≡ p * w + lo + u → ⊥
+
+-- in its slice a marked place has the words that its source had, one that is not marked has its own; words outside the slices stand
+pub record Settled (n m w lo count : ℕ) (xs marks ys : List ℕ) : Type 0 where
+  pub same : length ys ≡ length xs
+  pub gone : (p u : ℕ) → p < n * m → u < count → bitAt marks p ≡ true → getD ys (p * w + lo + u) 0 ≡ getD xs (takes n m p * w + lo + u) 0
+  pub stand : (p u : ℕ) → p < n * m → u < count → bitAt marks p ≡ false → getD ys (p * w + lo + u) 0 ≡ getD xs (p * w + lo + u) 0
+  pub others : (k : ℕ) → Beside (n * m) w lo count k → getD ys k 0 ≡ getD xs k 0
+
+-- the slices on the cycle of `first` have gone along it, and its places are marked
+pub record Toured (n m w lo count first : ℕ) (ys marks zs marked : List ℕ) : Type 0 where
+  pub settled : (xs : List ℕ) → Settled n m w lo count xs marks ys → Settled n m w lo count xs marked zs
+  pub same : length zs ≡ length ys
+  pub same-marks : length marked ≡ length marks
+  pub level : Level (takes n m) (n * m) marked
+  pub here : bitAt marked first ≡ true
+  pub kept : (q : ℕ) → bitAt marks q ≡ true → bitAt marked q ≡ true
+
+-- every place has the words of its source in its slice; words outside the slices stand
+pub record Sliced (n m w lo count : ℕ) (xs ys : List ℕ) : Type 0 where
+  pub same : length ys ≡ length xs
+  pub gone : (p u : ℕ) → p < n * m → u < count → getD ys (p * w + lo + u) 0 ≡ getD xs (takes n m p * w + lo + u) 0
+  pub others : (k : ℕ) → Beside (n * m) w lo count k → getD ys k 0 ≡ getD xs k 0
