@@ -1,15 +1,19 @@
 -- The sizes of strips: a tile takes 8 to 64 lines, the long side is cut in as many lines and a rest, and what is left over, the tiles and the marks have room.
 use mathlib.Core.Path.{_≡_, refl, ap, subst, _∙_}
-use mathlib.Core.List.{List}
+use mathlib.Core.List.{List, _++_}
 use mathlib.Core.Logic.{_⊎_, inl, inr, ⊎-elim}
 use Prim.Native.Nat.{ℕ, _+_, _*_, _-_, _/_, _%_, _<_, _≤_}
 use native.Mathlib.Nat.{mod-lt, div-add-mod', div-lt-iff-lt-mul, mul-le-mul, mul-le-mul-right, le-mul-of-pos-right, mul-pos}
 use native.Mathlib.Omega.{arith}
-use lib.ListN.{length, getD}
+use lib.ListN.{length, getD, take, drop, replicate, length-replicate}
+use lib.Seq.{length-take-le}
 use borrow.Rule.Slice.PartMut.{midOf, mid-len}
 use Rattle.lists.proofs.Decide.{lt-or-ge}
-use Rattle.strips.specs.Bounds.{Held, From, Lines, Strip, Narrow, Turnable}
-use Rattle.strips.specs.Steps.{BlocksTurned, GridTurned, PartTurned, Widened}
+use Rattle.grids.specs.Promises.{Turnable}
+use Rattle.halves.proofs.Parts.{whole}
+use Rattle.strips.specs.Bounds.{Held, From, Lines, Strip, Narrow}
+use Rattle.grids.specs.Grids.{GridTurned}
+use Rattle.strips.specs.Steps.{BlocksTurned, PartTurned, Widened}
 use Rattle.strips.proofs.Strips.{place, from-words, grid-home, by-rows, by-columns, joined-turn, parted-turn}
 
 -- as many lines as fit, and no more than 64
@@ -68,6 +72,22 @@ module _ {short long g s : ℕ} {xs tile : List ℕ} (t : Strip short long g xs 
         chunk = omega (arith, mul-le-mul (l .few) light);
         rest = omega (arith, left, le-mul-of-pos-right (long % s * g) (t .some));
       }
+
+-- marks enough are a part of the room
+pub lent-turnable : {m n chunk k : ℕ} {xs room : List ℕ} → Turnable m n chunk xs room → m * n ≤ 32 * k → k ≤ length room → Turnable m n chunk xs (take k room)
+lent-turnable {k = k} {room = room} t enough inside = record {
+  some-rows = t .some-rows;
+  some-columns = t .some-columns;
+  far-rows = t .far-rows;
+  far-columns = t .far-columns;
+  few = t .few;
+  some-words = t .some-words;
+  inside = t .inside;
+  marked = omega (arith, length-take-le k room inside);
+}
+
+pub lent-back : (k : ℕ) (room : List ℕ) {marks : List ℕ} → marks ≡ replicate (length (take k room)) 0 → k ≤ length room → length (marks ++ drop k room) ≡ length room
+lent-back k room {marks} zero inside = whole k room marks inside (ap length zero ∙ length-replicate _ _)
 
 -- the steps of a strip have room: of a tall one and of a wide one
 module _ {short long g s y q : ℕ} {xs tile : List ℕ} (t : Strip short long g xs tile) (l : Lines (short * g) s) (p : Parted short long g s y q) where

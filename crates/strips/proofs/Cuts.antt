@@ -7,8 +7,10 @@ use native.Mathlib.Nat.{div-add-mod', div-lt-iff-lt-mul, mod-lt, mul-le-mul, mul
 use native.Mathlib.Omega.{arith}
 use lib.ListN.{length}
 use Rattle.lists.proofs.Decide.{lt-or-ge}
-use Rattle.strips.specs.Bounds.{From, Waiting, Narrow, Turnable, Cut, Large}
-use Rattle.strips.specs.Steps.{BlocksTurned, GridTurned, PartTurned, Widened}
+use Rattle.grids.specs.Promises.{Turnable}
+use Rattle.strips.specs.Bounds.{From, Waiting, Narrow, Cut, Large}
+use Rattle.grids.specs.Grids.{GridTurned}
+use Rattle.strips.specs.Steps.{BlocksTurned, PartTurned, Widened}
 use Rattle.strips.proofs.Bounds.{tall-turned, wide-turned}
 
 -- the first number of lines that is tried, and each later one

@@ -15,7 +15,8 @@ use Rattle.halves.proofs.Blocks.{laid-turned, part-turned, TurnedTo, turned-mor
 use Rattle.moves.specs.Stretch.{Stretch}
 use Rattle.strips.specs.Moves.{Scattered, RowsOut, Lifted}
 use Rattle.strips.specs.Bounds.{Held, From}
-use Rattle.strips.specs.Steps.{BlocksTurned, GridTurned}
+use Rattle.grids.specs.Grids.{GridTurned}
+use Rattle.strips.specs.Steps.{BlocksTurned}
 use Rattle.moves.proofs.Filling.{Filled, nothing-filled, piece-up}
 use Rattle.strips.proofs.Strips.{place, from-words}
 

@@ -1,21 +1,37 @@
+-- `grid::turned` meets its contract: the places have marks enough in the part of the room that is lent, so the grid is turned.
+use mathlib.Core.Path.{sym}
+use Prim.Native.Nat.{_+_, _*_, _/_, _≤_}
+use native.Mathlib.Omega.{arith}
+use lib.ListN.{length}
+use lib.Seq.{length-take-le}
 use borrow.Author.Needs.{needs}
+use Rattle.strips.proofs.Bounds.{lent-turnable, lent-back}
 use Rattle.strips.proofs.grid.turned.Statement.{statement}
 use Rattle.strips.proofs.grid.turned.Tie as tie
 
-zero-requires : tie.Need-zero-requires
-zero-requires c κs = search needs
+-- the marks have room
+enough : (s : tie.Start) → (s .args .m * s .args .n + 31) / 32 ≤ length (s .args .room .now)
+enough s = omega (arith, s .pre .marked)
 
-zero-requires-2 : tie.Need-zero-requires-2
-zero-requires-2 c κs = search needs
-
-same-length : tie.Need-same-length
-same-length c = search needs
-
-same-length-2 : tie.Need-same-length-2
-same-length-2 c = search needs
+slice-aggregate-turn-grid : tie.Need-slice-aggregate-turn-grid
+slice-aggregate-turn-grid c = let s : tie.Start = search in sym (length-take-le _ _ (enough s))
 
 returns : tie.Need-returns
-returns c = ?
+returns c =
+    let t : tie.After-turn-grid = search in
+    let s : tie.Start = search in
+    let w = t .turn-grid .ensures .turned (lent-turnable (s .pre) (omega arith) (enough s)) in
+    (w .1, lent-back ((s .args .m * s .args .n + 31) / 32) (s .args .room .now) (w .2) (enough s))
 
 pub turned-spec : {M : Type 1} → statement M
-turned-spec = tie.close (tie.spec zero-requires zero-requires-2 same-length same-length-2 returns)
+turned-spec =
+    tie.close
+    (tie.spec
+    (search needs)
+    (search needs)
+    (search needs)
+    slice-aggregate-turn-grid
+    (λ c κs. search needs)
+    (search needs)
+    (search needs)
+    returns)
