@@ -1,3 +1,4 @@
 pub mod Turn
 pub mod Passes
 pub mod Benches
+pub mod Promises

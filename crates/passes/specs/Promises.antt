@@ -4,18 +4,8 @@ use mathlib.Core.List.{List, [], _∷_}
 use Prim.Native.Nat.{ℕ}
 use Rattle.refusals.specs.FirstOf.{check, firstOf}
 use Rattle.refusals.specs.Conditions.{shortScratch}
-use Rattle.refusals.specs.Calls.{passesChecks}
-use Rattle.refusals.specs.Scratch.{need, cleared}
-use Rattle.refusals.specs.Promise.{Rearranged}
-use Rattle.flat.specs.Turn.{sides, Turn, TurnBack}
-
--- the flat turn by passes
-abbrev pub TurnPromise : ℕ → ℕ → List ℕ → List ℕ → ℕ → List ℕ → List ℕ → Type 0
-TurnPromise m n buffer scratch = Rearranged (passesChecks (sides m n) buffer scratch) (need (sides m n)) (Turn m n buffer) buffer scratch
-
--- the reverse turn by passes
-abbrev pub TurnBackPromise : ℕ → ℕ → List ℕ → List ℕ → ℕ → List ℕ → List ℕ → Type 0
-TurnBackPromise m n buffer scratch = Rearranged (passesChecks (sides m n) buffer scratch) (need (sides m n)) (TurnBack m n buffer) buffer scratch
+use Rattle.refusals.specs.Scratch.{cleared}
+pub use Rattle.flat.specs.Promises.{TurnPromise, TurnBackPromise}
 
 -- clearing scratch: 4 where it has fewer words than are to be zero, and then it is as it was
 pub record ClearPromise (n : ℕ) (scratch : List ℕ) (number : ℕ) (after : List ℕ) : Type 0 where
