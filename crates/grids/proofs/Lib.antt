@@ -1,5 +1,7 @@
 -- marks, one bit a place
 pub mod Bits
+-- mirrored places go along mirrored
+pub mod Mirror
 -- a cycle followed from its first place on: what the marks tell
 pub mod Chasing
 -- the slices of the chunks meanwhile

@@ -1,6 +1,6 @@
--- The slices of the chunks while a cycle is followed: the slice of the free place has gone, a marked place has that of its source, one that is not
--- marked its own.
-use mathlib.Core.Path.{_≡_, sym, ap, _∙_}
+-- The slices of the chunks while two mirrored cycles are followed: those of the free place and of its mirrored one have gone, a place of a marked pair has that
+-- of its source, one of a pair that is not marked its own.
+use mathlib.Core.Path.{_≡_, refl, sym, ap, subst, _∙_}
 use mathlib.Core.Bool.{true, false}
 use mathlib.Core.List.{List}
 use mathlib.Core.Logic.{_⊎_, inl, inr, ⊎-elim}
@@ -14,9 +14,10 @@ use Rattle.orbits.proofs.Takes.{takes-permutes}
 use Rattle.moves.specs.Stretch.{Stretch}
 use Rattle.moves.specs.Promises.{Ahead}
 use Rattle.grids.specs.declared.chunks.Grid.{Grid}
-use Rattle.grids.specs.Private.{bitAt, MarkedToo, Fits, Beside, Settled, Toured}
+use Rattle.grids.specs.Private.{mirror, fold, half, pairs, bitAt, MarkedToo, Fits, Level, Beside, Waiting, BothHold, Settled, Toured}
 use Rattle.grids.proofs.Bits.{both}
-use Rattle.grids.proofs.Chasing.{Chasing, marked-now, still-free, on-free, chase-ends}
+use Rattle.grids.proofs.Mirror.{takes-mirror, fold-mirror, pair-goes, one-pair, pairs-permute}
+use Rattle.grids.proofs.Chasing.{free, Chasing, marked-now, still-free, chase-begins, chase-on, on-free, fewer-free, chase-ends}
 
 -- chunks one after the other: each ends where the next begins, or before
 next-chunk : (w : ℕ) {p q : ℕ} → p < q → p * w + w ≤ q * w
@@ -25,7 +26,7 @@ next-chunk w {p} {q} h =
     omega (arith, add-mul p 1 w, one-mul w)
 
 -- the source of a place is a place
-pub next-place : (n m : ℕ) {p x : ℕ} → x ≡ takes n m p → p < n * m → x < n * m
+next-place : (n m : ℕ) {p x : ℕ} → x ≡ takes n m p → p < n * m → x < n * m
 next-place n m {p} e h = omega (arith, takes-permutes n m .within p h)
 
 -- the slice of a place lies in the words, and one that goes to another place goes ahead
@@ -44,25 +45,73 @@ module _ {g : Grid} {xs : List ℕ} (f : Fits g xs) where
   pub fits-also : {ys : List ℕ} → length ys ≡ length xs → Fits g ys
   fits-also e = record { follows = f .follows; inside = rw e (f .inside); slice = f .slice; short = f .short }
 
+-- a place before the middle, and its mirrored one
+module _ (count first : ℕ) (some : first < mirror count first) where
+  pub first-low : first < count
+  first-low = omega arith
+
+  last-low : mirror count first < count
+  last-low = omega arith
+
+  first-own : fold count first ≡ first
+  first-own = omega arith
+
+  last-own : fold count (mirror count first) ≡ first
+  last-own = omega arith
+
+  there-back : first ≡ mirror count (mirror count first)
+  there-back = omega arith
+
+  -- a place of their pair that is not the one is the other
+  other-one : (x : ℕ) → x < count → fold count x ≡ first → (x ≡ first → ⊥) → mirror count first ≡ x
+  other-one x low e ne = omega arith
+
+-- the places of the two cycles
+module _ (n m : ℕ) where
+  -- the place in the middle is its own source
+  pub middle-stays : (p : ℕ) → p < n * m → p ≡ mirror (n * m) p → takes n m p ≡ p
+  middle-stays p h e =
+      let t : takes n m p ≡ mirror (n * m) (takes n m p) = ap (takes n m) e ∙ takes-mirror n m p h in
+      omega (arith, takes-permutes n m .within p h)
+
+  -- the next pair
+  pair-next : {p x : ℕ} → x ≡ takes n m p → p < n * m → fold (n * m) x ≡ pairs n m (fold (n * m) p)
+  pair-next {p} e h = ap (fold (n * m)) e ∙ pair-goes n m p h
+
+  -- two places of different pairs
+  apart : (p q : ℕ) → p < n * m → (fold (n * m) q ≡ fold (n * m) p → ⊥) → (q ≡ p → ⊥) × (q ≡ mirror (n * m) p → ⊥)
+  apart p q h ne = (λ e. ne (ap (fold (n * m)) e), λ e. ne (ap (fold (n * m)) e ∙ fold-mirror n m p h))
+
+  follow-begins : {first : ℕ} {before marks : List ℕ} → Level (pairs n m) (half (n * m)) before → first < mirror (n * m) first → bitAt before first ≡ false
+      → MarkedToo first before marks → Chasing (pairs-permute n m) first (fold (n * m) first) marks marks
+  follow-begins {first} {before} {marks} level low free mark =
+      let e = sym (first-own (n * m) first low) in
+      subst (λ (z : ℕ). Chasing (pairs-permute n m) first z marks marks) e (chase-begins (pairs-permute n m) level (omega arith) free mark)
+
+  -- while the cycle is followed the free places are two, and the one is not what the other is to receive
+  free-apart : {first p x : ℕ} {before marks : List ℕ} → Chasing (pairs-permute n m) first (fold (n * m) p) before marks → p < n * m → x ≡ takes n m p
+      → (fold (n * m) x ≡ first → ⊥) → (p ≡ mirror (n * m) p → ⊥) × (mirror (n * m) x ≡ p → ⊥)
+  free-apart {first} {p} {x} {before} {marks} c low e ne =
+      let free = on-free (pairs-permute n m) c (pair-next e low) ne in
+      let other : fold (n * m) p ≡ fold (n * m) x → ⊥ = λ z. both marks (fold (n * m) p) (c .here) (ap (bitAt marks) z ∙ free) in
+      (λ z. other (ap (fold (n * m)) (sym (e ∙ middle-stays p low z))), λ z. other (ap (fold (n * m)) (sym z) ∙ fold-mirror n m x (next-place n m e low)))
+
+  -- at its end too
+  end-apart : {first p x : ℕ} → first < mirror (n * m) first → p < n * m → x ≡ takes n m p → fold (n * m) x ≡ first → p ≡ mirror (n * m) p → ⊥
+  end-apart {first} {p} {x} some low e home z = omega (arith, middle-stays p low z)
+
+-- the slices while pair `pair` is free: nothing is said of what stands at its two places
+pub record Chased (n m w lo count pair : ℕ) (xs marks ys : List ℕ) : Type 0 where
+  pub same : length ys ≡ length xs
+  pub gone : (q u : ℕ) → q < n * m → u < count → bitAt marks (fold (n * m) q) ≡ true → (fold (n * m) q ≡ pair → ⊥)
+      → getD ys (q * w + lo + u) 0 ≡ getD xs (takes n m q * w + lo + u) 0
+  pub stand : (q u : ℕ) → q < n * m → u < count → bitAt marks (fold (n * m) q) ≡ false → getD ys (q * w + lo + u) 0 ≡ getD xs (q * w + lo + u) 0
+  pub others : (k : ℕ) → Beside (n * m) w lo count k → getD ys k 0 ≡ getD xs k 0
+
 module _ (n m w lo count : ℕ) (slice : lo + count ≤ w) where
-  -- nothing is said of what stands at place p
-  pub record Chased (p : ℕ) (xs marks ys : List ℕ) : Type 0 where
-    pub same : length ys ≡ length xs
-    pub gone : (q u : ℕ) → q < n * m → u < count → bitAt marks q ≡ true → (q ≡ p → ⊥) → getD ys (q * w + lo + u) 0 ≡ getD xs (takes n m q * w + lo + u) 0
-    pub stand : (q u : ℕ) → q < n * m → u < count → bitAt marks q ≡ false → getD ys (q * w + lo + u) 0 ≡ getD xs (q * w + lo + u) 0
-    pub others : (k : ℕ) → Beside (n * m) w lo count k → getD ys k 0 ≡ getD xs k 0
-
-  chased-none : {first : ℕ} {xs before marks ys : List ℕ} → Settled n m w lo count xs before ys → MarkedToo first before marks → Chased first xs marks ys
-  chased-none s mark = record {
-    same = s .same;
-    gone = λ q u h k t ne. s .gone q u h k (sym (mark .others q ne) ∙ t);
-    stand = λ q u h k e. s .stand q u h k (still-free mark q e .1);
-    others = s .others;
-  }
-
   -- a slice stored at place p leaves those of other places, and what is outside the slices
   module _ {p : ℕ} {value : ℕ → ℕ} {ys zs : List ℕ} (s : Stretch (p * w + lo) count value ys zs) where
-    other-slice : (q u : ℕ) → u < count → (q ≡ p → ⊥) → getD zs (q * w + lo + u) 0 ≡ getD ys (q * w + lo + u) 0
+    pub other-slice : (q u : ℕ) → u < count → (q ≡ p → ⊥) → getD zs (q * w + lo + u) 0 ≡ getD ys (q * w + lo + u) 0
     other-slice q u k ne = ⊎-elim
         (λ (h : q < p). s .below (q * w + lo + u) (omega (arith, next-chunk w h)))
         (λ (h : p ≤ q). s .above (q * w + lo + u) (omega (arith, next-chunk w {p = p} {q = q} (omega arith))))
@@ -77,50 +126,182 @@ module _ (n m w lo count : ℕ) (slice : lo + count ≤ w) where
         (lt-or-ge k (p * w + lo + count)))
         (lt-or-ge k (p * w + lo))
 
-  -- place p receives the slice of its source, which is free then
-  chased-more : {p : ℕ} {xs marks ys marked zs : List ℕ} → Chased p xs marks ys → p < n * m → bitAt marks p ≡ true → bitAt marks (takes n m p) ≡ false
-      → Stretch (p * w + lo) count (λ u. getD ys (takes n m p * w + lo + u) 0) ys zs → MarkedToo (takes n m p) marks marked → Chased (takes n m p) xs marked zs
-  chased-more {p} {xs} {marks} {ys} {marked} {zs} a low here free s mark = record {
-    same = s .same ∙ a .same;
-    gone = λ q u h k t ne. ⊎-elim
-        (λ (e : q ≡ p). rw e (s .holds u k ∙ a .stand (takes n m p) u (takes-permutes n m .within p low) k free))
-        (λ (d : q ≡ p → ⊥). other-slice s q u k d ∙ a .gone q u h k (sym (mark .others q ne) ∙ t) d)
-        (eq-or-ne q p);
-    stand = λ q u h k e.
-        let old = still-free mark q e .1 in
-        other-slice s q u k (λ z. both marks q (ap (bitAt marks) z ∙ here) old) ∙ a .stand q u h k old;
-    others = λ k b. outside s low k b ∙ a .others k b;
+  -- a slice stored at place p and then one at its mirrored place
+  pub both-hold : {p q : ℕ} {value late mirrored : ℕ → ℕ} {xs ys zs : List ℕ} → p < n * m → (p ≡ mirror (n * m) p → ⊥) → q ≡ mirror (n * m) p
+      → Stretch (p * w + lo) count value xs ys → Stretch (q * w + lo) count late ys zs → ((u : ℕ) → u < count → late u ≡ mirrored u)
+      → BothHold (n * m) w lo count p value mirrored xs zs
+  both-hold {p} {q} {zs = zs} low ne is s t same = record {
+    same = t .same ∙ s .same;
+    here = λ u k. other-slice t p u k (λ e. ne (e ∙ is)) ∙ s .holds u k;
+    there = λ u k. ap (λ (z : ℕ). getD zs (z * w + lo + u) 0) (sym is) ∙ t .holds u k ∙ same u k;
+    stand = λ y u k a b. other-slice t y u k (λ e. b (e ∙ is)) ∙ other-slice s y u k a;
+    others = λ k b. outside t (omega arith) k b ∙ outside s low k b;
   }
 
-  -- the same with the source by another name
-  pub chased-on : {first p x : ℕ} {before xs marks ys marked zs : List ℕ} → Chasing (takes-permutes n m) first p before marks → x ≡ takes n m p → (x ≡ first → ⊥)
-      → Chased p xs marks ys → Stretch (p * w + lo) count (λ u. getD ys (x * w + lo + u) 0) ys zs → MarkedToo x marks marked → Chased x xs marked zs
-  chased-on c e ne a s mark = rw e (chased-more a (c .low) (c .here) (sym (ap (bitAt _) e) ∙ on-free (takes-permutes n m) c e ne) (rw e at s) (rw e at mark))
-
-  -- the last place receives the slice of the first one
-  chased-all : {p first : ℕ} {value : ℕ → ℕ} {xs marks ys zs : List ℕ} → Chased p xs marks ys → p < n * m → bitAt marks p ≡ true → takes n m p ≡ first
-      → Stretch (p * w + lo) count value ys zs → ((u : ℕ) → u < count → value u ≡ getD xs (first * w + lo + u) 0) → Settled n m w lo count xs marks zs
-  chased-all {p} {first} {value} {xs} {marks} {ys} {zs} a low here end s is = record {
-    same = s .same ∙ a .same;
-    gone = λ q u h k t. ⊎-elim
-        (λ (e : q ≡ p). rw (e, end) (s .holds u k ∙ is u k))
-        (λ (d : q ≡ p → ⊥). other-slice s q u k d ∙ a .gone q u h k t d)
-        (eq-or-ne q p);
-    stand = λ q u h k e. other-slice s q u k (λ z. both marks q (ap (bitAt marks) z ∙ here) e) ∙ a .stand q u h k e;
-    others = λ k b. outside s low k b ∙ a .others k b;
+module _ (n m w lo count : ℕ) where
+  chased-none : {first : ℕ} {xs before marks ys : List ℕ} → first < mirror (n * m) first → Settled n m w lo count xs before ys → MarkedToo first before marks
+      → Chased n m w lo count (fold (n * m) first) xs marks ys
+  chased-none {first} low s mark = record {
+    same = s .same;
+    gone = λ q u h k t ne. s .gone q u h k (sym (mark .others (fold (n * m) q) (λ e. ne (e ∙ is))) ∙ t);
+    stand = λ q u h k e. s .stand q u h k (still-free mark (fold (n * m) q) e .1);
+    others = s .others;
   }
+    where
+      is : first ≡ fold (n * m) first
+      is = sym (first-own (n * m) first low)
 
-  -- the cycle is followed from its first place home
-  pub toured : {first p : ℕ} {ys zs ws marks begun marked zeros kept : List ℕ} → first < n * m → bitAt marks first ≡ false → MarkedToo first marks begun
-      → Stretch 0 count (λ u. getD ys (first * w + lo + u) 0) zeros kept → Chasing (takes-permutes n m) first p begun marked → takes n m p ≡ first → length zs ≡ length ys
-      → ((xs : List ℕ) → Chased first xs begun ys → Chased p xs marked zs) → Stretch (p * w + lo) count (λ u. getD kept (0 + u) 0) zs ws
-      → Toured n m w lo count first ys marks ws marked
-  toured {first} low free mark held c end long chased s = record {
+  module _ {p : ℕ} {xs marks ys zs : List ℕ} {value mirrored : ℕ → ℕ} (a : Chased n m w lo count (fold (n * m) p) xs marks ys) (low : p < n * m) (here : bitAt marks (fold (n * m) p) ≡ true)
+      (s : BothHold (n * m) w lo count p value mirrored ys zs)
+      (is : (u : ℕ) → u < count → value u ≡ getD xs (takes n m p * w + lo + u) 0)
+      (is′ : (u : ℕ) → u < count → mirrored u ≡ getD xs (takes n m (mirror (n * m) p) * w + lo + u) 0) where
+    -- the places that were free have the slices of their sources, and the others of marked pairs too
+    gone-now : (q u : ℕ) → q < n * m → u < count → bitAt marks (fold (n * m) q) ≡ true → getD zs (q * w + lo + u) 0 ≡ getD xs (takes n m q * w + lo + u) 0
+    gone-now q u h k t = ⊎-elim
+        (λ (e : fold (n * m) q ≡ fold (n * m) p). ⊎-elim
+        (λ (z : q ≡ p). rw z (s .here u k ∙ is u k))
+        (λ (z : q ≡ mirror (n * m) p). rw z (s .there u k ∙ is′ u k))
+        (one-pair n m q p h low e))
+        (λ (ne : fold (n * m) q ≡ fold (n * m) p → ⊥).
+        let d = apart n m p q low ne in
+        s .stand q u k (d .0) (d .1) ∙ a .gone q u h k t ne)
+        (eq-or-ne (fold (n * m) q) (fold (n * m) p))
+
+    stand-now : (q u : ℕ) → q < n * m → u < count → bitAt marks (fold (n * m) q) ≡ false → getD zs (q * w + lo + u) 0 ≡ getD xs (q * w + lo + u) 0
+    stand-now q u h k f =
+        let d = apart n m p q low (λ e. both marks (fold (n * m) q) (ap (bitAt marks) e ∙ here) f) in
+        s .stand q u k (d .0) (d .1) ∙ a .stand q u h k f
+
+    -- the next pair is free then
+    chased-more : {pair : ℕ} {marked : List ℕ} → MarkedToo pair marks marked → Chased n m w lo count pair xs marked zs
+    chased-more mark = record {
+      same = s .same ∙ a .same;
+      gone = λ q u h k t ne. gone-now q u h k (sym (mark .others (fold (n * m) q) ne) ∙ t);
+      stand = λ q u h k e. stand-now q u h k (still-free mark (fold (n * m) q) e .1);
+      others = λ k b. s .others k b ∙ a .others k b;
+    }
+
+    chased-all : Settled n m w lo count xs marks zs
+    chased-all = record { same = s .same ∙ a .same; gone = gone-now; stand = stand-now; others = λ k b. s .others k b ∙ a .others k b }
+
+  -- the free places receive the slices of their sources, which are free then
+  chased-on : {first p x : ℕ} {before xs marks ys marked zs : List ℕ} → Chasing (pairs-permute n m) first (fold (n * m) p) before marks → p < n * m → x ≡ takes n m p
+      → (fold (n * m) x ≡ first → ⊥) → Chased n m w lo count (fold (n * m) p) xs marks ys
+      → BothHold (n * m) w lo count p (λ u. getD ys (x * w + lo + u) 0) (λ u. getD ys (mirror (n * m) x * w + lo + u) 0) ys zs → MarkedToo (fold (n * m) x) marks marked
+      → Chased n m w lo count (fold (n * m) x) xs marked zs
+  chased-on {first} {p} {x} {before} {xs} {marks} {ys} {marked} {zs} c low e ne a s mark =
+      let free = on-free (pairs-permute n m) c (pair-next n m e low) ne in
+      let inside = next-place n m e low in
+      chased-more a low (c .here) s
+      (λ u k. a .stand x u inside k free ∙ ap (λ (z : ℕ). getD xs (z * w + lo + u) 0) e)
+      (λ u k.
+      a .stand (mirror (n * m) x) u (omega arith) k (ap (bitAt marks) (fold-mirror n m x inside) ∙ free)
+      ∙ ap (λ (z : ℕ). getD xs (z * w + lo + u) 0) (ap (mirror (n * m)) e ∙ sym (takes-mirror n m p low)))
+      mark
+
+  -- the cycle is followed from its first place home, or to the place that mirrors it
+  toured : {first p x from : ℕ} {ys zs ws marks begun marked kept : List ℕ} → first < mirror (n * m) first → bitAt marks first ≡ false → MarkedToo first marks begun
+      → Waiting (n * m) w lo count first ys kept
+      → Chasing (pairs-permute n m) first (fold (n * m) p) begun marked → p < n * m → x ≡ takes n m p → fold (n * m) x ≡ first
+      → (from ≤ 80) × (x ≡ first → from ≡ 0) × ((x ≡ first → ⊥) → from ≡ 80) → length zs ≡ length ys
+      → ((xs : List ℕ) → Chased n m w lo count (fold (n * m) first) xs begun ys → Chased n m w lo count (fold (n * m) p) xs marked zs)
+      → BothHold (n * m) w lo count p (λ u. getD kept (from + u) 0) (λ u. getD kept (80 - from + u) 0) zs ws → Toured n m w lo count first ys marks ws marked
+  toured {first} {p} {x} {from} {ys} {zs} {ws} {marks} {begun} {marked} {kept} some free mark held c low e home at long chased s = record {
     settled = λ xs a.
-        chased-all (chased xs (chased-none a mark)) (c .low) (c .here) end s (λ u k. held .holds u k ∙ a .stand first u low k free);
+        let b = chased xs (chased-none some a mark) in
+        let stands : (u : ℕ) → u < count → getD ys (first * w + lo + u) 0 ≡ getD xs (first * w + lo + u) 0 = λ u k. a .stand first u (first-low (n * m) first some) k own in
+        let stands′ : (u : ℕ) → u < count → getD ys (mirror (n * m) first * w + lo + u) 0 ≡ getD xs (mirror (n * m) first * w + lo + u) 0 =
+        λ u k. a .stand (mirror (n * m) first) u (last-low (n * m) first some) k own′ in
+        ⊎-elim
+        (λ (z : x ≡ first).
+        let is = at .1 z in
+        chased-all b low (c .here) s
+        (λ u k. ap (λ (y : ℕ). getD kept (y + u) 0) is ∙ held .here u k ∙ stands u k ∙ whole xs u (sym z ∙ e))
+        (λ u k. ap (λ (y : ℕ). getD kept (80 - y + u) 0) is ∙ held .there u k ∙ stands′ u k ∙ whole xs u (ap (mirror (n * m)) (sym z ∙ e) ∙ sym (takes-mirror n m p low))))
+        (λ (ne : x ≡ first → ⊥).
+        let is = at .2 ne in
+        let across = other-one (n * m) first some x (next-place n m e low) home ne in
+        chased-all b low (c .here) s
+        (λ u k. ap (λ (y : ℕ). getD kept (y + u) 0) is ∙ held .there u k ∙ stands′ u k ∙ whole xs u (across ∙ e))
+        (λ u k. ap (λ (y : ℕ). getD kept (80 - y + u) 0) is ∙ held .here u k ∙ stands u k ∙ whole xs u (there-back (n * m) first some ∙ ap (mirror (n * m)) (across ∙ e) ∙ sym (takes-mirror n m p low))))
+        (eq-or-ne x first);
     same = s .same ∙ long;
     same-marks = c .same ∙ mark .same;
-    level = chase-ends (takes-permutes n m) c end;
+    level = chase-ends (pairs-permute n m) c (sym (pair-next n m e low) ∙ home);
     here = c .home;
     kept = λ q t. c .kept q (marked-now mark q t);
   }
+    where
+      whole : (l : List ℕ) (u : ℕ) {i j : ℕ} → i ≡ j → getD l (i * w + lo + u) 0 ≡ getD l (j * w + lo + u) 0
+      whole l u e = ap (λ (z : ℕ). getD l (z * w + lo + u) 0) e
+
+      own : bitAt marks (fold (n * m) first) ≡ false
+      own = ap (bitAt marks) (first-own (n * m) first some) ∙ free
+
+      own′ : bitAt marks (fold (n * m) (mirror (n * m) first)) ≡ false
+      own′ = ap (bitAt marks) (last-own (n * m) first some) ∙ free
+
+-- what the loop keeps: place p and its mirrored one are free, and x is the source of p
+pub record Following (g : Grid) (first p x : ℕ) (ys marks zs marked : List ℕ) : Type 0 where
+  pub fits : Fits g zs
+  pub bits : g .n * g .m ≤ 64 * length marked
+  pub some : first < mirror (g .n * g .m) first
+  pub chase : Chasing (pairs-permute (g .n) (g .m)) first (fold (g .n * g .m) p) marks marked
+  pub low : p < g .n * g .m
+  pub is : x ≡ takes (g .n) (g .m) p
+  pub long : length zs ≡ length ys
+  pub chased : (xs : List ℕ) → Chased (g .n) (g .m) (g .chunk) (g .lo) (g .count) (fold (g .n * g .m) first) xs marks ys
+      → Chased (g .n) (g .m) (g .chunk) (g .lo) (g .count) (fold (g .n * g .m) p) xs marked zs
+
+module _ {g : Grid} {first : ℕ} where
+  pub following : {x : ℕ} {ys before marks : List ℕ} → Fits g ys → g .n * g .m ≤ 64 * length marks → Level (pairs (g .n) (g .m)) (half (g .n * g .m)) before
+      → first < mirror (g .n * g .m) first → bitAt before first ≡ false → MarkedToo first before marks → x ≡ takes (g .n) (g .m) first
+      → Following g first first x ys marks ys marks
+  following f bits level some free mark is = record {
+    fits = f;
+    bits = bits;
+    some = some;
+    chase = follow-begins (g .n) (g .m) level some free mark;
+    low = first-low _ _ some;
+    is = is;
+    long = refl;
+    chased = λ xs a. a;
+  }
+
+  pub next-low : {p x : ℕ} {ys marks zs marked : List ℕ} → Following g first p x ys marks zs marked → x < g .n * g .m
+  next-low f = next-place (g .n) (g .m) (f .is) (f .low)
+
+  module _ {p x r : ℕ} {ys marks zs marked : List ℕ} (f : Following g first p x ys marks zs marked) (folded : r ≡ fold (g .n * g .m) x) where
+    -- while the next pair is not that of the first place
+    module _ (away : r ≡ first → ⊥) where
+      pub next-apart : (p ≡ mirror (g .n * g .m) p → ⊥) × (mirror (g .n * g .m) x ≡ p → ⊥)
+      next-apart = free-apart (g .n) (g .m) (f .chase) (f .low) (f .is) (λ e. away (folded ∙ e))
+
+      module _ {vs after : List ℕ}
+          (s : BothHold (g .n * g .m) (g .chunk) (g .lo) (g .count) p (λ u. getD zs (x * g .chunk + g .lo + u) 0) (λ u. getD zs (mirror (g .n * g .m) x * g .chunk + g .lo + u) 0) zs vs)
+          (mark : MarkedToo (fold (g .n * g .m) x) marked after) where
+        pub fewer : free (half (g .n * g .m)) (bitAt after) < free (half (g .n * g .m)) (bitAt marked)
+        fewer = fewer-free (pairs-permute (g .n) (g .m)) (f .chase) (pair-next (g .n) (g .m) (f .is) (f .low)) (λ e. away (folded ∙ e)) mark
+
+        pub following-on : {y : ℕ} → y ≡ takes (g .n) (g .m) x → Following g first x y ys marks vs after
+        following-on is = record {
+          fits = fits-also (f .fits) (s .same);
+          bits = omega (arith, f .bits, mark .same);
+          some = f .some;
+          chase = chase-on (pairs-permute (g .n) (g .m)) (f .chase) (pair-next (g .n) (g .m) (f .is) (f .low)) (λ e. away (folded ∙ e)) mark;
+          low = next-low f;
+          is = is;
+          long = s .same ∙ f .long;
+          chased = λ xs a. chased-on _ _ _ _ _ (f .chase) (f .low) (f .is) (λ e. away (folded ∙ e)) (f .chased xs a) s mark;
+        }
+
+    -- home
+    module _ (home : r ≡ first) where
+      pub last-apart : p ≡ mirror (g .n * g .m) p → ⊥
+      last-apart = end-apart (g .n) (g .m) (f .some) (f .low) (f .is) (sym folded ∙ home)
+
+      pub followed : {from : ℕ} {before vs kept : List ℕ} → bitAt before first ≡ false → MarkedToo first before marks → Waiting (g .n * g .m) (g .chunk) (g .lo) (g .count) first ys kept
+          → (from ≤ 80) × (x ≡ first → from ≡ 0) × ((x ≡ first → ⊥) → from ≡ 80)
+          → BothHold (g .n * g .m) (g .chunk) (g .lo) (g .count) p (λ u. getD kept (from + u) 0) (λ u. getD kept (80 - from + u) 0) zs vs
+          → Toured (g .n) (g .m) (g .chunk) (g .lo) (g .count) first ys before vs marked
+      followed free mark held at s = toured _ _ _ _ _ (f .some) free mark held (f .chase) (f .low) (f .is) (sym folded ∙ home) at (f .long) (f .chased) s

@@ -1,4 +1,5 @@
--- Cycle after cycle, and slice after slice. Before a slice no place is marked; at its end all are but the first and the last, whose source they are themselves.
+-- Cycle after cycle, and slice after slice. Before a slice no pair is marked; at its end all are but that of the first place and the last, and the middle,
+-- whose source they are themselves.
 -- So each place has the slice of its source; once all slices have gone it has the whole chunk, and that is the layout whose first two axes are
 -- exchanged.
 use mathlib.Core.Path.{_≡_, refl, sym, ap, ap₂, _∙_}
@@ -16,12 +17,14 @@ use Rattle.layout.specs.Layout.Within.{none, more}
 use Rattle.orbits.specs.Cycles.{takes}
 use Rattle.orbits.specs.Private.{Small}
 use Rattle.orbits.proofs.Stepping.{columns}
-use Rattle.orbits.proofs.Takes.{takes-permutes, takes-split, takes-last}
+use Rattle.orbits.proofs.Takes.{takes-split, takes-last}
 use Rattle.moves.specs.Stretch.{Stretch}
 use Rattle.grids.specs.Grids.{GridTurned}
 use Rattle.grids.specs.Promises.{Turnable}
-use Rattle.grids.specs.Private.{bitAt, Level, Beside, Settled, Sliced}
+use Rattle.grids.specs.Private.{mirror, fold, half, pairs, bitAt, Level, Beside, Settled, Sliced}
 use Rattle.grids.proofs.Bits.{both, bit-none}
+use Rattle.grids.proofs.Mirror.{pairs-permute}
+use Rattle.grids.proofs.Slices.{middle-stays}
 
 -- the same word by two names of its offset
 place : (l : List ℕ) {p q : ℕ} → p ≡ q → getD l p 0 ≡ getD l q 0
@@ -35,7 +38,7 @@ module _ {m n chunk : ℕ} {xs marks : List ℕ} (t : Turnable m n chunk xs mark
   pub grid-inside : n * m * chunk ≤ length xs
   grid-inside = rw (mul-comm n m) (t .inside)
 
-  pub grid-marked : n * m ≤ 32 * length marks
+  pub grid-marked : n * m ≤ 64 * length marks
   grid-marked = rw (mul-comm n m) (t .marked)
 
 -- a place that has been asked about is marked
@@ -52,16 +55,16 @@ unfolding at volume
 at-three a b c i j u = omega arith
 
 module _ (n m : ℕ) where
-  pub none-marked : {before marks : List ℕ} → Stretch 0 ((n * m + 31) / 32) (λ u. 0) before marks → (q : ℕ) → q < n * m → bitAt marks q ≡ false
+  pub none-marked : {before marks : List ℕ} → Stretch 0 ((n * m + 63) / 64) (λ u. 0) before marks → (q : ℕ) → q < half (n * m) → bitAt marks q ≡ false
   none-marked {before} {marks} s q h = bit-none marks q (place marks {q = 0 + q / 32} (omega arith) ∙ s .holds (q / 32) (omega arith))
 
-  pub level-none : (marks : List ℕ) → ((q : ℕ) → q < n * m → bitAt marks q ≡ false) → Level (takes n m) (n * m) marks
-  level-none marks free p h = free (takes n m p) (takes-permutes n m .within p h) ∙ sym (free p h)
+  pub level-none : (marks : List ℕ) → ((q : ℕ) → q < half (n * m) → bitAt marks q ≡ false) → Level (pairs n m) (half (n * m)) marks
+  level-none marks free p h = free (pairs n m p) (pairs-permute n m .within p h) ∙ sym (free p h)
 
-  pub settled-none : {w lo count : ℕ} {xs marks : List ℕ} → ((q : ℕ) → q < n * m → bitAt marks q ≡ false) → Settled n m w lo count xs marks xs
+  pub settled-none : {w lo count : ℕ} {xs marks : List ℕ} → ((q : ℕ) → q < half (n * m) → bitAt marks q ≡ false) → Settled n m w lo count xs marks xs
   settled-none {marks = marks} free = record {
     same = refl;
-    gone = λ p u h k t. both marks p t (free p h);
+    gone = λ p u h k t. both marks (fold (n * m) p) t (free (fold (n * m) p) (omega arith));
     stand = λ p u h k e. refl;
     others = λ k h. refl;
   }
@@ -70,22 +73,26 @@ module _ (n m : ℕ) where
   first-stays : 0 < m → 0 < n * m → takes n m 0 ≡ 0
   first-stays some words = takes-split n m 0 some words ∙ ap₂ (λ (a b : ℕ). a * n + b) (mod-eq-of-lt some) (zero-div m) ∙ omega arith
 
-  -- all places between the first and the last are marked
-  pub settled-all : {w lo count p : ℕ} {xs marks ys : List ℕ} → Small n m → n * m - 1 ≤ p → ((k : ℕ) → 0 < k → k < p → bitAt marks k ≡ true) → Settled n m w lo count xs marks ys
+  -- all pairs but those of the first place and of the middle are marked
+  pub settled-all : {w lo count p : ℕ} {xs marks ys : List ℕ} → Small n m → n * m / 2 ≤ p → ((k : ℕ) → 0 < k → k < p → bitAt marks k ≡ true) → Settled n m w lo count xs marks ys
       → Sliced n m w lo count xs ys
   settled-all {w} {lo} {count} {p} {xs} {marks} {ys} small last all s = record { same = s .same; gone = slice; others = s .others }
     where
-      own : (q : ℕ) → q < n * m → bitAt marks q ≡ false → takes n m q ≡ q
+      -- a place whose pair is not marked is its own source
+      own : (q : ℕ) → q < n * m → bitAt marks (fold (n * m) q) ≡ false → takes n m q ≡ q
       own q h e = ⊎-elim
-          (λ (l : q < p). ⊎-elim
           (λ (z : q ≡ 0). ap (takes n m) z ∙ first-stays (columns small) (small .some) ∙ sym z)
-          (λ (ne : q ≡ 0 → ⊥). both marks q (all q (omega arith) l) e)
-          (eq-or-ne q 0))
-          (λ (l : p ≤ q). takes-last n m q (omega arith))
-          (lt-or-ge q p)
+          (λ (ne : q ≡ 0 → ⊥). ⊎-elim
+          (λ (l : q < n * m - 1). ⊎-elim
+          (λ (z : q ≡ mirror (n * m) q). middle-stays n m q h z)
+          (λ (d : q ≡ mirror (n * m) q → ⊥). both marks (fold (n * m) q) (all (fold (n * m) q) (omega arith) (omega arith)) e)
+          (eq-or-ne q (mirror (n * m) q)))
+          (λ (l : n * m - 1 ≤ q). takes-last n m q l)
+          (lt-or-ge q (n * m - 1)))
+          (eq-or-ne q 0)
 
       slice : (q u : ℕ) → q < n * m → u < count → getD ys (q * w + lo + u) 0 ≡ getD xs (takes n m q * w + lo + u) 0
-      slice q u h k = decided (bitAt marks q) (λ t. s .gone q u h k t) (λ e. s .stand q u h k e ∙ ap (λ (z : ℕ). getD xs (z * w + lo + u) 0) (sym (own q h e)))
+      slice q u h k = decided (bitAt marks (fold (n * m) q)) (λ t. s .gone q u h k t) (λ e. s .stand q u h k e ∙ ap (λ (z : ℕ). getD xs (z * w + lo + u) 0) (sym (own q h e)))
 
   pub sliced-none : {w : ℕ} {xs : List ℕ} → Sliced n m w 0 0 xs xs
   sliced-none = record { same = refl; gone = λ p u h k. absurd (omega arith); others = λ k h. refl }

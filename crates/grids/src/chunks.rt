@@ -1,16 +1,16 @@
-// A block of chunks turned: chunks move along the cycles of the turn, one after the other, and each place that has its chunk is marked. Of long chunks
-// a slice of each is moved at a time.
+// A block of chunks turned: chunks move along the cycles of the turn, two mirrored ones at a time, and each pair of places that have their chunks is
+// marked. Of long chunks a slice of each is moved at a time.
 use crate::marks;
 ghost use mathlib.Core.Bool.{false};
 ghost use mathlib.Core.Path.{_≡_};
-ghost use Prim.Native.Nat.{_+_, _*_, _<_, _≤_, min};
+ghost use Prim.Native.Nat.{_+_, _*_, _-_, _<_, _≤_, min};
 ghost use lib.ListN.{length, getD};
 ghost use Rattle.orbits.specs.Cycles.{takes};
 ghost use Rattle.orbits.specs.Private.{Reciprocal};
 ghost use Rattle.moves.specs.Stretch.{Stretch};
 ghost use Rattle.grids.specs.Grids.{GridTurned};
 ghost use Rattle.grids.specs.Promises.{Turnable};
-ghost use Rattle.grids.specs.Private.{bitAt, Follows, Fits, Level, Toured, Sliced};
+ghost use Rattle.grids.specs.Private.{mirror, fold, half, pairs, bitAt, Follows, Fits, MarkedToo, Level, Waiting, BothHold, Toured, Sliced};
 
 // A block of m rows and n columns of chunks, the inverse of m that a step multiplies by, and which words of each chunk are moved.
 pub(crate) struct Grid {
@@ -20,6 +20,16 @@ pub(crate) struct Grid {
     pub chunk: usize,
     pub lo: usize,
     pub count: usize,
+}
+
+// The lesser of two numbers.
+fn lesser(x: usize, y: usize) -> usize
+    ensures { λ r. ⌜ r ≡ min x y ⌝ }
+{
+    if x < y {
+        return x;
+    }
+    y
 }
 
 // The inverse of m that a step multiplies by: 2 to the 40th by m, rounded down, and one more.
@@ -47,49 +57,116 @@ fn carry(buf: &mut [u32], g: Grid, p: usize, x: usize)
     moves::fall(buf, p * g.chunk + g.lo, x * g.chunk + g.lo, g.count);
 }
 
-// The slice of place p waits.
-fn keep(kept: &mut [u32], buf: &[u32], g: Grid, p: usize)
-    requires { ⌜ Fits g (now buf) × (p < g .n * g .m) × (length (now kept) ≡ 80) ⌝ }
-    ensures { λ _. ⌜ Stretch 0 (g .count) (λ u. getD (now (buf .entry)) (p * g .chunk + g .lo + u) 0) (now (kept .entry)) (now (kept .exit)) ⌝ }
+// The slice of place p waits at `to`.
+fn keep(kept: &mut [u32], to: usize, buf: &[u32], g: Grid, p: usize)
+    requires { ⌜ Fits g (now buf) × (p < g .n * g .m) × (to + 80 ≤ length (now kept)) ⌝ }
+    ensures { λ _. ⌜ Stretch to (g .count) (λ u. getD (now (buf .entry)) (p * g .chunk + g .lo + u) 0) (now (kept .entry)) (now (kept .exit)) ⌝ }
 {
-    moves::copy(kept, 0, buf, p * g.chunk + g.lo, g.count);
+    moves::copy(kept, to, buf, p * g.chunk + g.lo, g.count);
 }
 
-// Place p receives the slice that waits.
-fn put(buf: &mut [u32], g: Grid, p: usize, kept: &[u32])
-    requires { ⌜ Fits g (now buf) × (p < g .n * g .m) × (length (now kept) ≡ 80) ⌝ }
-    ensures { λ _. ⌜ Stretch (p * g .chunk + g .lo) (g .count) (λ u. getD (now (kept .entry)) (0 + u) 0) (now (buf .entry)) (now (buf .exit)) ⌝ }
+// Place p receives the slice that waits at `from`.
+fn put(buf: &mut [u32], g: Grid, p: usize, kept: &[u32], from: usize)
+    requires { ⌜ Fits g (now buf) × (p < g .n * g .m) × (from + 80 ≤ length (now kept)) ⌝ }
+    ensures { λ _. ⌜ Stretch (p * g .chunk + g .lo) (g .count) (λ u. getD (now (kept .entry)) (from + u) 0) (now (buf .entry)) (now (buf .exit)) ⌝ }
 {
-    moves::copy(buf, p * g.chunk + g.lo, kept, 0, g.count);
+    moves::copy(buf, p * g.chunk + g.lo, kept, from, g.count);
 }
 
-// Every place on the cycle of `first` receives the slice of its source and is marked. The slice of `first` waits; p is the place that is free.
+// The place as far from the end as p from the beginning. Its source mirrors the source of p, so that both go along by one step.
+fn mirrored(g: Grid, p: usize) -> usize
+    requires { ⌜ Follows g × (p < g .n * g .m) ⌝ }
+    ensures { λ r. ⌜ r ≡ mirror (g .n * g .m) p ⌝ }
+{
+    g.n * g.m - 1 - p
+}
+
+// The lesser of a place and its mirrored one, which stands for both.
+fn folded(g: Grid, p: usize) -> usize
+    requires { ⌜ Follows g × (p < g .n * g .m) ⌝ }
+    ensures { λ r. ⌜ r ≡ fold (g .n * g .m) p ⌝ }
+{
+    lesser(p, mirrored(g, p))
+}
+
+// The slices of place p and of its mirrored one wait.
+fn keep_both(kept: &mut [u32], buf: &[u32], g: Grid, p: usize)
+    requires { ⌜ Fits g (now buf) × (p < g .n * g .m) × (length (now kept) ≡ 160) ⌝ }
+    ensures { λ _. ⌜ Waiting (g .n * g .m) (g .chunk) (g .lo) (g .count) p (now (buf .entry)) (now (kept .exit)) ⌝ }
+{
+    keep(kept, 0, buf, g, p);
+    keep(kept, 80, buf, g, mirrored(g, p));
+}
+
+// Place p receives the slice of place x, and its mirrored place that of the mirrored one.
+fn carry_both(buf: &mut [u32], g: Grid, p: usize, x: usize)
+    requires { ⌜ Fits g (now buf) × (p < g .n * g .m) × (x < g .n * g .m) ⌝ }
+    requires { ⌜ (p ≡ mirror (g .n * g .m) p → ⊥) × (mirror (g .n * g .m) x ≡ p → ⊥) ⌝ }
+    ensures { λ _. ⌜ BothHold (g .n * g .m) (g .chunk) (g .lo) (g .count) p (λ u. getD (now (buf .entry)) (x * g .chunk + g .lo + u) 0) (λ u. getD (now (buf .entry)) (mirror (g .n * g .m) x * g .chunk + g .lo + u) 0) (now (buf .entry)) (now (buf .exit)) ⌝ }
+{
+    carry(buf, g, p, x);
+    carry(buf, g, mirrored(g, p), mirrored(g, x));
+}
+
+// The same, and the pair of x is marked: its places are free then.
+fn advance(buf: &mut [u32], marks: &mut [u32], g: Grid, p: usize, x: usize)
+    requires { ⌜ Fits g (now buf) × (p < g .n * g .m) × (x < g .n * g .m) × (g .n * g .m ≤ 64 * length (now marks)) ⌝ }
+    requires { ⌜ (p ≡ mirror (g .n * g .m) p → ⊥) × (mirror (g .n * g .m) x ≡ p → ⊥) ⌝ }
+    ensures { λ _. ⌜ BothHold (g .n * g .m) (g .chunk) (g .lo) (g .count) p (λ u. getD (now (buf .entry)) (x * g .chunk + g .lo + u) 0) (λ u. getD (now (buf .entry)) (mirror (g .n * g .m) x * g .chunk + g .lo + u) 0) (now (buf .entry)) (now (buf .exit)) ⌝ }
+    ensures { λ _. ⌜ MarkedToo (fold (g .n * g .m) x) (now (marks .entry)) (now (marks .exit)) ⌝ }
+{
+    carry_both(buf, g, p, x);
+    marks::mark(marks, folded(g, x));
+}
+
+// Place p receives the slice that waits at `from`, 0 or 80, and its mirrored place the other one.
+fn put_both(buf: &mut [u32], g: Grid, p: usize, kept: &[u32], from: usize)
+    requires { ⌜ Fits g (now buf) × (p < g .n * g .m) × (length (now kept) ≡ 160) × (from ≤ 80) × (p ≡ mirror (g .n * g .m) p → ⊥) ⌝ }
+    ensures { λ _. ⌜ BothHold (g .n * g .m) (g .chunk) (g .lo) (g .count) p (λ u. getD (now (kept .entry)) (from + u) 0) (λ u. getD (now (kept .entry)) (80 - from + u) 0) (now (buf .entry)) (now (buf .exit)) ⌝ }
+{
+    put(buf, g, p, kept, from);
+    put(buf, g, mirrored(g, p), kept, 80 - from);
+}
+
+// Where the slice of x waits, which is the first place or the mirrored one.
+fn waits(x: usize, first: usize) -> usize
+    ensures { λ r. ⌜ (r ≤ 80) × (x ≡ first → r ≡ 0) × ((x ≡ first → ⊥) → r ≡ 80) ⌝ }
+{
+    if x == first {
+        return 0;
+    }
+    80
+}
+
+// Every place on the cycle of `first` receives the slice of its source, every mirrored place that of the mirrored source, and the pair of each is
+// marked. The slices of `first` and of its mirrored place wait; p and its mirrored place are free. The cycle may come to the place that mirrors
+// `first`: then it is its own mirrored one and done by half, and what waits goes crosswise.
 fn follow(buf: &mut [u32], marks: &mut [u32], kept: &mut [u32], g: Grid, first: usize)
-    requires { ⌜ Fits g (now buf) × (g .n * g .m ≤ 32 * length (now marks)) × (length (now kept) ≡ 80) ⌝ }
-    requires { ⌜ Level (takes (g .n) (g .m)) (g .n * g .m) (now marks) × (first < g .n * g .m) × (bitAt (now marks) first ≡ false) ⌝ }
+    requires { ⌜ Fits g (now buf) × (g .n * g .m ≤ 64 * length (now marks)) × (length (now kept) ≡ 160) ⌝ }
+    requires { ⌜ Level (pairs (g .n) (g .m)) (half (g .n * g .m)) (now marks) × (first < mirror (g .n * g .m) first) × (bitAt (now marks) first ≡ false) ⌝ }
     ensures { λ _. ⌜ Toured (g .n) (g .m) (g .chunk) (g .lo) (g .count) first (now (buf .entry)) (now (marks .entry)) (now (buf .exit)) (now (marks .exit)) ⌝ }
 {
-    keep(kept, buf, g, first);
+    keep_both(kept, buf, g, first);
     let mut p = first;
     let mut x = source(g, p);
-    marks::mark(marks, p);
-    while x != first {
-        carry(buf, g, p, x);
+    marks::mark(marks, first);
+    while folded(g, x) != first {
+        advance(buf, marks, g, p, x);
         p = x;
         x = source(g, p);
-        marks::mark(marks, p);
     }
-    put(buf, g, p, kept);
+    put_both(buf, g, p, kept, waits(x, first));
 }
 
-// Turns the block, one slice of each chunk. The first chunk and the last one stay.
+// Turns the block, one slice of each chunk. The first chunk, the last one and, of an odd number, the one in the middle stay.
 fn slice(buf: &mut [u32], marks: &mut [u32], kept: &mut [u32], g: Grid)
-    requires { ⌜ Fits g (now buf) × (g .n * g .m ≤ 32 * length (now marks)) × (length (now kept) ≡ 80) ⌝ }
+    requires { ⌜ Fits g (now buf) × (g .n * g .m ≤ 64 * length (now marks)) × (length (now kept) ≡ 160) ⌝ }
     ensures { λ _. ⌜ Sliced (g .n) (g .m) (g .chunk) (g .lo) (g .count) (now (buf .entry)) (now (buf .exit)) ⌝ }
 {
-    let last = g.n * g.m - 1;
-    moves::zero(marks, 0, (g.n * g.m + 31) / 32);
-    for p in 1..last {
+    let places = g.n * g.m;
+    let middle = places / 2;
+    moves::zero(marks, 0, (places + 63) / 64);
+    for p in 1..middle {
         if marks::marked(marks, p) {
             continue;
         }
@@ -106,16 +183,6 @@ fn slice_width(chunk: usize) -> usize
     (chunk - 1) / slices + 1
 }
 
-// The lesser of two numbers.
-fn lesser(x: usize, y: usize) -> usize
-    ensures { λ r. ⌜ r ≡ min x y ⌝ }
-{
-    if x < y {
-        return x;
-    }
-    y
-}
-
 // Turns the block, slice after slice. All chunks stay where a side is 1.
 pub(crate) fn turned(buf: &mut [u32], marks: &mut [u32], m: usize, n: usize, chunk: usize)
     requires { ⌜ Turnable m n chunk (now buf) (now marks) ⌝ }
@@ -129,7 +196,7 @@ pub(crate) fn turned(buf: &mut [u32], marks: &mut [u32], m: usize, n: usize, chu
     }
     let inverse = inverse_of(m);
     let width = slice_width(chunk);
-    let mut kept = [0; 80];
+    let mut kept = [0; 160];
     let mut lo = 0;
     while lo < chunk {
         let count = lesser(width, chunk - lo);

@@ -37,7 +37,7 @@ fn refused(buf: &[u32], marks: &[u32], m: usize, n: usize, chunk: usize) -> bool
     if buf.len() / places < chunk {
         return true;
     }
-    if marks.len() < (places + 31) / 32 {
+    if marks.len() < (places + 63) / 64 {
         return true;
     }
     false

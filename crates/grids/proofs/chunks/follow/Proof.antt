@@ -1,27 +1,21 @@
--- `chunks::follow` meets its contract. The loop keeps that place p is free and x is its source; the measure is how many places are not marked.
-use mathlib.Core.Path.{_≡_, refl, sym, _∙_}
-use mathlib.Core.List.{List}
-use Prim.Native.Nat.{ℕ, _+_, _*_, _<_, _≤_}
+-- `chunks::follow` meets its contract. The loop keeps that place p and its mirrored one are free and x is the source of p; the measure is how many pairs
+-- are not marked.
+use mathlib.Core.Path.{_≡_}
+use Prim.Native.Nat.{_*_}
 use native.Mathlib.Omega.{arith}
 use lib.ListN.{length}
 use borrow.Author.Needs.{needs}
-use Rattle.orbits.specs.Cycles.{takes}
-use Rattle.orbits.proofs.Takes.{takes-permutes}
-use Rattle.grids.specs.Private.{bitAt, Fits}
-use Rattle.grids.proofs.Chasing.{free, Chasing, chase-begins, chase-on, fewer-free}
-use Rattle.grids.proofs.Slices.{Chased, chased-on, toured, fits-also, next-place}
+use Rattle.grids.specs.Private.{half, bitAt}
+use Rattle.grids.proofs.Chasing.{free}
+use Rattle.grids.proofs.Slices.{Following, following, following-on, followed, fewer, first-low, next-low, next-apart, last-apart}
 use Rattle.grids.proofs.chunks.follow.Statement.{statement}
 use Rattle.grids.proofs.chunks.follow.Tie as tie
 
 abbrev Inv-loop : tie.InvT-loop
-Inv-loop buf₀ marks₀ kept g first p₀ x₀ buf marks p x =
-    Chasing (takes-permutes (g .n) (g .m)) first p marks₀ marks
-    × (x ≡ takes (g .n) (g .m) p)
-    × (length buf ≡ length buf₀)
-    × ((slice : g .lo + g .count ≤ g .chunk) (xs : List ℕ) → Chased (g .n) (g .m) (g .chunk) (g .lo) (g .count) slice first xs marks₀ buf₀ → Chased (g .n) (g .m) (g .chunk) (g .lo) (g .count) slice p xs marks buf)
+Inv-loop buf₀ marks₀ kept g first p₀ x₀ buf marks p x = Following g first p x buf₀ marks₀ buf marks × (length kept ≡ 160)
 
 abbrev μ-loop : tie.MeasureT-loop
-μ-loop buf₀ marks₀ kept g first p₀ x₀ buf marks p x = free (g .n * g .m) (bitAt marks)
+μ-loop buf₀ marks₀ kept g first p₀ x₀ buf marks p x = free (half (g .n * g .m)) (bitAt marks)
 
 abbrev Loop : Type 0
 Loop = tie.At-loop Inv-loop μ-loop
@@ -34,52 +28,48 @@ loop-holds c =
     let k : tie.After-mark Inv-loop μ-loop = search in
     let f : tie.After-source Inv-loop μ-loop = search in
     let s : Begin = search in
-    (chase-begins _ (s .pre .1 .0) (s .pre .1 .1) (s .pre .1 .2) (k .mark .ensures), f .source .ensures, refl, λ slice xs a. a)
+    (following (s .pre .0 .0) (omega (arith, k .mark .ensures .same, s .pre .0 .1)) (s .pre .1 .0) (s .pre .1 .1) (s .pre .1 .2) (k .mark .ensures) (f .source .ensures), omega (arith, s .pre .0 .2))
 
-carry-requires : tie.Need-carry-requires Inv-loop μ-loop
-carry-requires c κs =
+advance-requires : tie.Need-advance-requires Inv-loop μ-loop
+advance-requires c κs =
+    let f : tie.After-folded Inv-loop μ-loop = search in
     let l : Loop = search in
-    let s : Begin = search in
-    (fits-also (s .pre .0 .0) (l .loop .inv .2), l .loop .inv .0 .low, next-place _ _ (l .loop .inv .1) (l .loop .inv .0 .low))
-
-mark-requires-2 : tie.Need-mark-requires-2 Inv-loop μ-loop
-mark-requires-2 c κs =
-    let l : Loop = search in
-    let k : tie.After-mark Inv-loop μ-loop = search in
-    let s : Begin = search in
-    omega (arith, next-place (s .args .g .n) (s .args .g .m) (l .loop .inv .1) (l .loop .inv .0 .low), l .loop .inv .0 .same, k .mark .ensures .same, s .pre .0 .1)
+    let i = l .loop .inv .0 in
+    ((i .fits, i .low, next-low i, i .bits), next-apart i (f .folded .ensures) (search))
 
 loop-less : tie.Need-loop-less Inv-loop μ-loop
 loop-less c =
-    let k : tie.After-mark2 Inv-loop μ-loop = search in
+    let y : tie.After-advance Inv-loop μ-loop = search in
+    let f : tie.After-folded Inv-loop μ-loop = search in
     let l : Loop = search in
-    let i = l .loop .inv in
-    fewer-free _ (i .0) (i .1) (search) (k .mark2 .ensures)
+    fewer (l .loop .inv .0) (f .folded .ensures) (search) (y .advance .ensures .0) (y .advance .ensures .1)
 
 loop-again : tie.Need-loop-again Inv-loop μ-loop
 loop-again c =
-    let k : tie.After-mark2 Inv-loop μ-loop = search in
-    let f : tie.After-source2 Inv-loop μ-loop = search in
-    let y : tie.After-carry Inv-loop μ-loop = search in
+    let g : tie.After-source2 Inv-loop μ-loop = search in
+    let y : tie.After-advance Inv-loop μ-loop = search in
+    let f : tie.After-folded Inv-loop μ-loop = search in
     let l : Loop = search in
-    let i = l .loop .inv in (
-      chase-on _ (i .0) (i .1) (search) (k .mark2 .ensures),
-      f .source2 .ensures,
-      y .carry .ensures .same ∙ i .2,
-      λ slice xs a. chased-on _ _ _ _ _ slice (i .0) (i .1) (search) (i .3 slice xs a) (y .carry .ensures) (k .mark2 .ensures),
-    )
+    (following-on (l .loop .inv .0) (f .folded .ensures) (search) (y .advance .ensures .0) (y .advance .ensures .1) (g .source2 .ensures), l .loop .inv .1)
+
+put-both-requires : tie.Need-put-both-requires Inv-loop μ-loop
+put-both-requires c κs =
+    let w : tie.After-waits Inv-loop μ-loop = search in
+    let f : tie.After-folded Inv-loop μ-loop = search in
+    let l : Loop = search in
+    let i = l .loop .inv .0 in
+    (i .fits, i .low, l .loop .inv .1, w .waits .ensures .0, last-apart i (f .folded .ensures) (search))
 
 returns : tie.Need-returns Inv-loop μ-loop
 returns c =
-    let o : tie.After-put Inv-loop μ-loop = search in
+    let o : tie.After-put-both Inv-loop μ-loop = search in
+    let w : tie.After-waits Inv-loop μ-loop = search in
+    let f : tie.After-folded Inv-loop μ-loop = search in
     let l : Loop = search in
     let k : tie.After-mark Inv-loop μ-loop = search in
-    let h : tie.After-keep Inv-loop μ-loop = search in
+    let h : tie.After-keep-both Inv-loop μ-loop = search in
     let s : Begin = search in
-    let i = l .loop .inv in
-    let e : l .loop .x ≡ s .args .first = search in
-    let slice = s .pre .0 .0 .slice in
-    toured _ _ _ _ _ slice (s .pre .1 .1) (s .pre .1 .2) (k .mark .ensures) (h .keep .ensures) (i .0) (sym (i .1) ∙ e) (i .2) (i .3 slice) (o .put .ensures)
+    followed (l .loop .inv .0) (f .folded .ensures) (search) (s .pre .1 .2) (k .mark .ensures) (h .keep-both .ensures) (w .waits .ensures) (o .put-both .ensures)
 
 pub follow-spec : {M : Type 1} → statement M
 follow-spec =
@@ -87,20 +77,17 @@ follow-spec =
     (tie.spec
     Inv-loop
     μ-loop
-    (λ c κs. let s : Begin = search in (s .pre .0 .0, s .pre .1 .1, s .pre .0 .2))
-    (λ c κs. let s : Begin = search in (s .pre .0 .0 .follows, s .pre .1 .1))
+    (λ c κs. let s : Begin = search in (s .pre .0 .0, first-low _ _ (s .pre .1 .1), s .pre .0 .2))
+    (λ c κs. let s : Begin = search in (s .pre .0 .0 .follows, first-low _ _ (s .pre .1 .1)))
     (λ c κs. let s : Begin = search in omega (arith, s .pre .0 .1, s .pre .1 .1))
     loop-holds
-    carry-requires
-    (λ c κs. let l : Loop = search in let s : Begin = search in (s .pre .0 .0 .follows, next-place _ _ (l .loop .inv .1) (l .loop .inv .0 .low)))
-    mark-requires-2
+    (λ c κs. let l : Loop = search in (l .loop .inv .0 .fits .follows, next-low (l .loop .inv .0)))
+    advance-requires
+    (λ c κs. let l : Loop = search in (l .loop .inv .0 .fits .follows, next-low (l .loop .inv .0)))
     loop-less
     loop-again
-    (λ c κs.
-    let l : Loop = search in
-    let h : tie.After-keep Inv-loop μ-loop = search in
-    let s : Begin = search in
-    (fits-also (s .pre .0 .0) (l .loop .inv .2), l .loop .inv .0 .low, h .keep .ensures .same ∙ s .pre .0 .2))
+    (search needs)
+    put-both-requires
     (search needs)
     (search needs)
     (search needs)

@@ -1,30 +1,29 @@
--- `chunks::slice` meets its contract. The loop keeps that marked places have the slices of their sources and that those asked about are marked; the
+-- `chunks::slice` meets its contract. The loop keeps that places of marked pairs have the slices of their sources and that the pairs asked about are marked; the
 -- measure is how many are left.
 use mathlib.Core.Path.{_≡_, refl, sym, _∙_}
 use mathlib.Core.Bool.{true}
-use Prim.Native.Nat.{ℕ, _+_, _*_, _-_, _<_, _≤_}
+use Prim.Native.Nat.{ℕ, _*_, _-_, _<_}
 use native.Mathlib.Omega.{arith}
 use lib.ListN.{length}
 use borrow.Author.Needs.{needs}
 use Rattle.lists.proofs.Via.{via}
-use Rattle.orbits.specs.Cycles.{takes}
-use Rattle.grids.specs.Private.{bitAt, Level, Settled}
+use Rattle.grids.specs.Private.{half, pairs, bitAt, Level, Settled}
 use Rattle.grids.proofs.Slices.{fits-also}
 use Rattle.grids.proofs.Turned.{none-marked, level-none, settled-none, asked-more, settled-all}
 use Rattle.grids.proofs.chunks.slice.Statement.{statement}
 use Rattle.grids.proofs.chunks.slice.Tie as tie
 
 abbrev Inv-loop : tie.InvT-loop
-Inv-loop buf₀ marks₀ kept₀ g last p₀ buf marks kept p =
+Inv-loop buf₀ marks₀ kept₀ g places middle p₀ buf marks kept p =
     Settled (g .n) (g .m) (g .chunk) (g .lo) (g .count) buf₀ marks buf
-    × Level (takes (g .n) (g .m)) (g .n * g .m) marks
+    × Level (pairs (g .n) (g .m)) (half (g .n * g .m)) marks
     × (length marks ≡ length marks₀)
     × (length kept ≡ length kept₀)
     × (0 < p)
     × ((k : ℕ) → 0 < k → k < p → bitAt marks k ≡ true)
 
 abbrev μ-loop : tie.MeasureT-loop
-μ-loop buf₀ marks₀ kept₀ g last p₀ buf marks kept p = last - p
+μ-loop buf₀ marks₀ kept₀ g places middle p₀ buf marks kept p = middle - p
 
 abbrev Loop : Type 0
 Loop = tie.At-loop Inv-loop μ-loop
@@ -52,7 +51,7 @@ follow-requires c κs =
     let l : Loop = search in
     let s : Begin = search in
     let i = l .loop .inv in
-    ((fits-also (s .pre .0) (i .0 .same), omega (arith, i .2, s .pre .1), i .3 ∙ s .pre .2), (i .1, omega arith, sym (k .marked .ensures) ∙ e .if1 .left))
+    ((fits-also (s .pre .0) (i .0 .same), omega (arith, i .2, s .pre .1), i .3 ∙ s .pre .2), (i .1, omega (arith, i .4), sym (k .marked .ensures) ∙ e .if1 .left))
 
 loop-again-2 : tie.Need-loop-again-2 Inv-loop μ-loop
 loop-again-2 c =
@@ -75,8 +74,6 @@ slice-spec =
     (tie.spec
     Inv-loop
     μ-loop
-    (λ c. let s : Begin = search in omega (arith, s .pre .0 .follows .small .few))
-    (λ c. let s : Begin = search in omega (arith, s .pre .0 .follows .small .some))
     (λ c. let s : Begin = search in omega (arith, s .pre .0 .follows .small .few))
     (λ c. let s : Begin = search in omega (arith, s .pre .0 .follows .small .few))
     (search needs)

@@ -11,7 +11,7 @@ use Rattle.grids.proofs.chunks.turned.Tie as tie
 
 abbrev Inv-loop : tie.InvT-loop
 Inv-loop buf₀ marks₀ m n chunk inverse width kept₀ lo₀ buf marks kept lo =
-    Sliced n m chunk 0 lo buf₀ buf × (lo ≤ chunk) × (length marks ≡ length marks₀) × (length kept ≡ 80)
+    Sliced n m chunk 0 lo buf₀ buf × (lo ≤ chunk) × (length marks ≡ length marks₀) × (length kept ≡ 160)
 
 abbrev μ-loop : tie.MeasureT-loop
 μ-loop buf₀ marks₀ m n chunk inverse width kept₀ lo₀ buf marks kept lo = chunk - lo

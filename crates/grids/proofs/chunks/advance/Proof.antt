@@ -1,0 +1,24 @@
+-- `chunks::advance` meets its contract: the slices are moved and the pair is marked.
+use Prim.Native.Nat.{_*_}
+use native.Mathlib.Omega.{arith}
+use borrow.Author.Needs.{needs}
+use Rattle.grids.proofs.chunks.advance.Statement.{statement}
+use Rattle.grids.proofs.chunks.advance.Tie as tie
+
+returns : tie.Need-returns
+returns c =
+    let k : tie.After-mark = search in
+    let f : tie.After-folded = search in
+    let y : tie.After-carry-both = search in
+    (y .carry-both .ensures, rw (← f .folded .ensures) (k .mark .ensures))
+
+pub advance-spec : {M : Type 1} → statement M
+advance-spec =
+    tie.close
+    (tie.spec
+    (search needs)
+    (search needs)
+    (λ c κs. let f : tie.After-folded = search in let s : tie.Start = search in omega (arith, f .folded .ensures, s .pre .0 .2, s .pre .0 .3))
+    (search needs)
+    (search needs)
+    returns)
