@@ -49,7 +49,7 @@ fn swap_at(buf: &mut [u32], scratch: &mut [u32], lens: &[usize], k: usize)
     let chunk = checks::words_of(&lens[k + 2..]);
     let m = lens[k];
     let n = lens[k + 1];
-    tours::swap(buf, scratch, outer, m, n, chunk);
+    strips::swap(buf, scratch, outer, m, n, chunk);
 }
 
 // An accepted chain, swap by swap; each swap clears the scratch that it used.

@@ -1,7 +1,7 @@
 // The C interface: each public call under a C name, with the promise of the call below it.
 ghost use mathlib.Core.Path.{_≡_};
 ghost use lib.ListN.{take};
-ghost use Rattle.passes.specs.Promises.{TurnPromise, TurnBackPromise};
+ghost use Rattle.flat.specs.Promises.{TurnPromise, TurnBackPromise};
 ghost use Rattle.halves.specs.Promise.{TurnPromise as HalvesPromise};
 ghost use Rattle.plans.specs.Promise.{PlanPromise};
 ghost use Rattle.axes.specs.Promises.{ChainPromise, RequestPromise};
@@ -25,9 +25,25 @@ pub struct SheetShape {
     pub lens: [usize; 4],
 }
 
-// The flat turn of m by n by passes.
+// The flat turn of m by n by strips, the fast way.
 #[no_mangle]
 pub extern "C" fn zib_turn(buf: &mut [u32], scratch: &mut [u32], m: usize, n: usize) -> u32
+    ensures { λ r. ⌜ TurnPromise m n (now (buf .entry)) (now (scratch .entry)) r (now (buf .exit)) (now (scratch .exit)) ⌝ }
+{
+    strips::turn(buf, scratch, m, n)
+}
+
+// The reverse of the flat turn of m by n, by strips.
+#[no_mangle]
+pub extern "C" fn zib_turn_back(buf: &mut [u32], scratch: &mut [u32], m: usize, n: usize) -> u32
+    ensures { λ r. ⌜ TurnBackPromise m n (now (buf .entry)) (now (scratch .entry)) r (now (buf .exit)) (now (scratch .exit)) ⌝ }
+{
+    strips::turn_back(buf, scratch, m, n)
+}
+
+// The flat turn of m by n by passes.
+#[no_mangle]
+pub extern "C" fn zib_turn_passes(buf: &mut [u32], scratch: &mut [u32], m: usize, n: usize) -> u32
     ensures { λ r. ⌜ TurnPromise m n (now (buf .entry)) (now (scratch .entry)) r (now (buf .exit)) (now (scratch .exit)) ⌝ }
 {
     passes::turn(buf, scratch, m, n)
@@ -35,7 +51,12 @@ pub extern "C" fn zib_turn(buf: &mut [u32], scratch: &mut [u32], m: usize, n: us
 
 // The reverse of the flat turn of m by n, by passes.
 #[no_mangle]
-pub extern "C" fn zib_turn_back(buf: &mut [u32], scratch: &mut [u32], m: usize, n: usize) -> u32
+pub extern "C" fn zib_turn_back_passes(
+    buf: &mut [u32],
+    scratch: &mut [u32],
+    m: usize,
+    n: usize,
+) -> u32
     ensures { λ r. ⌜ TurnBackPromise m n (now (buf .entry)) (now (scratch .entry)) r (now (buf .exit)) (now (scratch .exit)) ⌝ }
 {
     passes::turn_back(buf, scratch, m, n)

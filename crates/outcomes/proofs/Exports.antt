@@ -35,6 +35,12 @@ turn-once t = let (x, y, z) = passes.OneOutcome.turn-once (t .first) (t .second)
 pub turn-back-once : Once exports.zib_turn_back.Kinds.ps exports.zib_turn_back.Kinds.r exports.zib_turn_back.Reads.Post
 turn-back-once t = let (x, y, z) = passes.OneOutcome.turn-back-once (t .first) (t .second) in (x, λ i. (y i, (z i, _)))
 
+pub turn-passes-once : Once exports.zib_turn_passes.Kinds.ps exports.zib_turn_passes.Kinds.r exports.zib_turn_passes.Reads.Post
+turn-passes-once t = let (x, y, z) = passes.OneOutcome.turn-once (t .first) (t .second) in (x, λ i. (y i, (z i, _)))
+
+pub turn-back-passes-once : Once exports.zib_turn_back_passes.Kinds.ps exports.zib_turn_back_passes.Kinds.r exports.zib_turn_back_passes.Reads.Post
+turn-back-passes-once t = let (x, y, z) = passes.OneOutcome.turn-back-once (t .first) (t .second) in (x, λ i. (y i, (z i, _)))
+
 pub turn-halves-once : Once exports.zib_turn_halves.Kinds.ps exports.zib_turn_halves.Kinds.r exports.zib_turn_halves.Reads.Post
 turn-halves-once t = let (x, y) = halves.OneOutcome.turn-once (t .first) (t .second) in (x, λ i. (y i, _))
 

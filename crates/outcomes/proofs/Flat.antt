@@ -9,7 +9,7 @@ use ghost.Atoms.{Atoms}
 use contract.Monad.{Fun}
 use Rattle.refusals.proofs as refusals
 use Rattle.halves.proofs as halves
-use Rattle.tours.proofs as tours
+use Rattle.strips.proofs as strips
 use Rattle.passes.proofs as passes
 use Rattle.ticks.proofs as ticks
 use Rattle.home.proofs as home
@@ -31,7 +31,13 @@ turn-halves-once t = let (x, y) = halves.OneOutcome.turn-once (t .first) (t .sec
 pub turn-chunks-once : Once halves.turn_chunks.Kinds.ps halves.turn_chunks.Kinds.r halves.turn_chunks.Reads.Post
 turn-chunks-once t = let (x, y) = halves.OneOutcome.turn-chunks-once (t .first) (t .second) in (x, λ i. (y i, _))
 
-pub swap-once : Once tours.swap.Kinds.ps tours.swap.Kinds.r tours.swap.Reads.Post
+pub strips-turn-once : Once strips.turn.Kinds.ps strips.turn.Kinds.r strips.turn.Reads.Post
+strips-turn-once t = let (x, y, z) = passes.OneOutcome.turn-once (t .first) (t .second) in (x, λ i. (y i, (z i, _)))
+
+pub strips-turn-back-once : Once strips.turn_back.Kinds.ps strips.turn_back.Kinds.r strips.turn_back.Reads.Post
+strips-turn-back-once t = let (x, y, z) = passes.OneOutcome.turn-back-once (t .first) (t .second) in (x, λ i. (y i, (z i, _)))
+
+pub swap-once : Once strips.swap.Kinds.ps strips.swap.Kinds.r strips.swap.Reads.Post
 swap-once t = let (x, y, z) = refusals.Swap.swap-once (t .first) (t .second) in (x, λ i. (y i, (z i, _)))
 
 pub clear-once : Once passes.clear.Kinds.ps passes.clear.Kinds.r passes.clear.Reads.Post
