@@ -8,3 +8,5 @@ pub mod Chasing
 pub mod Slices
 -- cycle after cycle, and slice after slice: the block is turned
 pub mod Turned
+-- any two outcomes coincide
+pub mod OneOutcome

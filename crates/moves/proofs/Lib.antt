@@ -4,3 +4,5 @@ pub mod Filling
 pub mod Trading
 -- what a call answers where the runs lie inside, and where they do not
 pub mod Inside
+-- any two outcomes coincide
+pub mod OneOutcome

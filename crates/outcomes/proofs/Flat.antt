@@ -14,6 +14,8 @@ use Rattle.passes.proofs as passes
 use Rattle.ticks.proofs as ticks
 use Rattle.home.proofs as home
 use Rattle.cycles.proofs as cycles
+use Rattle.moves.proofs as moves
+use Rattle.grids.proofs as grids
 use Rattle.cameras.proofs as cameras
 use Rattle.tiles.proofs as tiles
 use Rattle.outcomes.specs.Once.{Once, OnceWalked}
@@ -65,6 +67,25 @@ judge-once t = (cycles.OneOutcome.judge-once (t .first) (t .second), refl)
 
 pub run-once : Once cycles.run.Kinds.ps cycles.run.Kinds.r cycles.run.Reads.Post
 run-once t = let (x, y) = cycles.OneOutcome.run-once (t .first) (t .second) in (x, λ i. (_, (y i, _)))
+
+pub copy-once : Once moves.copy.Kinds.ps moves.copy.Kinds.r moves.copy.Reads.Post
+copy-once t = let e = moves.OneOutcome.copy-once (t .args .1 .0) (t .args .1 .1 .1 .0) (t .args .1 .1 .1 .1 .0) (t .args .1 .1 .0 .now) (t .first) (t .second) in (refl, λ i. (e i, _))
+
+pub fall-once : Once moves.fall.Kinds.ps moves.fall.Kinds.r moves.fall.Reads.Post
+fall-once t = let e = moves.OneOutcome.fall-once (t .args .1 .0) (t .args .1 .1 .0) (t .args .1 .1 .1 .0) (t .first) (t .second) in (refl, λ i. (e i, _))
+
+pub rise-once : Once moves.rise.Kinds.ps moves.rise.Kinds.r moves.rise.Reads.Post
+rise-once t = let e = moves.OneOutcome.rise-once (t .args .1 .0) (t .args .1 .1 .0) (t .args .1 .1 .1 .0) (t .first) (t .second) in (refl, λ i. (e i, _))
+
+pub zero-once : Once moves.zero.Kinds.ps moves.zero.Kinds.r moves.zero.Reads.Post
+zero-once t = let e = moves.OneOutcome.zero-once (t .args .1 .0) (t .args .1 .1 .0) (t .first) (t .second) in (refl, λ i. (e i, _))
+
+pub trade-once : Once moves.trade.Kinds.ps moves.trade.Kinds.r moves.trade.Reads.Post
+trade-once t = let e = moves.OneOutcome.trade-once (t .args .1 .0) (t .args .1 .1 .0) (t .args .1 .1 .1 .0) (t .first) (t .second) in (refl, λ i. (e i, _))
+
+pub turn-grid-once : Once grids.turn_grid.Kinds.ps grids.turn_grid.Kinds.r grids.turn_grid.Reads.Post
+turn-grid-once t =
+    let (x, y, z) = grids.OneOutcome.turn-grid-once (t .args .1 .1 .0) (t .args .1 .1 .1 .0) (t .args .1 .1 .1 .1 .0) (t .first) (t .second) in (x, λ i. (y i, (z i, _)))
 
 pub remove-once : Once cameras.remove.Kinds.ps cameras.remove.Kinds.r cameras.remove.Reads.Post
 remove-once t = let (x, y) = cameras.OneOutcome.remove-once (t .args .1 .0) (t .args .1 .1 .0) (t .args .1 .1 .1 .0) (t .first) (t .second) in (x, λ i. (y i, _))
