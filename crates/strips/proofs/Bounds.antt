@@ -74,7 +74,7 @@ module _ {short long g s : ℕ} {xs tile : List ℕ} (t : Strip short long g xs 
       }
 
 -- marks enough are a part of the room
-pub lent-turnable : {m n chunk k : ℕ} {xs room : List ℕ} → Turnable m n chunk xs room → m * n ≤ 32 * k → k ≤ length room → Turnable m n chunk xs (take k room)
+pub lent-turnable : {m n chunk k : ℕ} {xs room : List ℕ} → Turnable m n chunk xs room → m * n ≤ 64 * k → k ≤ length room → Turnable m n chunk xs (take k room)
 lent-turnable {k = k} {room = room} t enough inside = record {
   some-rows = t .some-rows;
   some-columns = t .some-columns;

@@ -9,6 +9,6 @@ pub(crate) fn turned(buf: &mut [u32], room: &mut [u32], m: usize, n: usize, chun
     requires { ⌜ Turnable m n chunk (now buf) (now room) ⌝ }
     ensures { λ _. ⌜ GridTurned m n chunk (now (buf .entry)) (now (buf .exit)) × (length (now (room .exit)) ≡ length (now (room .entry))) ⌝ }
 {
-    let marks = (m * n + 31) / 32;
+    let marks = (m * n + 63) / 64;
     grids::turn_grid(buf, &mut room[..marks], m, n, chunk);
 }

@@ -15,4 +15,4 @@ at-once-spec =
     (tie.spec
     (λ c. (λ e. absurd (true≢false (sym e)), λ e. inl (search)))
     (λ c. let s : tie.Start = search in record { fits = omega (arith, mul-le-mul (s .pre .0) (s .pre .1)) })
-    (λ c. let s : tie.Start = search in let p = s .args .m * s .args .n in (leb-true p 32768, λ e. inr (leb-false p 32768 e))))
+    (λ c. let s : tie.Start = search in let p = s .args .m * s .args .n in (leb-true p 65536, λ e. inr (leb-false p 65536 e))))

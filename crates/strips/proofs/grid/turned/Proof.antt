@@ -10,7 +10,7 @@ use Rattle.strips.proofs.grid.turned.Statement.{statement}
 use Rattle.strips.proofs.grid.turned.Tie as tie
 
 -- the marks have room
-enough : (s : tie.Start) → (s .args .m * s .args .n + 31) / 32 ≤ length (s .args .room .now)
+enough : (s : tie.Start) → (s .args .m * s .args .n + 63) / 64 ≤ length (s .args .room .now)
 enough s = omega (arith, s .pre .marked)
 
 slice-aggregate-turn-grid : tie.Need-slice-aggregate-turn-grid
@@ -21,7 +21,7 @@ returns c =
     let t : tie.After-turn-grid = search in
     let s : tie.Start = search in
     let w = t .turn-grid .ensures .turned (lent-turnable (s .pre) (omega arith) (enough s)) in
-    (w .1, lent-back ((s .args .m * s .args .n + 31) / 32) (s .args .room .now) (w .2) (enough s))
+    (w .1, lent-back ((s .args .m * s .args .n + 63) / 64) (s .args .room .now) (w .2) (enough s))
 
 pub turned-spec : {M : Type 1} → statement M
 turned-spec =
