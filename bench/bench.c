@@ -25,8 +25,9 @@
 
 enum { MOST_WORDS = 1 << 20, LONGEST = 4096, ROUNDS = 21, STRETCH = 200000 /* words in a timed stretch, at least */ };
 
-const struct shape shapes[SHAPES] = {{64, 15},     {64, 16},    {40, 40},    {256, 256},   {1000, 1000},
-                                     {1024, 1024}, {4096, 256}, {256, 4096}, {1000, 1047}, {4096, 16}};
+const struct shape shapes[SHAPES] = {{64, 15},   {64, 16},   {60, 15},     {50, 16},     {100, 15},   {32, 16},
+                                     {40, 40},   {720, 64},  {256, 256},   {2, 4096},    {16, 4096},  {4096, 16},
+                                     {1000, 1000}, {1024, 1024}, {4096, 256}, {256, 4096}, {1000, 1047}, {1920, 544}};
 struct found found[MOST_METHODS][SHAPES];
 
 static size_t m, n; /* the shape of this round */
@@ -73,16 +74,20 @@ static void cycles_with_table(void) {
         if (!(seen[start / 8] & 1 << start % 8)) follow(start, 1);
 }
 
-static void passes(void) { zib_turn(block, m * n, scratch, LONGEST, m, n); }
-static void reverse(void) { zib_turn_back(block, m * n, scratch, LONGEST, m, n); }
-static void halves(void) { zib_turn_halves(block, m * n, m, n); }
+static uint32_t refused; /* any number that came back */
+
+static void strips(void) { refused |= zib_turn(block, m * n, scratch, LONGEST, m, n); }
+static void reverse(void) { refused |= zib_turn_back(block, m * n, scratch, LONGEST, m, n); }
+static void passes(void) { refused |= zib_turn_passes(block, m * n, scratch, LONGEST, m, n); }
+static void passes_back(void) { refused |= zib_turn_back_passes(block, m * n, scratch, LONGEST, m, n); }
+static void halves(void) { refused |= zib_turn_halves(block, m * n, m, n); }
 
 #ifdef EARLIER
 /* the same calls of an earlier revision, renamed in its archive by bench/compare */
 uint32_t earlier_turn(uint32_t *, size_t, uint32_t *, size_t, size_t, size_t);
 uint32_t earlier_turn_back(uint32_t *, size_t, uint32_t *, size_t, size_t, size_t);
-static void earlier_passes(void) { earlier_turn(block, m * n, scratch, LONGEST, m, n); }
-static void earlier_reverse(void) { earlier_turn_back(block, m * n, scratch, LONGEST, m, n); }
+static void earlier_there(void) { earlier_turn(block, m * n, scratch, LONGEST, m, n); }
+static void earlier_back(void) { earlier_turn_back(block, m * n, scratch, LONGEST, m, n); }
 #endif
 
 #ifdef RIVALS
@@ -113,8 +118,10 @@ static void make_plans(void) {}
 
 const struct method methods[] = {
     {"memcpy of the block (limit)", "the block again", "#999999", copied, COPIES},
-    {"zibsnarda, passes", "max(m, n) words", "#d62728", passes, TURNS},
-    {"zibsnarda, reverse", "max(m, n) words", "#ff9896", reverse, TURNS_BACK},
+    {"zibsnarda, strips", "1,184 words", "#d62728", strips, TURNS},
+    {"zibsnarda, reverse", "1,184 words", "#ff9896", reverse, TURNS_BACK},
+    {"zibsnarda, passes", "max(m, n) words", "#e377c2", passes, TURNS},
+    {"zibsnarda, passes-back", "max(m, n) words", "#f7b6d2", passes_back, TURNS_BACK},
     {"zibsnarda, recursion", "call stack only", "#8c1515", halves, TURNS},
     {"out of place, copied back", "the block again", "#1f77b4", out_of_place, TURNS},
     {"cycles, no table", "none", "#9467bd", cycles, TURNS},
@@ -125,8 +132,8 @@ const struct method methods[] = {
     {"OpenBLAS simatcopy", "the block again", "#ff7f0e", openblas, TURNS},
 #endif
 #ifdef EARLIER
-    {"before, passes", "max(m, n) words", "#000000", earlier_passes, TURNS},
-    {"before, reverse", "max(m, n) words", "#000000", earlier_reverse, TURNS_BACK},
+    {"before, turn", "max(m, n) words", "#000000", earlier_there, TURNS},
+    {"before, back", "max(m, n) words", "#000000", earlier_back, TURNS_BACK},
 #endif
 };
 const size_t method_count = sizeof methods / sizeof methods[0];
@@ -233,6 +240,10 @@ int main(int count, char **words) {
     if (!timed) {
         printf("%zu methods agree on %d shapes\n", method_count, SHAPES);
         return 0;
+    }
+    if (refused) {
+        printf("a call was refused\n");
+        return 1;
     }
     report(words[1]);
     return write_plot(words[2], words[1]);

@@ -284,6 +284,19 @@ uint32_t zib_turn_back(uint32_t *buffer, size_t buffer_words, uint32_t *scratch,
                        size_t scratch_words, size_t m, size_t n);
 
 /*
+ * zib_turn and zib_turn_back by three passes over the block, the method that zib_tick and
+ * zib_resume cut into lines. They leave the same words, and are slower.
+ * In, Out: as above.
+ * Answers 0, or the first of 1, 2, 3, 13, 4 that holds.
+ */
+ZIB_MUST_USE ZIB_NONNULL
+uint32_t zib_turn_passes(uint32_t *buffer, size_t buffer_words, uint32_t *scratch,
+                         size_t scratch_words, size_t m, size_t n);
+ZIB_MUST_USE ZIB_NONNULL
+uint32_t zib_turn_back_passes(uint32_t *buffer, size_t buffer_words, uint32_t *scratch,
+                              size_t scratch_words, size_t m, size_t n);
+
+/*
  * The turn by recursion and without scratch.
  * In:      the block, which fills the buffer.
  * Out:     the same words as zib_turn leaves.

@@ -48,12 +48,15 @@ def flat_turns():
     for m, n in itertools.product(range(1, 9), range(1, 9)):
         block, turned = words(m * n), None
         turned = laid(block, [m, n], [1, 0])
-        for call in (zibsnarda.turn, lambda b, s, m, n: zibsnarda.turn_halves(b, m, n)):
+        for call in (zibsnarda.turn, zibsnarda.turn_passes, lambda b, s, m, n: zibsnarda.turn_halves(b, m, n)):
             lent, scratch = array("I", block), array("I", [7] * (max(m, n) + 1))
             call(lent, scratch, m, n)
             expect(list(lent) == turned, f"the turn of {m} by {n}")
         zibsnarda.turn_back(lent, scratch, m, n)
         expect(lent == block and list(scratch) == [0] * max(m, n) + [7], f"the way back of {m} by {n}")
+        lent, scratch = array("I", turned), array("I", [7] * (max(m, n) + 1))
+        zibsnarda.turn_back_passes(lent, scratch, m, n)
+        expect(lent == block and list(scratch) == [0] * max(m, n) + [7], f"the way back of {m} by {n} by passes")
         record = zibsnarda.LineRecord()
         while record.done < zibsnarda.lines(m, n):
             zibsnarda.tick(lent, scratch, record, m, n)

@@ -61,6 +61,8 @@ enum {
     REQUEST5 = 32,
     PLAN5 = 33,
     RESUME = 34,
+    TURN_PASSES = 35,
+    TURN_BACK_PASSES = 36,
     /* these touch what they must not, to show that the guards bite */
     WRITE_PAST_END = 100,
     READ_PAST_END = 101,
@@ -341,6 +343,12 @@ static void run(uint64_t call) {
         break;
     case RESUME:
         give(zib_resume(words(0), word_count(0), words(1), word_count(1), words(2), numbers[0], numbers[1], numbers[2]));
+        break;
+    case TURN_PASSES:
+        give(zib_turn_passes(words(0), word_count(0), words(1), word_count(1), numbers[0], numbers[1]));
+        break;
+    case TURN_BACK_PASSES:
+        give(zib_turn_back_passes(words(0), word_count(0), words(1), word_count(1), numbers[0], numbers[1]));
         break;
     case WRITE_PAST_END:
         at[buffers[0].bytes] = 1;

@@ -35,6 +35,8 @@ static struct {
 /* Flat blocks: m and n, then what else the call takes. */
 static void turn(void) { answer = zib_turn(block, given[0] * given[1], scratch, 4096, given[0], given[1]); }
 static void turn_back(void) { answer = zib_turn_back(block, given[0] * given[1], scratch, 4096, given[0], given[1]); }
+static void turn_passes(void) { answer = zib_turn_passes(block, given[0] * given[1], scratch, 4096, given[0], given[1]); }
+static void turn_back_passes(void) { answer = zib_turn_back_passes(block, given[0] * given[1], scratch, 4096, given[0], given[1]); }
 static void turn_halves(void) { answer = zib_turn_halves(block, given[0] * given[1], given[0], given[1]); }
 static void lines(void) { answer = zib_lines(given[0], given[1]).number; }
 static void repeats(void) { answer = zib_repeats(given[0], given[1]).number; }
@@ -44,7 +46,7 @@ static void tick(void) {
 }
 static void resume(void) {
     uint32_t progress = (uint32_t)given[2];
-    answer = zib_resume(block, given[0] * given[1], scratch, 4096, &progress, given[0], given[1], 10000000);
+    answer = zib_resume(block, given[0] * given[1], scratch, 4096, &progress, given[0], given[1], ZIB_ENOUGH_STORES);
 }
 static void remove_camera(void) { answer = zib_remove_camera(block, WORDS, given[0], given[1], given[2]); }
 static void add_camera(void) { answer = zib_add_camera(block, WORDS, given[0], given[1], given[2], scratch, given[0]); }
@@ -144,6 +146,8 @@ static void flat(size_t m, size_t n) {
     size_t count = zib_lines(m, n).count;
     TRY(turn, m, n);
     TRY(turn_back, m, n);
+    TRY(turn_passes, m, n);
+    TRY(turn_back_passes, m, n);
     TRY(turn_halves, m, n);
     TRY(lines, m, n);
     TRY(resume, m, n, 0);
@@ -172,6 +176,8 @@ static void flats(void) {
         size_t m = largest[k][0], n = largest[k][1];
         TRY(turn, m, n);
         TRY(turn_back, m, n);
+        TRY(turn_passes, m, n);
+        TRY(turn_back_passes, m, n);
         TRY(turn_halves, m, n);
         TRY(tick, m, n, 0);
     }

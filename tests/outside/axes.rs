@@ -189,6 +189,19 @@ fn chunks(t: &mut Bench, r: &mut Random) {
     for shape in larger {
         try_swap(t, r, shape, 1);
     }
+    // every chunk length of which single elements, tiles, strips, grids and slices of 80 words are made, and those beside them
+    let slices = [63, 64, 65, 79, 80, 81, 82, 159, 160, 161, 239, 240, 241, 400];
+    for chunk in (1..=40).chain(slices).step_by(if t.short { 5 } else { 1 }) {
+        for shape in [[2, 3, 7, chunk], [1, 9, 9, chunk], [1, 17, 30, chunk], [1, 66, 5, chunk], [1, 5, 97, chunk], [1, 70, 67, chunk], [1, 83, 130, chunk]] {
+            try_swap(t, r, shape, 1);
+        }
+    }
+    // as many places as have marks, and more: 65,536 and 131,072
+    if !t.short {
+        for shape in [[1, 256, 256, 8], [1, 257, 255, 8], [1, 362, 362, 8], [1, 1024, 128, 8], [1, 300, 219, 15], [1, 509, 251, 8], [1, 4096, 16, 16], [1, 181, 363, 15]] {
+            try_swap(t, r, shape, 1);
+        }
+    }
     // chunks of more words than an axis has: the first swap of a block, with two axes behind it
     for shape in [[2, 2, 2, 4096], [3, 2, 64, 128], [2, 3, 5, 1000], [6, 4, 100, 50], [4, 4, 65, 64], [3, 3, 4096, 2]] {
         try_swap(t, r, shape, 0);

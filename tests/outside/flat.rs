@@ -1,15 +1,17 @@
-// The flat turn by passes, its reverse, and the flat turn by recursion.
+// The flat turn and its reverse, by strips and by passes, and the flat turn by recursion.
 use crate::bench::Bench;
-use crate::driver::{words, Answer, Request, TURN, TURN_BACK, TURN_HALVES};
+use crate::driver::{words, Answer, Request, TURN, TURN_BACK, TURN_BACK_PASSES, TURN_HALVES, TURN_PASSES};
 use crate::random::Random;
 use crate::reference::{block_checks, cleared, first, scratch_checks, turned, turned_back};
 
-const CALLS: [u64; 3] = [TURN, TURN_BACK, TURN_HALVES];
+const CALLS: [u64; 5] = [TURN, TURN_BACK, TURN_PASSES, TURN_BACK_PASSES, TURN_HALVES];
 
 fn name(call: u64) -> &'static str {
     match call {
         TURN => "turn",
         TURN_BACK => "turn back",
+        TURN_PASSES => "turn by passes",
+        TURN_BACK_PASSES => "turn back by passes",
         _ => "turn by halves",
     }
 }
@@ -31,7 +33,7 @@ fn case(call: u64, m: u64, n: u64, buffer: &[u32], scratch: &[u32]) -> (Request,
     }
     if number == 0 {
         let (m, n) = (m as usize, n as usize);
-        left[0] = words(&if call == TURN_BACK { turned_back(buffer, m, n) } else { turned(buffer, m, n) });
+        left[0] = words(&if matches!(call, TURN_BACK | TURN_BACK_PASSES) { turned_back(buffer, m, n) } else { turned(buffer, m, n) });
         if takes_scratch {
             left[1] = words(&cleared(scratch, &sides));
         }
@@ -61,7 +63,7 @@ fn small_shapes(t: &mut Bench, r: &mut Random) {
             }
         }
     }
-    t.group(&format!("flat shapes up to {} by {}, three calls", side, side));
+    t.group(&format!("flat shapes up to {} by {}, five calls", side, side));
 }
 
 // Shapes at the edges of what is accepted, and those of the benchmark.
@@ -78,7 +80,29 @@ fn large_shapes(t: &mut Bench, r: &mut Random) {
             try_call(t, call, m, n, &buffer, &scratch);
         }
     }
-    t.group("larger flat shapes, three calls");
+    t.group("larger flat shapes, five calls");
+}
+
+// Both ways of the strips about every bound that they have: a block that fits the tile of 512 words or not, a line of 64 words, cuts of 32 to 64 lines, none,
+// one and several lines left over, lines of 1,024 words that wait.
+fn strip_bounds(t: &mut Bench, r: &mut Random) {
+    let near = [2, 3, 7, 8, 9, 15, 16, 17, 31, 32, 33, 62, 63, 64, 65, 66, 79, 80, 81, 82, 95, 96, 97, 127, 128, 129];
+    let far = [511, 512, 513, 1022, 1023, 1024, 1025, 2047, 2049, 4095, 4096];
+    let sides = |m: u64, n: u64| [(m, n), (n, m)];
+    let mut shapes: Vec<(u64, u64)> = near.iter().flat_map(|&m| near.iter().map(move |&n| (m, n))).collect();
+    shapes.extend(near.iter().flat_map(|&m| far.iter().flat_map(move |&n| sides(m, n))));
+    shapes.extend([511, 512, 513, 514].iter().flat_map(|&w| (2..=23).filter(move |s| w % s == 0).flat_map(move |s| sides(s, w / s))));
+    shapes.extend([(1023, 1023), (1024, 1023), (1023, 1024), (1025, 1023), (1021, 1025), (1019, 1013), (1013, 1031), (1024, 1021), (700, 1497), (1497, 700)]);
+    shapes.retain(|&(m, n)| m * n <= 1 << 20);
+    let step = if t.short { 17 } else { 1 };
+    for &(m, n) in shapes.iter().step_by(step) {
+        let buffer = r.words((m * n) as usize);
+        let scratch = r.words(m.max(n) as usize + 2);
+        for call in [TURN, TURN_BACK] {
+            try_call(t, call, m, n, &buffer, &scratch);
+        }
+    }
+    t.group("flat shapes about the bounds of the strips");
 }
 
 // Random shapes, each with its own spare scratch.
@@ -241,6 +265,7 @@ pub fn all(t: &mut Bench, seed: u64) {
     pool_buffer(t, &mut r);
     small_shapes(t, &mut r);
     large_shapes(t, &mut r);
+    strip_bounds(t, &mut r);
     random_shapes(t, &mut r);
     round_trips(t, &mut r);
     bounds(t, &mut r);

@@ -43,6 +43,8 @@ __all__ = [
     "Told",
     "turn",
     "turn_back",
+    "turn_passes",
+    "turn_back_passes",
     "turn_halves",
     "lines",
     "tick",
@@ -191,6 +193,8 @@ _flat = [*_slice, *_slice, c_size_t, c_size_t]  # buffer, scratch, m, n
 _CALLS: dict[str, tuple[Any, list[Any]]] = {
     "turn": (c_uint32, _flat),
     "turn_back": (c_uint32, _flat),
+    "turn_passes": (c_uint32, _flat),
+    "turn_back_passes": (c_uint32, _flat),
     "turn_halves": (c_uint32, [*_slice, c_size_t, c_size_t]),
     "lines": (_Count, [c_size_t, c_size_t]),
     "tick": (c_uint32, [*_slice, *_slice, POINTER(LineRecord), c_size_t, c_size_t]),
@@ -340,6 +344,16 @@ def turn_back(buffer: Any, scratch: Any, m: int, n: int) -> None:
     """Undoes turn with the same m and n, the sides of the block as it was before the turn. Scratch: max(m, n) words, zeroed.
     Refused: 1, 2, 3, 13, 4."""
     _accepted(_call("turn_back", *_worked(buffer, scratch), *_sizes(m, n)))
+
+
+def turn_passes(buffer: Any, scratch: Any, m: int, n: int) -> None:
+    """Leaves the same words as turn, by three passes over the block. Scratch: max(m, n) words, zeroed. Refused: 1, 2, 3, 13, 4."""
+    _accepted(_call("turn_passes", *_worked(buffer, scratch), *_sizes(m, n)))
+
+
+def turn_back_passes(buffer: Any, scratch: Any, m: int, n: int) -> None:
+    """Leaves the same words as turn_back, by three passes. Scratch: max(m, n) words, zeroed. Refused: 1, 2, 3, 13, 4."""
+    _accepted(_call("turn_back_passes", *_worked(buffer, scratch), *_sizes(m, n)))
 
 
 def turn_halves(buffer: Any, m: int, n: int) -> None:

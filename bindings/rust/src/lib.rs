@@ -212,6 +212,8 @@ mod c {
     extern "C" {
         pub fn zib_turn(b: *mut u32, bn: usize, s: *mut u32, sn: usize, m: usize, n: usize) -> u32;
         pub fn zib_turn_back(b: *mut u32, bn: usize, s: *mut u32, sn: usize, m: usize, n: usize) -> u32;
+        pub fn zib_turn_passes(b: *mut u32, bn: usize, s: *mut u32, sn: usize, m: usize, n: usize) -> u32;
+        pub fn zib_turn_back_passes(b: *mut u32, bn: usize, s: *mut u32, sn: usize, m: usize, n: usize) -> u32;
         pub fn zib_turn_halves(b: *mut u32, bn: usize, m: usize, n: usize) -> u32;
         pub fn zib_lines(m: usize, n: usize) -> Counted;
         pub fn zib_tick(b: *mut u32, bn: usize, s: *mut u32, sn: usize, lines: *mut super::LineRecord, m: usize, n: usize) -> u32;
@@ -268,6 +270,28 @@ pub fn turn(buffer: &mut [u32], scratch: &mut [u32], m: usize, n: usize) -> Answ
 /// ```
 pub fn turn_back(buffer: &mut [u32], scratch: &mut [u32], m: usize, n: usize) -> Answered<()> {
     answered(unsafe { c::zib_turn_back(buffer.as_mut_ptr(), buffer.len(), scratch.as_mut_ptr(), scratch.len(), m, n) }, 0, ())
+}
+
+/// Leaves the same words as [`turn`], by three passes over the block: the method that [`tick`] and [`resume`] cut into lines. 1, 2, 3, 13, 4.
+///
+/// ```
+/// let mut block = [0, 1, 2, 3, 4, 5];
+/// zibsnarda::turn_passes(&mut block, &mut [0; 3], 2, 3).unwrap();
+/// assert_eq!(block, [0, 3, 1, 4, 2, 5]);
+/// ```
+pub fn turn_passes(buffer: &mut [u32], scratch: &mut [u32], m: usize, n: usize) -> Answered<()> {
+    answered(unsafe { c::zib_turn_passes(buffer.as_mut_ptr(), buffer.len(), scratch.as_mut_ptr(), scratch.len(), m, n) }, 0, ())
+}
+
+/// Leaves the same words as [`turn_back`], by three passes. 1, 2, 3, 13, 4.
+///
+/// ```
+/// let mut block = [0, 3, 1, 4, 2, 5];
+/// zibsnarda::turn_back_passes(&mut block, &mut [0; 3], 2, 3).unwrap();
+/// assert_eq!(block, [0, 1, 2, 3, 4, 5]);
+/// ```
+pub fn turn_back_passes(buffer: &mut [u32], scratch: &mut [u32], m: usize, n: usize) -> Answered<()> {
+    answered(unsafe { c::zib_turn_back_passes(buffer.as_mut_ptr(), buffer.len(), scratch.as_mut_ptr(), scratch.len(), m, n) }, 0, ())
 }
 
 /// Leaves the same words as [`turn`], by recursion and without scratch. 1, 2, 3, 13.
