@@ -53,6 +53,8 @@ flat-lies {m} {n} a = record {
   inside = omega (arith, a .exact);
   rows = le-trans (side-need m n .0) (a .room);
   columns = le-trans (side-need m n .1) (a .room);
+  tall = a .m-few;
+  wide = a .n-few;
 }
 
 -- scratch whose first words are zeroed is cleared, whatever stood there

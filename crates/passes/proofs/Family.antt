@@ -1,33 +1,27 @@
--- Lines of one pass moved one after the other: T families of Q words at the offsets pos t 0, pos t 1, ..,
--- no two families sharing an offset. After t of them, those before t have moved, the others stand.
+-- Lines of one pass moved one after the other: T families of Q words at the offsets pos t 0, pos t 1, .., no two families sharing an offset. After t of
+-- them, those before t have moved, the others stand.
 use mathlib.Core.Path.{_≡_, refl, sym, _∙_}
 use mathlib.Core.List.{List}
 use mathlib.Core.Logic.{⊎-elim}
-use Prim.Native.Nat.{ℕ, _+_, _<_, _≤_}
+use Prim.Native.Nat.{ℕ, _+_, _<_}
 use native.Mathlib.Nat.{not-suc-le-zero}
 use native.Mathlib.Omega.{arith}
-use lib.ListN.{length, getD}
+use lib.ListN.{getD}
 use Rattle.lists.proofs.Decide.{eq-or-ne}
 use Rattle.passes.specs.Lines.{Moved}
+use Rattle.passes.specs.PrivateScratch.{Some}
 
 pub record Family (T Q : ℕ) (pos to from : ℕ → ℕ → ℕ) : Type 0 where
   pub apart : (t k u j : ℕ) → t < T → k < Q → u < T → j < Q → pos t k ≡ pos u j → t ≡ u
   pub to-lt : (t k : ℕ) → t < T → k < Q → to t k < Q
   pub from-lt : (t k : ℕ) → t < T → k < Q → from t k < Q
 
-pub record Some (T Q : ℕ) (pos to from : ℕ → ℕ → ℕ) (t : ℕ) (xs ys : List ℕ) : Type 0 where
-  pub same : length ys ≡ length xs
-  pub placed : (u k : ℕ) → u < t → k < Q → getD ys (pos u (to u k)) 0 ≡ getD xs (pos u (from u k)) 0
-  pub left : (u k : ℕ) → t ≤ u → u < T → k < Q → getD ys (pos u k) 0 ≡ getD xs (pos u k) 0
-  pub others : (p : ℕ) → ((u k : ℕ) → u < T → k < Q → pos u k ≡ p → ⊥) → getD ys p 0 ≡ getD xs p 0
+-- the first t families stand still
+pub some-still : (T Q : ℕ) (pos to from : ℕ → ℕ → ℕ) (t : ℕ) (xs : List ℕ) → ((u k : ℕ) → u < t → k < Q → to u k ≡ from u k) → Some T Q pos to from t xs xs
+some-still T Q pos to from t xs e = record { same = refl; placed = λ u k h l. rw (e u k h l); left = λ u k h l d. refl; others = λ p h. refl }
 
 pub some-none : (T Q : ℕ) (pos to from : ℕ → ℕ → ℕ) (xs : List ℕ) → Some T Q pos to from 0 xs xs
-some-none T Q pos to from xs = record {
-  same = refl;
-  placed = λ u k h l. absurd (not-suc-le-zero h);
-  left = λ u k h l d. refl;
-  others = λ p h. refl;
-}
+some-none T Q pos to from xs = some-still T Q pos to from 0 xs (λ u k h l. absurd (not-suc-le-zero h))
 
 module _ {T Q : ℕ} {pos to from : ℕ → ℕ → ℕ} (f : Family T Q pos to from) where
   pub some-more : {t : ℕ} {xs ys zs : List ℕ} → t < T → Some T Q pos to from t xs ys → Moved Q (pos t) (to t) (from t) ys zs → Some T Q pos to from (t + 1) xs zs

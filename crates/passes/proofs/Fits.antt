@@ -5,20 +5,21 @@ use mathlib.Core.List.{List}
 use mathlib.Core.Logic.{⊎-elim}
 use Prim.Native.Nat.{ℕ, _+_, _-_, _<_, _≤_}
 use native.Mathlib.Omega.{arith}
-use native.Mathlib.Nat.{le-trans}
-use mathlib.Core.Bool.{false}
+use native.Mathlib.Nat.{le-trans, mul-le-mul}
+use mathlib.Core.Bool.{Bool, true, false, cond}
 use lib.Dec.{lit<, eqb}
 use lib.ListN.{length}
-use lib.Arith.{digits-lt}
 use Rattle.lists.proofs.Decide.{lt-or-ge}
 use Rattle.refusals.proofs.Scratch.{need-entry}
 use Rattle.refusals.specs.Scratch.{need}
 use Rattle.flat.specs.Turn.{sides}
 use Rattle.flat.proofs.Sides.{sides-are, row1-lt, column2-lt, row3-lt, rows1-apart, columns-apart, rows3-apart}
-use Rattle.passes.specs.Lines.{column, row, lineAt, paired}
-use Rattle.passes.specs.PrivateScratch.{Apart, Fits, Lies, Past}
+use Rattle.passes.specs.Lines.{column, row, lineAt, lineOf, lineCount, skipped, posOn, paired}
+use Rattle.passes.specs.PrivateScratch.{Grouped, Apart, Lain, Fits, Lies, Past, lineIn, linesIn}
 use Rattle.passes.specs.declared.line.Line.{Line}
-use Rattle.passes.proofs.Passed.{line1, line2, line3, column-at}
+use Rattle.passes.specs.declared.line.GroupedSides.{GroupedSides}
+use Rattle.passes.proofs.Gone.{lines-lt}
+use Rattle.passes.proofs.Passed.{line1, line2, line3, skipped-few}
 
 -- what holds of the columns of passes 1 and 3 and of the rows of pass 2 holds of every line
 every-line : (m n : ℕ) (P : Line → Type 0) → ((j : ℕ) → j < n → P (column m n 1 j)) → ((i : ℕ) → i < m → P (row n i))
@@ -35,24 +36,23 @@ every-line m n P first second third t h =
     (lt-or-ge t n)
 
 module _ {m n : ℕ} {xs scratch : List ℕ} (hm : 0 < m) (hn : 0 < n) (y : Lies m n xs scratch) where
+  -- a line of a pass lies in the buffer
+  pub lain-in : (p t : ℕ) → t < linesIn m n p → Lain (lineIn m n p t) xs scratch
+  lain-in p t h = go (eqb p 2) h (λ k d. omega (arith, y .inside, lines-lt m n p t k h d))
+    where
+      go : (b : Bool) → t < cond b m n → ((k : ℕ) → k < cond b n m → posOn (cond b (row n t) (column m n p t)) k < length xs) → Lain (cond b (row n t) (column m n p t)) xs scratch
+      go true d i = record { inside = i; step = omega arith; room = y .columns; few = y .wide; near = omega arith; front = mul-le-mul {n₂ = 4096} {m₂ = 4096} (omega (arith, y .tall)) (y .wide) }
+      go false d i = record { inside = i; step = hn; room = y .rows; few = y .tall; near = y .wide; front = omega (arith, y .wide) }
+
   -- a column, whose pass pairs its rows by f
   column-fits : (p j : ℕ) → eqb p 2 ≡ false → j < n → ((k : ℕ) → k < m → paired m n p j k < m) → Apart (paired m n p j) m
       → Fits m n (column m n p j) xs scratch
-  column-fits p j e h w a = record {
-    of-pass = rw e (refl, h);
-    inside = λ k d. omega (arith, y .inside, column-at m n p j k, digits-lt {q = k} d h);
-    step = hn;
-    room = y .rows;
-    within = w;
-    apart = a;
-  }
+  column-fits p j e h w a = let lain = lain-in p j in record { of-pass = rw e (refl, h); lain = (rw e at lain) h; within = w; apart = a }
 
   row-fits : (i : ℕ) → i < m → Fits m n (row n i) xs scratch
   row-fits i h = record {
     of-pass = (refl, h);
-    inside = λ k d. omega (arith, y .inside, digits-lt {q = i} h d);
-    step = omega arith;
-    room = y .columns;
+    lain = lain-in 2 i h;
     within = λ k d. column2-lt m n i k hn;
     apart = λ j k a b. columns-apart (sides-are m n hm hn) i j k a b;
   }
@@ -87,4 +87,22 @@ lies-in xs scratch ys held e f y = record {
   inside = rw e (y .inside);
   rows = rw f (y .rows);
   columns = rw f (y .columns);
+  tall = y .tall;
+  wide = y .wide;
 }
+
+-- a line that is left fits, and is no longer than what the call needs of scratch
+module _ {s : GroupedSides} {xs scratch : List ℕ} (g : Grouped s) (y : Lies (s .m) (s .n) xs scratch) (l : ℕ) (h : l < lineCount (s .m) (s .n)) where
+  pub left-fits : Fits (s .m) (s .n) (lineOf (s .m) (s .n) l) xs scratch
+  left-fits = line-fits (g .m-pos) (g .n-pos) y (skipped (s .m) (s .n) + l) (omega (arith, skipped-few (s .m) (s .n) (g .m-pos) (g .n-pos)))
+
+  pub left-short : lineOf (s .m) (s .n) l .count ≤ need (sides (s .m) (s .n))
+  left-short = line-short (s .m) (s .n) (skipped (s .m) (s .n) + l) (omega (arith, skipped-few (s .m) (s .n) (g .m-pos) (g .n-pos)))
+
+-- so is a line of a pass
+pub in-short : (m n p t : ℕ) → lineIn m n p t .count ≤ need (sides m n)
+in-short m n p t = go (eqb p 2)
+  where
+    go : (b : Bool) → cond b (row n t) (column m n p t) .count ≤ need (sides m n)
+    go true = side-need m n .1
+    go false = side-need m n .0

@@ -1,23 +1,23 @@
 -- a loop that stores word after word, or group after group, at places no two of which are one
 pub mod Filled
--- the walks of the passes, and a group of a walk
+-- walks, whatever they go over: steps and runs
 pub mod Walks
--- two lanes of a walk, a step apart, that go on by two steps at once
-pub mod Lanes
--- a walk over the sources of a row, for the numbers that the functions hold
-pub mod Sources
--- a line lifted into scratch and put back has moved, forwards or home
-pub mod Lifted
+-- runs of a line into scratch, and back
+pub mod Runs
+-- the walks over the lines of the passes, and where they begin
+pub mod PassWalks
+-- the places that a line receives its words from
+pub mod Received
 -- families of words moved one after the other, none sharing an offset
 pub mod Family
+-- the lines of a pass, one after the other, and the turn
+pub mod Gone
 -- steps run one after the other, and cut where a pass ends
 pub mod Ran
 -- the lines of a block turn it
 pub mod Passed
 -- every line of a block that lies in the buffer fits
 pub mod Fits
--- a block on its way: after some of its lines, one more, and at the end
-pub mod Going
 -- what the checks of the flat calls tell, and what the turn and the cleared scratch are then
 pub mod Accepted
 -- the line of a tick in the words of documents 01 and 02

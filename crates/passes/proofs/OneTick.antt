@@ -4,16 +4,15 @@ use mathlib.Core.Path.{_≡_, sym, ap, ap₂, _∙_}
 use mathlib.Core.Bool.{Bool, true, false, cond}
 use mathlib.Core.List.{List}
 use mathlib.Core.Logic.{⊎-elim}
-use Prim.Native.Nat.{ℕ, zero, suc, _<_, _≤_}
-use native.Mathlib.Nat.{not-suc-le-zero, le-trans}
+use Prim.Native.Nat.{ℕ, _<_, _≤_}
+use native.Mathlib.Nat.{le-trans}
 use lib.Dec.{eqb}
 use lib.ListN.{getD}
 use lib.Seq.{ext-getD}
 use borrow.Author.Tests.{eqb-true, eqb-false}
 use Rattle.lists.proofs.Decide.{lt-or-ge, eq-or-ne}
-use Rattle.orbits.specs.Orbit.{iter, Permutes, first}
+use Rattle.orbits.specs.Orbit.{Permutes, first}
 use Rattle.orbits.proofs.First.{first-holds, first-least}
-use Rattle.orbits.proofs.Orbit.{comes-home, iter-within}
 use Rattle.refusals.specs.FirstOf.{firstOf}
 use Rattle.refusals.specs.Calls.{passesChecks}
 use Rattle.refusals.proofs.Promise.{one-outcome}
@@ -25,16 +24,8 @@ use Rattle.passes.specs.Ticks.{TickPromise, LinesPromise}
 use Rattle.passes.specs.declared.line.Line.{Line}
 use Rattle.passes.specs.declared.Ticked.{Ticked}
 use Rattle.passes.specs.declared.LineCount.{LineCount}
+use Rattle.passes.proofs.Received.{reached}
 use Rattle.passes.proofs.Ticks.{flat-passed, line-there, stepped}
-
--- a map that permutes the places of a line leaves none out
-pub reached : {N : ℕ} {f : ℕ → ℕ} → Permutes N f → (x : ℕ) → x < N → (k : ℕ) × (k < N) × (f k ≡ x)
-unfolding iter
-reached {N} {f} s x l = let c = comes-home s x l in go (c .0) (c .1) (c .3)
-  where
-    go : (h : ℕ) → 0 < h → iter f h x ≡ x → (k : ℕ) × (k < N) × (f k ≡ x)
-    go zero p e = absurd (not-suc-le-zero p)
-    go (suc h) p e = (iter f h x, iter-within s h x l, e)
 
 -- two outcomes of words that moved are equal, where each place receives a word
 pub one-move : {count : ℕ} {pos to from : ℕ → ℕ} {xs ys zs : List ℕ} → Permutes count to → Moved count pos to from xs ys → Moved count pos to from xs zs

@@ -16,7 +16,8 @@ use Rattle.flat.specs.Passes.{row1, column2, row3}
 use Rattle.passes.specs.Lines.{Moved, column, row, lineOf, skipped, lineCount, posOn, LineMoved}
 use Rattle.passes.specs.Plain.{ColumnMoved, RowMoved, firstLines, LineTicked}
 use Rattle.passes.specs.declared.line.Line.{Line}
-use Rattle.passes.proofs.Passed.{line1, line2, line3, column-at, row-at}
+use Rattle.passes.proofs.Gone.{column-at, row-at}
+use Rattle.passes.proofs.Passed.{line1, line2, line3}
 
 module _ (m n : ℕ) (xs ys : List ℕ) (hn : 0 < n) (exact : length xs ≡ m * n) where
   -- a place is the cell of a row and a column, or lies past both lists
@@ -109,7 +110,7 @@ module _ (m n done : ℕ) (xs ys : List ℕ) (hn : 0 < n) (exact : length xs ≡
   in-2 i h e =
       let z : skipped m n + done ≡ n + i = omega (arith, shared m n) in
       named (row n i) (rw z (line2 m n i h))
-      (row-plain m n xs ys hn exact (posOn (row n i)) (λ j. column2 m n i j) i h (row-at m n i))
+      (row-plain m n xs ys hn exact (posOn (row n i)) (λ j. column2 m n i j) i h (row-at n i))
 
   in-3 : (j : ℕ) → j < n → done ≡ firstLines m n + m + j → ColumnMoved m n j (λ i. row3 m n i j) xs ys ↔ Now
   in-3 j h e =

@@ -6,7 +6,8 @@ use Prim.Native.Nat.{ℕ, suc, _+_, _<_, _≤_}
 use native.Mathlib.Omega.{arith}
 use native.Mathlib.Nat.{eq-or-lt-of-le, lt-suc-self}
 use Rattle.passes.specs.Lines.{Moved}
-use Rattle.passes.proofs.Family.{Family, Some, some-none, some-more}
+use Rattle.passes.specs.PrivateScratch.{Some}
+use Rattle.passes.proofs.Family.{Family, some-none, some-more}
 
 -- the steps from number l up to, not including, number e lead from xs to ys
 pub data Ran (Step : ℕ → List ℕ → List ℕ → Type 0) (e : ℕ) : ℕ → List ℕ → List ℕ → Type 0 where

@@ -32,7 +32,7 @@ use Rattle.passes.specs.Restart.{memory, turnLines, turnStages, resumeCh
 use Rattle.passes.specs.Restart.Restarts.{none, more}
 use Rattle.passes.proofs.Accepted.{Accepted, flat-accepted, flat-lies}
 use Rattle.passes.proofs.Fits.{line-fits, line-short}
-use Rattle.passes.proofs.Lifted.{received-moved}
+use Rattle.passes.proofs.Received.{received-moved}
 use Rattle.passes.proofs.Passed.{LineStep, skipped-le, skipped-few, lines-turn}
 use Rattle.passes.proofs.Ran.{Ran, ran-more}
 use Rattle.passes.proofs.Ran.Ran.{done}
@@ -76,8 +76,8 @@ module _ {m n : ℕ} where
     -- the lines lie in the buffer
     lines-fit : moves.Fit (turnLines m n) b₀ sc₀
     lines-fit = record {
-      inside = λ t k h d. fits t h .inside k d;
-      apart = λ t j k h _ _ e. eq-of-mul-eq-mul-left (lineOf m n t .stride) (fits t h .step) j k (omega arith);
+      inside = λ t k h d. fits t h .lain .inside k d;
+      apart = λ t j k h _ _ e. eq-of-mul-eq-mul-left (lineOf m n t .stride) (fits t h .lain .step) j k (omega arith);
       short = λ t h. line-short m n (skipped m n + t) (omega (arith, skipped-few m n (a .m-pos) (a .n-pos)));
       room = a .room;
     }
@@ -94,7 +94,7 @@ module _ {m n : ℕ} where
         let l = lineOf m n t in
         let q : Moved (l .count) (posOn l) (λ k. k) (received m n (l .pass) (l .index)) xs ys = record { same = p .same; placed = p .placed; others = p .others } in
         subst (λ (d : ℕ). Ran (LineStep m n) d (skipped m n) b₀ ys) (omega arith)
-        (ran-more r (received-moved l flat-sides (fits t h .of-pass) (fits t h .within) q))
+        (ran-more r (received-moved flat-sides (a .m-pos) (a .n-pos) l (fits t h .of-pass) xs ys q))
 
     -- so an uncut turn from the start is finished
     uncut : Finished m n b₀ sc₀ (finish (turnStages m n) (memory b₀ sc₀ 0))

@@ -1,6 +1,6 @@
 -- What the functions of a mapped turn store is what its stages say: the words of a line into scratch, back, or the zeros, up to any word.
 -- A line that fits has its places apart, so the loops' outcome is the list stored into one word after the other.
-use mathlib.Core.Path.{_≡_, refl, sym, ap, _∙_}
+use mathlib.Core.Path.{_≡_, sym, ap, _∙_}
 use mathlib.Core.List.{List, _++_}
 use Prim.Native.Nat.{ℕ, _+_, _*_, _/_, _%_, _<_, _≤_}
 use native.Mathlib.Omega.{arith}
@@ -19,8 +19,7 @@ use Rattle.passes.specs.Restart.{memory, turnLines, turnStages}
 use Rattle.passes.specs.declared.line.GroupedSides.{GroupedSides}
 use Rattle.passes.specs.declared.line.Line.{Line}
 use Rattle.passes.proofs.Filled.{filled-is}
-use Rattle.passes.proofs.Fits.{past-none, lies-in}
-use Rattle.passes.proofs.Going.{going-fits}
+use Rattle.passes.proofs.Fits.{lies-in, left-fits}
 
 -- the line of a stage
 pub stage-line : (p : ℕ) {L : ℕ} → p < L * 2 → p / 2 < L
@@ -44,7 +43,7 @@ module _ {s : GroupedSides} {b sc : List ℕ} (g : Mapped s b sc) (p until : ℕ
   module _ (h : p < lineCount (s .m) (s .n) * 2) where
     -- its line fits, and it has as many words as the stage
     pub stage-fits : Fits (s .m) (s .n) (lineOf (s .m) (s .n) (p / 2)) b sc
-    stage-fits = going-fits (g .grouped) (g .lies) (p / 2) b sc (stage-line p h) refl (past-none (need (sides (s .m) (s .n))) sc)
+    stage-fits = left-fits (g .grouped) (g .lies) (p / 2) (stage-line p h)
 
     pub stage-few : until ≤ lineOf (s .m) (s .n) (p / 2) .count
     stage-few = rw (lt-ltb p (lineCount (s .m) (s .n) * 2) h) at few
@@ -53,7 +52,7 @@ module _ {s : GroupedSides} {b sc : List ℕ} (g : Mapped s b sc) (p until : ℕ
         → (let l = lineOf (s .m) (s .n) (p / 2) in Filled (λ k. k) (λ k. getD b (posOn l (received (s .m) (s .n) (l .pass) (l .index) k)) 0) until sc sc′)
         → memory b sc′ p ≡ after (take until (turnStages (s .m) (s .n) .words p (memory b sc p))) (memory b sc p)
     stored-lift e f =
-        ap (λ (l : List ℕ). memory b l p) (filled-is (λ i j _ _ q. q) (λ k d. omega (arith, stage-few, stage-fits .room)) f)
+        ap (λ (l : List ℕ). memory b l p) (filled-is (λ i j _ _ q. q) (λ k d. omega (arith, stage-few, stage-fits .lain .room)) f)
         ∙ sym (part-lift (turnLines (s .m) (s .n)) p until (memory b sc p) h e stage-few)
 
     pub stored-back : {b′ : List ℕ} → (p % 2 ≡ 0 → ⊥) → Filled (posOn (lineOf (s .m) (s .n) (p / 2))) (λ k. getD sc k 0) until b b′
@@ -61,7 +60,7 @@ module _ {s : GroupedSides} {b sc : List ℕ} (g : Mapped s b sc) (p until : ℕ
     stored-back e f =
         let l = lineOf (s .m) (s .n) (p / 2) in
         ap (λ (z : List ℕ). memory z sc p)
-        (filled-is (λ i j _ _ q. eq-of-mul-eq-mul-left (l .stride) (stage-fits .step) i j (omega arith)) (λ k d. stage-fits .inside k (le-trans d stage-few)) f)
+        (filled-is (λ i j _ _ q. eq-of-mul-eq-mul-left (l .stride) (stage-fits .lain .step) i j (omega arith)) (λ k d. stage-fits .lain .inside k (le-trans d stage-few)) f)
         ∙ sym (part-return (turnLines (s .m) (s .n)) p until (memory b sc p) h e stage-few)
 
   pub stored-clear : {sc′ : List ℕ} → lineCount (s .m) (s .n) * 2 ≤ p → sc′ ≡ cleared until sc

@@ -19,9 +19,8 @@ use Rattle.passes.specs.Plain.{LineTicked}
 use Rattle.passes.specs.Ticks.{pastCount, tickChecks, TickPromise}
 use Rattle.passes.specs.declared.line.GroupedSides.{GroupedSides}
 use Rattle.passes.proofs.Accepted.{flat-accepted, flat-lies, flat-asked, past-cleared}
-use Rattle.passes.proofs.Fits.{line-fits, past-none, past-more}
+use Rattle.passes.proofs.Fits.{line-fits, left-fits, left-short, past-none, past-more}
 use Rattle.passes.proofs.Passed.{skipped-few}
-use Rattle.passes.proofs.Going.{going-fits, going-short}
 use Rattle.passes.proofs.Plain.{Stepped, plain-ticked}
 
 -- sides that pass the checks of a block's size
@@ -85,14 +84,14 @@ module _ {m n done : ℕ} {s : GroupedSides} (is : (s .m ≡ m) × (s .n ≡ n) 
   asked = flat-asked is (flat-accepted m n b sc good)
 
   pub next-fits : Grouped s × Fits (s .m) (s .n) (lineOf (s .m) (s .n) done) b sc
-  next-fits = (asked .0, going-fits (asked .0) (asked .1) done b sc h refl (past-none (need (sides (s .m) (s .n))) sc))
+  next-fits = (asked .0, left-fits (asked .0) (asked .1) done h)
 
   -- it has moved, and scratch is cleared
   pub tick-moved : {b′ sc₁ sc′ : List ℕ} → LineMoved (s .m) (s .n) (lineOf (s .m) (s .n) done) b b′
       → Past (lineOf (s .m) (s .n) done .count) sc sc₁ → sc′ ≡ cleared (need (sides m n)) sc₁
       → TickPromise m n done b sc (record { number = 0; done = done + 1 }) b′ sc′
   tick-moved l p z =
-      let past = past-more (going-short (asked .0) (asked .1) done h) (past-none (need (sides (s .m) (s .n))) sc) p in
+      let past = past-more (left-short (asked .0) (asked .1) done h) (past-none (need (sides (s .m) (s .n))) sc) p in
       one-moved m n done b sc good (rw (is .0, is .1) at h) (rw (is .0, is .1) at l) (rw (is .0, is .1) at past) z
 
 -- what an accepted tick tells: the checks of the flat turn are passed, and a line that is left fits

@@ -1,160 +1,163 @@
--- The walks that the functions hold are those of the passes (by the laws of crate walks); and a group of a walk on its way.
-use mathlib.Core.Path.{_≡_, refl, sym, ap, _∙_, subst}
-use mathlib.Core.Bool.{Bool, true, false, cond, _&&_, true≢false}
-use mathlib.Core.List.{List}
-use Prim.Native.Nat.{ℕ, _+_, _*_, _-_, _/_, _%_, _<_, _≤_}
+-- Walks, whatever they go over: a step, a run of steps, the end of a run; what each step keeps holds all along; groups of one place are one group.
+use mathlib.Core.Path.{_≡_, sym, ap, ap₂, _∙_, subst}
+use mathlib.Core.Logic.{_⊎_, inl, inr, ⊎-elim}
+use Prim.Native.Nat.{ℕ, zero, suc, _+_, _-_, _%_, _<_, _≤_}
 use native.Mathlib.Omega.{arith}
-use native.Mathlib.Nat.{mod-lt, mod-eq-of-lt, add-mod-right, mul-one, mul-comm, one-mul, zero-mul, zero-add, add-mul, mul-le-mul-right}
-use lib.Dec.{eqb}
-use lib.ListN.{length, getD}
-use borrow.Author.Tests.{eqb-true, ne-eqb}
-use Rattle.flat.specs.Passes.{row1, column2, row3}
-use Rattle.flat.proofs.Sides.{Sides, sides-are}
-use Rattle.walks.specs.PrivateWalk.{walk, starts}
-use Rattle.walks.proofs.Steps.{starts-next, starts-lt}
-use Rattle.walks.proofs.Passes.{row1-walk, row1-start, column2-walk, column2-alone, row3-walk, row3-alone}
-use Rattle.passes.specs.Lines.{paired, posOn}
-use Rattle.passes.specs.PrivateScratch.{Grouped, OfPass, Inside, Apart, GroupFits, Filled, Lifted, startOf, stands, Follows, alone, isStraight}
-use Rattle.passes.proofs.Filled.{filled-two, all-lifted}
-use Rattle.passes.specs.declared.line.GroupedSides.{GroupedSides}
-use Rattle.passes.specs.declared.line.Line.{Line}
+use native.Mathlib.Numerals.{add-one}
+use borrow.Author.Tests.{eq-eqb, ne-eqb}
+use Rattle.walks.specs.PrivateWalk.{walk}
+use Rattle.walks.proofs.Steps.{walk-start, walk-more, walk-lt}
+use Rattle.lists.proofs.Decide.{eq-or-ne}
+use Rattle.passes.specs.PrivateWalks.{begun, arrived, stepped, onward, stands, placeAt, Low, Walks, Follows, Ahead, steps, RunFits}
+use Rattle.passes.specs.declared.walk.Place.{Place}
 use Rattle.passes.specs.declared.walk.Walk.{Walk}
 
--- one group
-follows-alone : {first step modulus : ℕ} {f : ℕ → ℕ} → first < modulus → step ≤ modulus → ((k : ℕ) → f k ≡ walk first step modulus k)
-    → Follows (alone first step modulus) modulus f
-unfolding starts
-follows-alone {first} {step} {modulus} {f} low short is = record {
-  low = low;
-  short = short;
-  shifts = omega arith;
-  round = refl;
-  whole = one-mul modulus;
-  pairs = λ g t h d.
-      let z : g ≡ 0 = omega arith in
-      rw z (ap f (ap (λ (y : ℕ). y + t) (zero-mul modulus) ∙ zero-add t) ∙ is t);
-}
+-- a step: past the end of the group, at its break, within a run
+module _ (w : Walk) (p : Place) where
+  pub past-end : p .group + 1 ≡ w .size → onward w p ≡ begun ((p .lap + w .turn) % w .round)
+  unfolding onward
+  past-end e = rw (eq-eqb _ _ e)
 
-module _ {s : GroupedSides} (g : Grouped s) where
-  flat : Sides (s .m) (s .n)
-  flat = sides-are (s .m) (s .n) (g .m-pos) (g .n-pos)
+  pub at-break : (p .group + 1 ≡ w .size → ⊥) → p .group + 1 ≡ w .split → onward w p ≡ arrived w (p .lap) (p .group + 1)
+  unfolding onward
+  at-break d e = rw (ne-eqb _ _ d, eq-eqb _ _ e)
 
-  -- pass 1
-  pub turn-follows : (j : ℕ) → j < s .n → Follows (alone (j / s .b) 1 (s .m)) (s .m) (λ k. row1 (s .m) (s .n) k j)
-  turn-follows j h = rw (g .b-is) (follows-alone (row1-start flat j h) (g .m-pos) (λ k. row1-walk flat k j))
+  pub within-run : (p .group + 1 ≡ w .size → ⊥) → (p .group + 1 ≡ w .split → ⊥) → onward w p ≡ stepped w p
+  unfolding onward
+  within-run d e = rw (ne-eqb _ _ d, ne-eqb _ _ e)
 
-  -- pass 2
-  pub row-alone : (i : ℕ) → s .b ≡ 1 → Follows (alone (i % s .n) 1 (s .n)) (s .n) (λ k. column2 (s .m) (s .n) i k)
-  row-alone i e = follows-alone (mod-lt i (g .n-pos)) (g .n-pos) (λ k. column2-alone flat i k (sym (g .b-is) ∙ e))
+  -- past a run
+  past-run : (p .group + 1 ≡ w .size) ⊎ (p .group + 1 ≡ w .split) → onward w p ≡ arrived w (p .lap) (p .group + 1)
+  past-run s =
+      ⊎-elim
+      (λ (e : p .group + 1 ≡ w .size). past-end e ∙ rw (eq-eqb _ _ e))
+      (λ (d : p .group + 1 ≡ w .size → ⊥). at-break d (⊎-elim (λ (e : p .group + 1 ≡ w .size). absurd (d e)) (λ (e : p .group + 1 ≡ w .split). e) s))
+      (eq-or-ne (p .group + 1) (w .size))
 
-  pub row-follows : (i : ℕ) → i < s .m
-      → Follows (record { first = i % s .n; step = s .across; modulus = s .n; size = s .b; groups = s .c; shift = 1; restart = s .m - i }) (s .n) (λ k. column2 (s .m) (s .n) i k)
-  row-follows i h = rw (g .across-is, g .b-is, g .c-is) (record {
-    low = mod-lt i (g .n-pos);
-    short = omega (arith, mod-lt (s .m) (g .n-pos));
-    shifts = g .n-pos;
-    round = refl;
-    whole = mul-comm _ _ ∙ flat .columns;
-    pairs = λ p t hp ht. column2-walk flat i p t h hp ht;
-  })
+-- k places on, and one more
+pub stands-more : (w : Walk) (p : Place) (k : ℕ) → stands w p (k + 1) ≡ onward w (stands w p k)
+unfolding stands
+stands-more w p k = rw (add-one k)
 
-  -- pass 3
-  pub column-alone : (j : ℕ) → s .a ≡ 1 → Follows (alone (j % s .m) (s .m - 1) (s .m)) (s .m) (λ k. row3 (s .m) (s .n) k j)
-  column-alone j e = follows-alone (mod-lt j (g .m-pos)) (omega arith) (λ k. row3-alone flat j k (g .m-pos) (sym (g .a-is) ∙ e))
+pub stands-on : (w : Walk) (p : Place) (k t : ℕ) → stands w p (k + t) ≡ stands w (stands w p k) t
+unfolding stands
+stands-on w p k zero = let e : k + 0 ≡ k = omega arith in ap (stands w p) e
+stands-on w p k (suc t) = let e : k + suc t ≡ suc (k + t) = omega arith in ap (stands w p) e ∙ ap (onward w) (stands-on w p k t)
 
-  pub column-follows : (j : ℕ)
-      → Follows (record { first = j % s .m; step = s .down; modulus = s .m; size = s .a; groups = s .c; shift = s .m - 1; restart = 0 }) (s .m) (λ k. row3 (s .m) (s .n) k j)
-  column-follows j = rw (g .down-is, g .a-is, g .c-is) (record {
-    low = mod-lt j (g .m-pos);
-    short = omega (arith, mod-lt (s .n) (g .m-pos));
-    shifts = omega arith;
-    round = refl;
-    whole = mul-comm _ _ ∙ flat .rows;
-    pairs = λ p t hp ht. row3-walk flat j p t hp ht;
-  })
+-- what each step keeps holds all along
+pub keeps : (w : Walk) (p : Place) {count : ℕ} (S : ℕ → Place → Type 0) → S 0 p → ((k : ℕ) (q : Place) → k + 1 < count → S k q → S (k + 1) (onward w q))
+    → (k : ℕ) → k < count → S k (stands w p k)
+unfolding stands
+keeps w p S h next zero d = h
+keeps w p S h next (suc k) d = subst (λ (z : ℕ). S z (onward w (stands w p k))) (add-one k) (next k (stands w p k) (omega arith) (keeps w p S h next k (omega arith)))
 
--- the start of the next group, as it is computed
-pub start-on : (w : Walk) (g : ℕ) {place next : ℕ} → place ≡ startOf w g → next ≡ cond (eqb (g + 1) (w .restart)) 0 ((place + w .shift) % w .modulus)
-    → next ≡ startOf w (g + 1)
-start-on w g e n =
-    n
-    ∙ ap (λ (z : ℕ). cond (eqb (g + 1) (w .restart)) 0 ((z + w .shift) % w .modulus)) e
-    ∙ sym (starts-next (w .first) (w .shift) (w .modulus) (w .restart) g)
+-- a run: up to its end the place goes up by steps, and its end is reached by one more
+module _ (w : Walk) (p : Place) (low : p .place < w .modulus) {r : ℕ} (a : Ahead w p r) where
+  abbrev on : ℕ → Place
+  on t = record { place = steps w (p .place) t; group = p .group + t; lap = p .lap }
 
--- a group of a walk over a line that fits, where as much of it is stored as lies before
-module _ {w : Walk} {count : ℕ} {f : ℕ → ℕ} (y : Follows w count f) (g : ℕ) (h : g < w .groups) where
-  pub group-inside : g * w .size + w .size ≤ count
-  group-inside =
-      let e : (g + 1) * w .size ≤ w .groups * w .size = mul-le-mul-right (w .size) (omega arith) in
-      omega (arith, add-mul g 1 (w .size), one-mul (w .size), y .whole)
+  pub in-run : (t : ℕ) → t < r → stands w p t ≡ on t
+  unfolding stands
+  in-run zero d =
+      let e : p .group ≡ p .group + 0 = omega arith in
+      ap₂ (λ (x g : ℕ). let q : Place = record { place = x; group = g; lap = p .lap } in q) (sym (walk-start _ _ _ low)) e
+  in-run (suc t) d =
+      let f = a .free t (omega arith) in
+      let e : p .group + t + 1 ≡ p .group + suc t = omega arith in
+      ap (onward w) (in-run t (omega arith))
+      ∙ within-run w (on t) (f .0) (f .1)
+      ∙ ap₂ (λ (x g : ℕ). let q : Place = record { place = x; group = g; lap = p .lap } in q) (sym (walk-more _ _ _ t) ∙ ap (steps w (p .place)) (add-one t)) e
 
-  pub group-apart : Apart f count → Apart (stands w (startOf w g)) (w .size)
-  group-apart apart j k hj hk e =
-      let q = apart (g * w .size + j) (g * w .size + k) (omega (arith, group-inside)) (omega (arith, group-inside)) (y .pairs g j h hj ∙ e ∙ sym (y .pairs g k h hk)) in
-      omega arith
+  pub run-ends : stands w p r ≡ arrived w (p .lap) (p .group + r)
+  run-ends =
+      let k = r - 1 in
+      let e : k + 1 ≡ r = omega (arith, a .some) in
+      let g : p .group + k + 1 ≡ p .group + r = omega arith in
+      ap (stands w p) (sym e)
+      ∙ stands-more w p k
+      ∙ ap (onward w) (in-run k (omega arith))
+      ∙ past-run w (on k) (⊎-elim (λ (z : p .group + r ≡ w .size). inl (g ∙ z)) (λ (z : p .group + r ≡ w .split). inr (g ∙ z)) (a .stops))
+      ∙ ap (arrived w (p .lap)) g
 
-  pub group-fits : {l : Line} {xs scratch : List ℕ} {from place size : ℕ} → from + size ≤ count → place ≡ startOf w g → Inside l count xs → count ≤ length scratch
-      → GroupFits l w from place size xs scratch
-  group-fits on-line place-is inside room = rw place-is (record {
-    low = starts-lt (w .first) (w .shift) (w .modulus) (w .restart) g (y .low);
-    short = y .short;
-    on-line = omega (arith, y .round);
-    inside = rw (y .round) inside;
-    room = omega (arith, y .round);
-  })
+-- the run at hand of a walk, cut or not
+module _ {w : Walk} {first : Place} {count : ℕ} (y : Walks w first count) {k : ℕ} {p : Place} (is : p ≡ stands w first k) (h : k < count) {r : ℕ} (a : Ahead w p r) where
+  pub here-low : Low w p
+  here-low = rw is (y .low k h)
 
--- two tests that both hold
-both : (t u : Bool) → (t && u) ≡ true → (t ≡ true) × (u ≡ true)
-both true u e = (refl, e)
-both false u e = absurd (true≢false (sym e))
+  pub run-place : (t : ℕ) → t < r → placeAt w first (k + t) ≡ steps w (p .place) t
+  run-place t d =
+      ap (λ (q : Place). q .place) (stands-on w first k t ∙ ap (λ (q : Place). stands w q t) (sym is) ∙ in-run w p (here-low .place) a t d)
 
--- a straight walk is two runs: up to its modulus, and from 0 on
-module _ {w : Walk} (l : Line) {f : ℕ → ℕ} (y : Follows w (l .count) f) (straight : isStraight w ≡ true) where
-  one-by-one : (t : ℕ) → t < l .count → f t ≡ (w .first + t) % w .modulus
-  unfolding walk starts
-  one-by-one t h =
-      let e : w .step ≡ 1 = eqb-true _ _ (both (eqb (w .step) 1) (eqb (w .groups) 1) straight .0) in
-      let g : w .groups ≡ 1 = eqb-true _ _ (both (eqb (w .step) 1) (eqb (w .groups) 1) straight .1) in
-      let size : w .size ≡ l .count = sym (one-mul (w .size)) ∙ ap (λ (z : ℕ). z * w .size) (sym g) ∙ y .whole in
-      ap f (sym (ap (λ (z : ℕ). z + t) (zero-mul (w .size)) ∙ zero-add t))
-      ∙ y .pairs 0 t (omega arith) (omega arith)
-      ∙ ap (λ (z : ℕ). (w .first + z) % w .modulus) (ap (λ (z : ℕ). t * z) e ∙ mul-one t)
+  pub run-fits : (size : ℕ) → size ≤ r → k + size ≤ count → RunFits w count k (p .place) size
+  run-fits size few on-line = record {
+    low = here-low .place;
+    short = y .small .short;
+    round = y .small .modulus;
+    on-line = on-line;
+    apart = λ i j hi hj e.
+        let q = y .apart (k + i) (k + j) (omega arith) (omega arith) (run-place i (omega arith) ∙ e ∙ sym (run-place j (omega arith))) in
+        omega arith;
+  }
 
-  pub first-run : (t : ℕ) → t < w .modulus - w .first → f t ≡ w .first + t
-  first-run t h = one-by-one t (omega (arith, y .round)) ∙ mod-eq-of-lt (omega arith)
+  pub run-next : arrived w (p .lap) (p .group + r) ≡ stands w first (k + r)
+  run-next = sym (stands-on w first k r ∙ ap (λ (q : Place). stands w q r) (sym is) ∙ run-ends w p (here-low .place) a)
 
-  pub second-run : (t : ℕ) → t < w .first → f (w .modulus - w .first + t) ≡ t
-  second-run t h =
-      let q = w .modulus in
-      let low = y .low in
-      one-by-one (q - w .first + t) (omega (arith, y .round))
-      ∙ ap (λ (z : ℕ). z % q) (omega arith)
-      ∙ add-mod-right t q
-      ∙ mod-eq-of-lt (omega arith)
+-- groups of one place: each step is a turn, so they are one group whose step is the turn
+module _ {w : Walk} {p : Place} {count : ℕ} {f : ℕ → ℕ} (y : Follows w p count f) (one : w .size ≡ 1) where
+  abbrev together : Walk
+  together = record { step = w .turn; modulus = w .round; size = count; turn = 0; round = w .round; split = 0 }
 
-  runs-whole : w .modulus - w .first + w .first ≡ l .count
-  runs-whole = omega (arith, y .low, y .round)
+  module _ (some : 0 < count) where
+    first : Low w p
+    unfolding stands
+    first = y .walks .low 0 some
 
-  module _ {xs scratch held held′ : List ℕ} where
-    pub straight-scattered : Apart f (l .count) → ((k : ℕ) → k < l .count → f k < l .count)
-        → Filled (λ t. w .first + t) (λ t. getD xs (posOn l (0 + t)) 0) (w .modulus - w .first) scratch held
-        → Filled (λ t. 0 + t) (λ t. getD xs (posOn l (w .modulus - w .first + t)) 0) (w .first) held held′ → Lifted l f (λ k. k) xs scratch held′
-    straight-scattered apart within a b =
-        all-lifted within
-        (filled-two apart runs-whole first-run (λ t d. ap (λ (z : ℕ). getD xs (posOn l z) 0) (sym (zero-add t))) (λ t d. second-run t d ∙ sym (zero-add t)) (λ t d. refl) a b)
-        refl
+    none : p .group ≡ 0
+    none = omega (arith, first .group)
 
--- the walk that the test of the pass picks is that of the line
-module _ {w : Walk} (m n : ℕ) (l : Line) (o : OfPass m n l) where
-  pub walk-1 : l .pass ≡ 1 → (l .index < n → Follows w m (λ k. row1 m n k (l .index))) → Follows w (l .count) (paired m n (l .pass) (l .index))
-  walk-1 e f = let p = rw e at o in rw (p .0, e) (f (p .1))
+    begins : p ≡ begun (p .lap)
+    begins = ap₂ (λ (x g : ℕ). let q : Place = record { place = x; group = g; lap = p .lap } in q) (y .starts none) none
 
-  pub walk-2 : l .pass ≡ 2 → Follows w n (λ k. column2 m n (l .index) k) → Follows w (l .count) (paired m n (l .pass) (l .index))
-  walk-2 e f = let p = rw e at o in rw (p .0, e) f
+    -- by the groups of one place, and by the one group
+    by-turns : (k : ℕ) → k < count → stands w p k ≡ begun (walk (p .lap) (w .turn) (w .round) k)
+    unfolding stands
+    by-turns zero h = begins ∙ ap begun (sym (walk-start _ _ _ (first .lap)))
+    by-turns (suc k) h =
+        ap (onward w) (by-turns k (omega arith))
+        ∙ past-end w (begun (walk (p .lap) (w .turn) (w .round) k)) (omega arith)
+        ∙ ap begun (sym (walk-more _ _ _ k) ∙ ap (walk (p .lap) (w .turn) (w .round)) (add-one k))
 
-  pub walk-3 : (l .pass ≡ 1 → ⊥) → (l .pass ≡ 2 → ⊥) → Follows w m (λ k. row3 m n k (l .index)) → Follows w (l .count) (paired m n (l .pass) (l .index))
-  walk-3 d e f =
-      let p = rw (ne-eqb _ _ e) at o in
-      let i = l .index in
-      subst (λ (t : Bool). Follows w (l .count) (λ k. cond t (row1 m n k i) (cond (eqb (l .pass) 2) (column2 m n i k) (row3 m n k i)))) (sym (ne-eqb _ _ d))
-      (subst (λ (t : Bool). Follows w (l .count) (λ k. cond t (column2 m n i k) (row3 m n k i))) (sym (ne-eqb _ _ e)) (rw (p .0) f))
+    all-ahead : Ahead together p count
+    all-ahead = record { some = some; free = λ t h. (λ e. omega (arith, none), λ e. omega arith); stops = inl (omega (arith, none)) }
+
+    start-low : p .place < w .round
+    start-low = omega (arith, y .starts none, first .lap)
+
+    together-at : (k : ℕ) → k < count → stands together p k ≡ record { place = walk (p .place) (w .turn) (w .round) k; group = p .group + k; lap = p .lap }
+    together-at = in-run together p start-low all-ahead
+
+    same : (k : ℕ) → k < count → placeAt together p k ≡ placeAt w p k
+    same k h =
+        ap (λ (q : Place). q .place) (together-at k h)
+        ∙ ap (λ (z : ℕ). walk z (w .turn) (w .round) k) (y .starts none)
+        ∙ sym (ap (λ (q : Place). q .place) (by-turns k h))
+
+    low : (k : ℕ) → k < count → Low together (stands together p k)
+    low k h = rw (together-at k h) (record { place = walk-lt _ _ _ k (omega (arith, first .lap)); group = omega (arith, none); lap = first .lap })
+
+  pub joins : Follows together p count f
+  joins = record {
+    walks = record {
+      small = record {
+        short = y .walks .small .turns;
+        turns = omega arith;
+        modulus = y .walks .small .round;
+        round = y .walks .small .round;
+        size = omega arith;
+      };
+      low = λ k h. low (omega arith) k h;
+      apart = λ j k hj hk e. y .walks .apart j k hj hk (sym (same (omega arith) j hj) ∙ e ∙ same (omega arith) k hk);
+    };
+    starts = y .starts;
+    places = λ k h. y .places k h ∙ sym (same (omega arith) k h);
+  }

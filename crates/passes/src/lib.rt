@@ -1,10 +1,9 @@
 // The flat turn by passes, in one call, one line a call or stages that a stop may cut, and its reverse.
-mod column;
+mod first;
 mod gcd;
 mod line;
 mod restart;
 mod scratch;
-mod source;
 mod turning;
 mod walk;
 
@@ -90,7 +89,7 @@ pub fn tick(buf: &mut [u32], scratch: &mut [u32], m: usize, n: usize, done: usiz
         return Ticked { number: 0, done };
     }
     let line = turning::line_of(s, done);
-    line::forth(buf, scratch, s, line);
+    turning::forth(buf, scratch, s, line);
     scratch::clear_longest(scratch, m, n);
     Ticked {
         number: 0,

@@ -1,14 +1,17 @@
 // A turn in stages: two a line, into scratch and back, then the clearing. Each stage is counted in the progress word after its words.
+use crate::first;
 use crate::line;
 use crate::line::GroupedSides;
 use crate::scratch;
 use crate::turning;
+use crate::walk;
 ghost use mathlib.Core.Path.{_≡_};
 ghost use Prim.Native.Nat.{_+_, _*_, _≤_};
 ghost use lib.ListN.{take};
 ghost use Rattle.stages.specs.Stages.{after, call};
 ghost use Rattle.passes.specs.Lines.{lineCount};
 ghost use Rattle.passes.specs.PrivateScratch.{Grouped, Mapped, stageWords};
+ghost use Rattle.passes.specs.PrivateWalks.{Inverted};
 ghost use Rattle.passes.specs.Restart.{memory, turnStages};
 
 // How many stages a turn has.
@@ -33,8 +36,15 @@ fn stage_words(s: GroupedSides, p: usize) -> usize
 }
 
 // The first `until` words of stage p are stored.
-fn store(buf: &mut [u32], scratch: &mut [u32], s: GroupedSides, p: usize, until: usize)
-    requires { ⌜ Mapped s (now buf) (now scratch) × (until ≤ stageWords (s .m) (s .n) p) ⌝ }
+fn store(
+    buf: &mut [u32],
+    scratch: &mut [u32],
+    s: GroupedSides,
+    inverse: usize,
+    p: usize,
+    until: usize,
+)
+    requires { ⌜ Mapped s (now buf) (now scratch) × Inverted (s .m) (s .n) 2 inverse × (until ≤ stageWords (s .m) (s .n) p) ⌝ }
     ensures { λ _. ⌜ memory (now (buf .exit)) (now (scratch .exit)) p ≡ after (take until (turnStages (s .m) (s .n) .words p (memory (now (buf .entry)) (now (scratch .entry)) p))) (memory (now (buf .entry)) (now (scratch .entry)) p) ⌝ }
 {
     if turning::line_count(s) * 2 <= p {
@@ -43,7 +53,9 @@ fn store(buf: &mut [u32], scratch: &mut [u32], s: GroupedSides, p: usize, until:
     }
     let line = turning::line_of(s, p / 2);
     if p % 2 == 0 {
-        line::lift(buf, scratch, s, line, until);
+        let w = walk::walk_of(s, inverse, line);
+        let first = first::first_of(s, inverse, line);
+        line::lift(buf, scratch, line, w, first, false, until);
         return;
     }
     line::put_back(buf, scratch, line, until);
@@ -61,15 +73,16 @@ pub(crate) fn go_on(
     ensures { λ _. ⌜ memory (now (buf .exit)) (now (scratch .exit)) (now (progress .exit)) ≡ call (turnStages (s .m) (s .n)) budget (memory (now (buf .entry)) (now (scratch .entry)) (now (progress .entry))) ⌝ }
 {
     let total = stage_count(s);
+    let inverse = turning::inverse_for(s, 2);
     let mut left = budget;
     let mut p = *progress as usize;
     while 0 < left && p < total {
         let words = stage_words(s, p);
         if left <= words {
-            store(buf, scratch, s, p, left);
+            store(buf, scratch, s, inverse, p, left);
             left = 0;
         } else {
-            store(buf, scratch, s, p, words);
+            store(buf, scratch, s, inverse, p, words);
             p += 1;
             *progress = p as u32;
             left = left - words - 1;

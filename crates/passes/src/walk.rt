@@ -1,24 +1,29 @@
-// Walks: the places that a pass pairs with those of a line, group by group, with no division for a word or a group.
+// Walks: the places that a line receives its words from, in rising place, with no division for a word or a run.
 use crate::line::GroupedSides;
 use crate::line::Line;
-ghost use mathlib.Core.Bool.{cond};
 ghost use mathlib.Core.Path.{_≡_};
-ghost use Prim.Native.Nat.{ℕ, _+_, _/_, _%_, _<_, _≤_};
-ghost use lib.Dec.{eqb};
-ghost use Rattle.flat.specs.Passes.{column2, row3};
-ghost use Rattle.passes.specs.Lines.{paired};
-ghost use Rattle.passes.specs.PrivateScratch.{Grouped, OfPass, Follows, alone, isStraight};
+ghost use Prim.Native.Nat.{ℕ, _+_, _%_, _<_, _≤_};
+ghost use Rattle.passes.specs.Lines.{received};
+ghost use Rattle.passes.specs.PrivateScratch.{Grouped, OfPass};
+ghost use Rattle.passes.specs.declared.walk.Place.{Place};
+ghost use Rattle.passes.specs.PrivateWalks.{arrived, Follows, Ahead, Begins, Inverted};
 
-// A walk over `groups` groups of `size` places. In a group the paired place goes up by `step` modulo `modulus`. The first group starts
-// at `first`, each further one `shift` on, and group `restart` at 0 (none where it is 0).
+// A walk over groups of `size` places. In a group the place goes up by `step` modulo `modulus`. Each group starts `turn` on from where the one before
+// started, modulo `round`. Where a group has its break, at its place `split`, the place goes one more up, modulo `round`.
 pub(crate) struct Walk {
-    pub first: usize,
     pub step: usize,
     pub modulus: usize,
     pub size: usize,
-    pub groups: usize,
-    pub shift: usize,
-    pub restart: usize,
+    pub turn: usize,
+    pub round: usize,
+    pub split: usize,
+}
+
+// Where a walk stands: at `place`, which is place `group` of its group; the group started at `lap`.
+pub(crate) struct Place {
+    pub place: usize,
+    pub group: usize,
+    pub lap: usize,
 }
 
 // The place a step on, modulo the modulus.
@@ -33,127 +38,91 @@ pub(crate) fn step_on(place: usize, step: usize, modulus: usize) -> usize
     place - gap
 }
 
-// Two steps as one: what they bring a place on, modulo the modulus.
-pub(crate) fn twice(step: usize, modulus: usize) -> usize
-    requires { ⌜ step ≤ modulus ⌝ }
-    ensures { λ r. ⌜ (r ≤ modulus) × ((p : ℕ) → (p + r) % modulus ≡ (p + step + step) % modulus) ⌝ }
+// A walk over `count` places whose groups have one place each is one group, which goes by turns.
+fn joined(w: Walk, count: usize) -> Walk
+    ensures { λ r. ⌜ ((p : Place) (f : ℕ → ℕ) → Follows w p count f → Follows r p count f) ⌝ }
 {
-    let gap = modulus - step;
-    if step < gap {
-        return step + step;
+    if w.size == 1 {
+        return Walk {
+            step: w.turn,
+            modulus: w.round,
+            size: count,
+            turn: 0,
+            round: w.round,
+            split: 0,
+        };
     }
-    step - gap
+    w
 }
 
-// Where group g starts, of which the group before starts at `place`.
-pub(crate) fn next_start(w: Walk, g: usize, place: usize) -> usize
-    requires { ⌜ (place < w .modulus) × (w .shift ≤ w .modulus) ⌝ }
-    ensures { λ r. ⌜ r ≡ cond (eqb g (w .restart)) 0 ((place + w .shift) % w .modulus) ⌝ }
+// The walk over a line: in pass 1 the rows from its turn on, and those before it; in pass 2 the sources of a row, group by group; in pass 3 by n modulo m.
+pub(crate) fn walk_of(s: GroupedSides, inverse: usize, l: Line) -> Walk
+    requires { ⌜ Grouped s × OfPass (s .m) (s .n) l × Inverted (s .m) (s .n) (l .pass) inverse ⌝ }
+    ensures { λ r. ⌜ ((p : Place) → Begins (s .m) (s .n) (l .pass) (l .index) p → Follows r p (l .count) (received (s .m) (s .n) (l .pass) (l .index))) ⌝ }
 {
-    if g == w.restart {
-        return 0;
+    if l.pass == 1 {
+        return Walk {
+            step: 1,
+            modulus: s.m,
+            size: s.m,
+            turn: 0,
+            round: s.m,
+            split: 0,
+        };
     }
-    step_on(place, w.shift, w.modulus)
-}
-
-// Whether a walk goes through its places one by one in one group: it is then two runs, up to its modulus and from 0 on.
-pub(crate) fn straight(w: Walk) -> bool
-    ensures { λ r. ⌜ r ≡ isStraight w ⌝ }
-{
-    if w.step != 1 {
-        return false;
+    if l.pass == 2 {
+        let sources = Walk {
+            step: s.b,
+            modulus: s.n,
+            size: s.c,
+            turn: inverse,
+            round: s.b,
+            split: s.m - l.index,
+        };
+        return joined(sources, s.n);
     }
-    w.groups == 1
-}
-
-// x modulo y, without a division where x is below y.
-fn modulo(x: usize, y: usize) -> usize
-    requires { ⌜ 0 < y ⌝ }
-    ensures { λ r. ⌜ r ≡ x % y ⌝ }
-{
-    if x < y {
-        return x;
-    }
-    x % y
-}
-
-// x by y, rounded down, without a division where y is 1.
-fn quotient(x: usize, y: usize) -> usize
-    requires { ⌜ 0 < y ⌝ }
-    ensures { λ r. ⌜ r ≡ x / y ⌝ }
-{
-    if y == 1 {
-        return x;
-    }
-    x / y
-}
-
-// A walk in one group, over as many places as its modulus.
-pub(crate) fn one_group(first: usize, step: usize, modulus: usize) -> Walk
-    ensures { λ r. ⌜ r ≡ alone first step modulus ⌝ }
-{
-    Walk {
-        first,
-        step,
-        modulus,
-        size: modulus,
-        groups: 1,
-        shift: 0,
-        restart: 0,
-    }
-}
-
-// The walk of pass 2 over row i. Where groups have one place they are one group, so that no group is as short as that.
-fn row_walk(s: GroupedSides, i: usize) -> Walk
-    requires { ⌜ Grouped s × (i < s .m) ⌝ }
-    ensures { λ r. ⌜ Follows r (s .n) (λ k. column2 (s .m) (s .n) i k) ⌝ }
-{
-    let first = modulo(i, s.n);
-    if s.b == 1 {
-        return one_group(first, 1, s.n);
-    }
-    Walk {
-        first,
-        step: s.across,
-        modulus: s.n,
-        size: s.b,
-        groups: s.c,
-        shift: 1,
-        restart: s.m - i,
-    }
-}
-
-// The walk of pass 3 over column j.
-fn column_walk(s: GroupedSides, j: usize) -> Walk
-    requires { ⌜ Grouped s ⌝ }
-    ensures { λ r. ⌜ Follows r (s .m) (λ k. row3 (s .m) (s .n) k j) ⌝ }
-{
-    let first = modulo(j, s.m);
-    if s.a == 1 {
-        return one_group(first, s.m - 1, s.m);
-    }
-    Walk {
-        first,
+    let rows = Walk {
         step: s.down,
         modulus: s.m,
         size: s.a,
-        groups: s.c,
-        shift: s.m - 1,
-        restart: 0,
-    }
+        turn: s.m - 1,
+        round: s.m,
+        split: 0,
+    };
+    joined(rows, s.m)
 }
 
-// The walk of a line's pass over the line.
-pub(crate) fn walk_of(s: GroupedSides, l: Line) -> Walk
-    requires { ⌜ Grouped s × OfPass (s .m) (s .n) l ⌝ }
-    ensures { λ r. ⌜ Follows r (l .count) (paired (s .m) (s .n) (l .pass) (l .index)) ⌝ }
+// How many places lie ahead in the run: up to the break of the group, or to its end.
+pub(crate) fn ahead(w: Walk, p: Place) -> usize
+    requires { ⌜ p .group < w .size ⌝ }
+    ensures { λ r. ⌜ Ahead w p r ⌝ }
 {
-    if l.pass == 1 {
-        let first = quotient(l.index, s.b);
-        return one_group(first, 1, s.m);
+    if w.split <= p.group {
+        return w.size - p.group;
     }
-    if l.pass == 2 {
-        return row_walk(s, l.index);
+    if w.size <= w.split {
+        return w.size - p.group;
     }
-    column_walk(s, l.index)
+    w.split - p.group
+}
+
+// Where a walk stands that has come to the end of a group, or to its break.
+pub(crate) fn arrive(w: Walk, lap: usize, group: usize) -> Place
+    requires { ⌜ (lap < w .round) × (w .turn ≤ w .round) × (w .round ≤ 4096) × (w .step ≤ 4096) × (group ≤ 4096) ⌝ }
+    ensures { λ r. ⌜ r ≡ arrived w lap group ⌝ }
+{
+    if group == w.size {
+        let next = step_on(lap, w.turn, w.round);
+        return Place {
+            place: next,
+            group: 0,
+            lap: next,
+        };
+    }
+    let column = step_on(lap, 1, w.round);
+    Place {
+        place: group * w.step + column,
+        group,
+        lap,
+    }
 }

@@ -1,6 +1,6 @@
--- the next place of a walk, the next start of a group, without a remainder
+-- the next place of a walk, without a remainder
 pub mod Steps
--- the places that each pass pairs are walks
+-- the places that the passes pair, group by group
 pub mod Passes
 -- remainders of sums and products
 pub mod Remainders

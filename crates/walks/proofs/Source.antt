@@ -1,9 +1,8 @@
 -- The inverse of pass 2, and a walk over it in rising place: the state at any place, and the next one.
-use mathlib.Core.Path.{_≡_, sym, ap, ap₂, _∙_, subst}
-use Prim.Native.Nat.{ℕ, zero, suc, _+_, _*_, _-_, _/_, _%_, _<_, _≤_}
+use mathlib.Core.Path.{_≡_, sym, ap, ap₂, _∙_}
+use Prim.Native.Nat.{ℕ, _+_, _*_, _-_, _/_, _%_, _<_, _≤_}
 use native.Mathlib.Omega.{arith}
-use native.Mathlib.Numerals.{add-one}
-use native.Mathlib.Nat.{zero-mul, zero-add, mod-lt, mod-eq-of-lt, mod-add-mod, add-mul-mod-self-right, add-mod-right, add-mul, add-assoc, add-zero, mul-assoc, mul-comm, mul-right-comm, mul-one, one-mul, div-add-mod', div-eq-of-lt, div-eq-of-lt-le}
+use native.Mathlib.Nat.{mod-lt, mod-eq-of-lt, mod-add-mod, add-mul-mod-self-right, add-mul, add-assoc, add-zero, mul-assoc, mul-comm, mul-right-comm, mul-one, one-mul, div-add-mod', div-eq-of-lt, div-eq-of-lt-le}
 use mathlib.Core.Logic.{⊎-elim}
 use lib.Arith.{digits-lt}
 use Rattle.lists.proofs.Decide.{lt-or-ge}
@@ -13,9 +12,7 @@ use Rattle.flat.proofs.Sides.{Sides}
 use Rattle.flat.proofs.Passes.{source-is}
 use Rattle.walks.specs.PrivateSource.{Inverse, StateAt}
 use Rattle.walks.proofs.Remainders.{add-same, times-same, scaled-same}
-use Rattle.walks.proofs.Passes.{laps, crossed, shared-le, column2-at, column2-alone}
-use Rattle.walks.proofs.Steps.{walk-start, walk-more}
-use Rattle.walks.specs.PrivateWalk.{walk}
+use Rattle.walks.proofs.Passes.{laps, crossed, shared-le, column2-at}
 
 -- a number from m to below twice m has passed m once
 passed : {m : ℕ} (y : ℕ) → m ≤ y → y < m + m → y / m ≡ 1
@@ -86,6 +83,17 @@ module _ {m n : ℕ} (s : Sides m n) where
         ∙ ap (λ (z : ℕ). z % b) (omega (arith, div-eq-of-lt {n = i + g} {m = m} (omega arith), passed {m = m} (i + (g + 1)) (omega arith) (omega arith)));
   }
 
+  -- the state at place 0 of the next row: the group before
+  pub row-next : {i g q t : ℕ} → StateAt m n i 0 (g + 1) q t → StateAt m n (i + 1) 0 g q t
+  row-next {i} {g} {q} w =
+      let e : i + (g + 1) ≡ i + 1 + g = omega arith in
+      record {
+        group = omega (arith, w .group);
+        lap = w .lap;
+        place = ap (λ (z : ℕ). (z + q * m) % n) (sym e) ∙ w .place;
+        column = w .column ∙ ap (λ (z : ℕ). (q + z / m) % columnGroup m n) e;
+      }
+
   module _ {x : ℕ} (v : Inverse (rowGroup m n) (columnGroup m n) x) where
     -- x·a is 1 modulo b, so x·d laps are d·c places
     turns : (d : ℕ) → (x * d * m) % n ≡ (d * gcdOf m n) % n
@@ -99,23 +107,52 @@ module _ {m n : ℕ} (s : Sides m n) where
         ∙ scaled-same (x * a * d) d (s .b-pos) (s .c-pos) e
         ∙ ap (λ (z : ℕ). (d * c) % z) (s .columns)
 
+    -- a lap of x is c places
+    one-lap : (x * m) % n ≡ gcdOf m n % n
+    one-lap = ap (λ (z : ℕ). (z * m) % n) (sym (mul-one x)) ∙ turns 1 ∙ ap (λ (z : ℕ). z % n) (one-mul (gcdOf m n))
+
     -- the next state past the last group
     pub next-round : {i j g q t : ℕ} → i < m → g + 1 ≡ gcdOf m n → StateAt m n i j g q t → let p = (q + x) % columnGroup m n in StateAt m n i (j + 1) 0 p p
     next-round {i} {j} {g} {q} {t} hi h w =
         let b = columnGroup m n in
         let p = (q + x) % b in
         let hp : p < b = mod-lt (q + x) (s .b-pos) in
-        let one : (x * m) % n ≡ gcdOf m n % n = ap (λ (z : ℕ). (z * m) % n) (sym (mul-one x)) ∙ turns 1 ∙ ap (λ (z : ℕ). z % n) (one-mul (gcdOf m n)) in
         record {
           group = s .c-pos;
           lap = hp;
           place = lap-reduced (i + 0) (q + x)
               ∙ ap (λ (z : ℕ). z % n) (omega (arith, add-mul q x m))
-              ∙ add-same (i + q * m) (x * m) (gcdOf m n) n one
+              ∙ add-same (i + q * m) (x * m) (gcdOf m n) n one-lap
               ∙ ap (λ (z : ℕ). z % n) (omega arith)
               ∙ place-on (i + g + q * m) j (w .place);
           column = sym (ap (λ (z : ℕ). (p + z) % b) (div-eq-of-lt (omega arith)) ∙ ap (λ (z : ℕ). z % b) (add-zero p) ∙ mod-eq-of-lt hp);
         }
+
+    -- the state at place 0 of the next row past the first group: the last one, x laps less
+    pub row-round : {i q t : ℕ} → StateAt m n i 0 0 q t → let p = (q + (columnGroup m n - x)) % columnGroup m n in
+        StateAt m n (i + 1) 0 (gcdOf m n - 1) p ((p + (i + gcdOf m n) / m) % columnGroup m n)
+    row-round {i} {q} w =
+        let a = rowGroup m n in
+        let b = columnGroup m n in
+        let c = gcdOf m n in
+        let p = (q + (b - x)) % b in
+        let u : i + 1 + (c - 1) ≡ i + c = omega (arith, s .c-pos) in
+        let back : (b - x) * m + x * m ≡ a * n = omega (arith, add-mul (b - x) x m, ap (λ (z : ℕ). z * m) (lap-less b x (v .small)), crossed s) in
+        record {
+          group = omega (arith, s .c-pos);
+          lap = mod-lt (q + (b - x)) (s .b-pos);
+          place = ap (λ (z : ℕ). (z + p * m) % n) u
+              ∙ lap-reduced (i + c) (q + (b - x))
+              ∙ ap (λ (z : ℕ). z % n) (omega (arith, add-mul q (b - x) m))
+              ∙ add-same (i + q * m + (b - x) * m) c (x * m) n (sym one-lap)
+              ∙ ap (λ (z : ℕ). z % n) (omega arith)
+              ∙ add-mul-mod-self-right (i + 0 + q * m) a n
+              ∙ w .place;
+          column = ap (λ (z : ℕ). (p + z / m) % b) (sym u);
+        }
+      where
+        lap-less : (b x : ℕ) → x < b → b - x + x ≡ b
+        lap-less b x h = omega arith
 
     -- the state at place 0: k·c is the least multiple of c that is not below i
     pub state-first : (i k : ℕ) → 0 < n → i ≤ k * gcdOf m n → k * gcdOf m n < i + gcdOf m n → let q = x * ((n - 1) * k) % columnGroup m n in
@@ -138,37 +175,3 @@ module _ {m n : ℕ} (s : Sides m n) where
       where
         sub-one : (z : ℕ) → (n - 1) * z + z ≡ z * n
         sub-one z = let e : n - 1 + 1 ≡ n = omega arith in omega (arith, add-mul (n - 1) 1 z, one-mul z, ap (λ (w : ℕ). w * z) e, mul-comm n z)
-
-    -- sides that share no factor: one group, walked by x
-    module _ (e : gcdOf m n ≡ 1) {i q t : ℕ} (h : i < m) (w : StateAt m n i 0 0 q t) where
-      whole-line : columnGroup m n ≡ n
-      whole-line = sym (mul-one (columnGroup m n)) ∙ ap (λ (z : ℕ). columnGroup m n * z) (sym e) ∙ s .columns
-
-      lone-at : (j : ℕ) → StateAt m n i j 0 (walk t x n j) (walk t x n j)
-      lone-at zero =
-          let b = columnGroup m n in
-          let t-is : t ≡ q = w .column ∙ ap (λ (z : ℕ). (q + z) % b) (div-eq-of-lt (omega arith)) ∙ ap (λ (z : ℕ). z % b) (add-zero q) ∙ mod-eq-of-lt (w .lap) in
-          let low : t < n = rw (whole-line, ← t-is) at (w .lap) in
-          rw (walk-start t x n low) (subst (λ (z : ℕ). StateAt m n i 0 0 z t) (sym t-is) w)
-      lone-at (suc j) =
-          let p : (walk t x n j + x) % columnGroup m n ≡ walk t x n (suc j) = ap (λ (z : ℕ). (walk t x n j + x) % z) whole-line ∙ sym (walk-more t x n j) ∙ ap (walk t x n) (add-one j) in
-          rw (add-one) at (subst (λ (z : ℕ). StateAt m n i (j + 1) 0 z z) p (next-round h (sym e) (lone-at j)))
-
-      pub source-lone : (j : ℕ) → j < n → source2 m n i j ≡ walk t x n j
-      source-lone j d = source-at d (lone-at j) ∙ ap (λ (z : ℕ). z + walk t x n j) (zero-mul (columnGroup m n)) ∙ zero-add (walk t x n j)
-
-  -- groups of one column: from place i mod n on the sources go up from 0, before that from n - i mod n on
-  module _ (e : columnGroup m n ≡ 1) where
-    pub sources-before : (i t : ℕ) → 0 < n → t < i % n → source2 m n i t ≡ n - i % n + t
-    unfolding walk
-    sources-before i t hn h =
-        let low = mod-lt i hn in
-        let d : t < n = omega arith in
-        source-is s i t (n - i % n + t) (omega arith)
-        (column2-alone s i (n - i % n + t) e ∙ ap (λ (z : ℕ). z % n) (omega (arith, mul-one (n - i % n + t))) ∙ add-mod-right t n ∙ mod-eq-of-lt d)
-
-    pub sources-from : (i t : ℕ) → 0 < n → t < n - i % n → source2 m n i (i % n + t) ≡ t
-    unfolding walk
-    sources-from i t hn h =
-        let d : i % n + t < n = omega (arith, mod-lt i hn) in
-        source-is s i (i % n + t) t (omega arith) (column2-alone s i t e ∙ ap (λ (z : ℕ). z % n) (omega (arith, mul-one t)) ∙ mod-eq-of-lt d)

@@ -9,7 +9,6 @@ use Rattle.refusals.specs.Calls.{passesChecks}
 use Rattle.flat.specs.Turn.{sides}
 use Rattle.passes.proofs.Accepted.{Accepted, flat-accepted}
 use Rattle.passes.proofs.Ticks.{counted, tick-refused, by-flat, too-late, none-left, next-fits, tick-moved}
-use Rattle.passes.proofs.Lifted.{lifted-past}
 use Rattle.passes.proofs.tick.Statement.{statement}
 use Rattle.passes.proofs.tick.Tie as tie
 
@@ -56,7 +55,7 @@ returns-4 c =
     let l : tie.After-line-of = search in
     let s : tie.After-group-sides = search in
     let moved = rw (l .line-of .ensures) at (f .forth .ensures) in
-    tick-moved (s .group-sides .ensures) _ _ (search via) (omega arith) (moved .0) (lifted-past (moved .1)) (z .clear-longest2 .ensures)
+    tick-moved (s .group-sides .ensures) _ _ (search via) (omega arith) (moved .0) (moved .1) (z .clear-longest2 .ensures)
 
 pub tick-spec : {M : Type 1} → statement M
 tick-spec =

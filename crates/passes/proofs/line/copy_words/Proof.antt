@@ -10,21 +10,23 @@ use Rattle.passes.proofs.line.copy_words.Statement.{statement}
 use Rattle.passes.proofs.line.copy_words.Tie as tie
 
 abbrev Inv-loop : tie.InvT-loop
-Inv-loop buf scratch₀ start stride from to size t₀ scratch t =
-    (t ≤ size) × Filled (λ j. to + j) (λ j. getD buf (start + stride * (from + j)) 0) t scratch₀ scratch
+Inv-loop source target₀ from gap to step size t₀ target t = (t ≤ size) × Filled (λ j. to + step * j) (λ j. getD source (from + gap * j) 0) t target₀ target
 
 abbrev μ-loop : tie.MeasureT-loop
-μ-loop buf scratch₀ start stride from to size t₀ scratch t = size - t
+μ-loop source target₀ from gap to step size t₀ target t = size - t
 
--- the word that is read lies in the buffer
-inside : (c : tie.In-loop Inv-loop μ-loop) → let a = c .before .before .args in a .start + a .stride * (a .from + c .before .loop .t) < length (a .buf .now)
+-- the word that is read, and the place that it goes to
+inside : (c : tie.In-loop Inv-loop μ-loop) → let a = c .before .before .args in a .from + a .gap * c .before .loop .t < length (a .source .now)
 inside c = let x : tie.Start Inv-loop μ-loop = search in x .pre .0 _ (omega arith)
+
+there : (c : tie.In-loop Inv-loop μ-loop) → let a = c .before .before .args in a .to + a .step * c .before .loop .t < length (a .target .now)
+there c = let x : tie.Start Inv-loop μ-loop = search in x .pre .1 _ (omega arith)
 
 loop-again : tie.Need-loop-again Inv-loop μ-loop
 loop-again c =
     let l : tie.At-loop Inv-loop μ-loop = search in
     let x : tie.Start Inv-loop μ-loop = search in
-    (omega arith, filled-more {count = x .args .size} (λ i j _ _ e. omega arith) (omega arith) (omega arith) (l .loop .inv .1))
+    (omega arith, filled-more {count = x .args .size} (x .pre .2) (omega arith) (there (search)) (l .loop .inv .1))
 
 returns : tie.Need-returns Inv-loop μ-loop
 returns c =
@@ -40,16 +42,16 @@ copy-words-spec =
     Inv-loop
     μ-loop
     (λ c. (omega arith, filled-none _ _ _))
-    (search needs)
     (λ c. omega (arith, inside (search)))
     (λ c. omega (arith, inside (search)))
     (λ c. omega (arith, inside (search)))
     (λ c. inside (search))
-    (search needs)
-    (search needs)
-    (search needs)
+    (λ c. omega (arith, there (search)))
+    (λ c. omega (arith, there (search)))
+    (λ c. omega (arith, there (search)))
+    (λ c. let l : tie.At-loop Inv-loop μ-loop = search in omega (arith, there (search), l .loop .inv .1 .same))
     (search needs)
     (search needs)
     loop-again
-    (search needs)
+    (λ c. let l : tie.At-loop Inv-loop μ-loop = search in l .loop .inv .1 .same)
     returns)

@@ -1,22 +1,23 @@
--- `put_back` meets its contract: either way the words go back with the line's own stride, which for a row is 1.
+-- `put_back` meets its contract: the words of scratch, side by side, go to the places of the line.
+use mathlib.Core.Path.{_≡_, refl, ap}
+use Prim.Native.Nat.{ℕ, _+_, _*_}
 use native.Mathlib.Omega.{arith}
 use borrow.Author.Needs.{needs}
-use Rattle.passes.proofs.Filled.{inside-row, row-put}
+use lib.ListN.{getD}
+use Rattle.passes.proofs.Filled.{line-apart, filled-as}
 use Rattle.passes.proofs.line.put_back.Statement.{statement}
 use Rattle.passes.proofs.line.put_back.Tie as tie
 
-put-words-requires : tie.Need-put-words-requires
-put-words-requires c κs =
-    let t : tie.Then1 = search in
+copy-requires : tie.Need-copy-requires
+copy-requires c κs =
     let x : tie.Start = search in
-    (inside-row (x .args .buf .now) (x .args .l) (t .if1 .taken) (x .pre .0), omega arith, x .pre .2)
+    (λ t h. omega (arith, x .pre .2), x .pre .0, line-apart (x .args .l .start) (x .args .l .stride) (x .args .until) (x .pre .1))
 
 returns : tie.Need-returns
 returns c =
-    let w : tie.After-put-words = search in
-    let t : tie.Then1 = search in
+    let w : tie.After-copy = search in
     let x : tie.Start = search in
-    row-put (x .args .l) (t .if1 .taken) (w .put-words .ensures)
+    filled-as (λ k h. refl) (λ k h. let e : k ≡ 0 + 1 * k = omega arith in ap (λ (z : ℕ). getD (x .args .scratch .now) z 0) e) (w .copy .ensures)
 
 pub put-back-spec : {M : Type 1} → statement M
-put-back-spec = tie.close (tie.spec put-words-requires (search needs) returns (λ c κs. let x : tie.Start = search in x .pre) (search needs) (λ c. let w : tie.After-put-words2 = search in w .put-words2 .ensures))
+put-back-spec = tie.close (tie.spec copy-requires (search needs) returns)

@@ -15,7 +15,7 @@ use Rattle.passes.proofs.restart.go_on.Statement.{statement}
 use Rattle.passes.proofs.restart.go_on.Tie as tie
 
 abbrev Inv-loop : tie.InvT-loop
-Inv-loop buf₀ scratch₀ progress₀ s budget total left₀ p₀ buf scratch progress left p =
+Inv-loop buf₀ scratch₀ progress₀ s budget total inverse left₀ p₀ buf scratch progress left p =
     (progress ≡ p)
     × (total ≡ lineCount (s .m) (s .n) * 2 + 1)
     × (p ≤ total)
@@ -24,7 +24,7 @@ Inv-loop buf₀ scratch₀ progress₀ s budget total left₀ p₀ buf scratch p
     × (call (turnStages (s .m) (s .n)) left (memory buf scratch p) ≡ call (turnStages (s .m) (s .n)) budget (memory buf₀ scratch₀ progress₀))
 
 abbrev μ-loop : tie.MeasureT-loop
-μ-loop buf₀ scratch₀ progress₀ s budget total left₀ p₀ buf scratch progress left p = left
+μ-loop buf₀ scratch₀ progress₀ s budget total inverse left₀ p₀ buf scratch progress left p = left
 
 -- the places that the answers look back to
 abbrev Start : Type 0
@@ -46,15 +46,17 @@ store-requires : tie.Need-store-requires Inv-loop μ-loop
 store-requires c κs =
     let w : Words = search in
     let l : Loop = search in
+    let i : tie.After-inverse-for Inv-loop μ-loop = search in
     let x : Start = search in
-    (mapped-in (l .loop .inv .3) (l .loop .inv .4) (x .pre .0), omega (arith, w .stage-words .ensures))
+    (mapped-in (l .loop .inv .3) (l .loop .inv .4) (x .pre .0), i .inverse-for .ensures, omega (arith, w .stage-words .ensures))
 
 store-requires-2 : tie.Need-store-requires-2 Inv-loop μ-loop
 store-requires-2 c κs =
     let w : Words = search in
     let l : Loop = search in
+    let i : tie.After-inverse-for Inv-loop μ-loop = search in
     let x : Start = search in
-    (mapped-in (l .loop .inv .3) (l .loop .inv .4) (x .pre .0), omega (arith, w .stage-words .ensures))
+    (mapped-in (l .loop .inv .3) (l .loop .inv .4) (x .pre .0), i .inverse-for .ensures, omega (arith, w .stage-words .ensures))
 
 loop-again : tie.Need-loop-again Inv-loop μ-loop
 unfolding stagesOf
@@ -114,6 +116,7 @@ go-on-spec =
     (tie.spec
     Inv-loop
     μ-loop
+    (λ c κs. search needs)
     (λ c κs. search needs)
     loop-holds
     (λ c κs. search needs)

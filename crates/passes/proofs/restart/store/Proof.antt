@@ -1,7 +1,14 @@
 -- `store` meets its contract: each kind of stage fills one list, up to any word.
+use mathlib.Core.Path.{refl, ap}
+use Prim.Native.Nat.{ℕ, _≤_}
 use native.Mathlib.Omega.{arith}
 use native.Mathlib.Nat.{le-trans}
 use borrow.Author.Needs.{needs}
+use lib.ListN.{getD}
+use Rattle.passes.specs.Lines.{posOn}
+use Rattle.passes.specs.PrivateScratch.{Fits}
+use Rattle.passes.specs.PrivateWalks.{Inverted}
+use Rattle.passes.proofs.Filled.{filled-as}
 use Rattle.passes.proofs.Stages.{clear-words, stage-fits, stage-few, stored-lift, stored-back, stored-clear}
 use Rattle.passes.proofs.restart.store.Statement.{statement}
 use Rattle.passes.proofs.restart.store.Tie as tie
@@ -9,35 +16,57 @@ use Rattle.passes.proofs.restart.store.Tie as tie
 zero-requires : tie.Need-zero-requires
 zero-requires c κs =
     let x : tie.Start = search in
-    omega (arith, x .pre .1, clear-words (x .args .s .m) (x .args .s .n) (x .args .p) (omega arith), x .pre .0 .room)
+    omega (arith, x .pre .2, clear-words (x .args .s .m) (x .args .s .n) (x .args .p) (omega arith), x .pre .0 .room)
 
 returns : tie.Need-returns
 returns c =
     let z : tie.After-zero = search in
     let x : tie.Start = search in
-    stored-clear (x .pre .0) (x .args .p) (x .args .until) (x .pre .1) (omega arith) (z .zero .ensures)
+    stored-clear (x .pre .0) (x .args .p) (x .args .until) (x .pre .2) (omega arith) (z .zero .ensures)
+
+-- the line of a stage fits, and has as many words as are asked for
+fits : (c : tie.After-line-of) → let x = c .before .before .before .before .before in Fits (x .args .s .m) (x .args .s .n) (c .line-of .result) (x .args .buf .now) (x .args .scratch .now) × (x .args .until ≤ c .line-of .result .count)
+fits c =
+    let x : tie.Start = search in
+    rw (c .line-of .ensures) (stage-fits (x .pre .0) (x .args .p) (x .args .until) (x .pre .2) (omega arith), stage-few (x .pre .0) (x .args .p) (x .args .until) (x .pre .2) (omega arith))
+
+-- the inverse serves a line of any pass
+inverted : (x : tie.Start) (pass : ℕ) → Inverted (x .args .s .m) (x .args .s .n) pass (x .args .inverse)
+inverted x pass _ = x .pre .1 refl
+
+first-of-requires : tie.Need-first-of-requires
+first-of-requires c κs =
+    let l : tie.After-line-of = search in
+    let x : tie.Start = search in
+    (x .pre .0 .grouped, λ e. let o = rw e at (fits l .0 .of-pass) in o .1, inverted x _)
 
 lift-requires : tie.Need-lift-requires
 lift-requires c κs =
+    let f : tie.After-first-of = search in
+    let w : tie.After-walk-of = search in
     let l : tie.After-line-of = search in
-    let x : tie.Start = search in
-    rw (l .line-of .ensures) (x .pre .0 .grouped, stage-fits (x .pre .0) (x .args .p) (x .args .until) (x .pre .1) (omega arith), stage-few (x .pre .0) (x .args .p) (x .args .until) (x .pre .1) (omega arith))
+    (fits l .0 .lain, w .walk-of .ensures _ (f .first-of .ensures) .walks, fits l .1)
 
 returns-2 : tie.Need-returns-2
 returns-2 c =
-    let f : tie.After-lift = search in
+    let h : tie.After-lift = search in
+    let f : tie.After-first-of = search in
+    let w : tie.After-walk-of = search in
     let t : tie.Then2 = search in
     let l : tie.After-line-of = search in
     let x : tie.Start = search in
-    stored-lift (x .pre .0) (x .args .p) (x .args .until) (x .pre .1) (omega arith) (omega arith) (rw (l .line-of .ensures) at (f .lift .ensures))
+    let y = w .walk-of .ensures _ (f .first-of .ensures) in
+    let b = x .args .buf .now in
+    let few = fits l .1 in
+    let lifted = filled-as (λ k d. refl) (λ k d. ap (λ (z : ℕ). getD b (posOn (l .line-of .result) z) 0) (y .places k (le-trans d few))) (h .lift .ensures) in
+    stored-lift (x .pre .0) (x .args .p) (x .args .until) (x .pre .2) (omega arith) (omega arith) (rw (l .line-of .ensures) at lifted)
 
 put-back-requires : tie.Need-put-back-requires
 put-back-requires c κs =
     let l : tie.After-line-of = search in
-    let x : tie.Start = search in
-    let few = stage-few (x .pre .0) (x .args .p) (x .args .until) (x .pre .1) (omega arith) in
-    let fits = stage-fits (x .pre .0) (x .args .p) (x .args .until) (x .pre .1) (omega arith) in
-    rw (l .line-of .ensures) (λ k h. fits .inside k (le-trans h few), fits .step, le-trans few (fits .room))
+    let f = fits l .0 .lain in
+    let few = fits l .1 in
+    (λ k h. f .inside k (le-trans h few), f .step, le-trans few (f .room))
 
 returns-3 : tie.Need-returns-3
 returns-3 c =
@@ -45,7 +74,7 @@ returns-3 c =
     let t : tie.Else2 = search in
     let l : tie.After-line-of = search in
     let x : tie.Start = search in
-    stored-back (x .pre .0) (x .args .p) (x .args .until) (x .pre .1) (omega arith) (λ e. omega arith) (rw (l .line-of .ensures) at (f .put-back .ensures))
+    stored-back (x .pre .0) (x .args .p) (x .args .until) (x .pre .2) (omega arith) (λ e. omega arith) (rw (l .line-of .ensures) at (f .put-back .ensures))
 
 pub store-spec : {M : Type 1} → statement M
 store-spec =
@@ -57,6 +86,8 @@ store-spec =
     (search needs)
     returns
     (λ c κs. search needs)
+    (λ c κs. let l : tie.After-line-of = search in let x : tie.Start = search in (x .pre .0 .grouped, fits l .0 .of-pass, inverted x _))
+    first-of-requires
     lift-requires
     (search needs)
     (search needs)

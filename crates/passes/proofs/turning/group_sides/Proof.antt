@@ -2,12 +2,10 @@
 use mathlib.Core.Bool.{cond}
 use mathlib.Core.Path.{refl, ap, _∙_}
 use Prim.Native.Nat.{ℕ, _/_, _<_}
-use native.Mathlib.Omega.{arith}
 use borrow.Author.Needs.{needs}
 use lib.Dec.{ltb}
 use Rattle.flat.proofs.Sides.{sides-are}
 use Rattle.passes.specs.Lines.{skipped}
-use Rattle.passes.proofs.Passed.{groups-le}
 use Rattle.passes.proofs.turning.group_sides.Statement.{statement}
 use Rattle.passes.proofs.turning.group_sides.Tie as tie
 
@@ -17,18 +15,9 @@ divisor c =
     let x : tie.Start = search in
     rw (c .gcd .ensures) (sides-are (x .args .m) (x .args .n) (x .pre .0) (x .pre .1) .c-pos)
 
--- the quotients by it share no factor
-inverse-requires : tie.Need-inverse-requires
-inverse-requires c κs =
-    let g : tie.After-gcd = search in
-    let x : tie.Start = search in
-    let s = sides-are (x .args .m) (x .args .n) (x .pre .0) (x .pre .1) in
-    rw (g .gcd .ensures) (record { b-pos = s .b-pos; b-few = omega (arith, groups-le (x .args .m) (x .args .n) (x .pre .0) (x .pre .1)); apart = s .apart })
-
 returns : tie.Need-returns
 unfolding skipped
 returns c =
-    let i : tie.After-inverse = search in
     let g : tie.After-gcd = search in
     let x : tie.Start = search in (
       refl,
@@ -42,11 +31,9 @@ returns c =
         b-is = ap (λ (z : ℕ). x .args .n / z) (g .gcd .ensures);
         c-is = g .gcd .ensures;
         down-is = refl;
-        across-is = refl;
-        inverse-is = rw (← g .gcd .ensures) (i .inverse .ensures);
         skipped-is = c .left-out .ensures ∙ ap (λ (z : ℕ). cond (ltb 1 z) 0 (x .args .n)) (g .gcd .ensures);
       },
     )
 
 pub group-sides-spec : {M : Type 1} → statement M
-group-sides-spec = tie.close (tie.spec (search needs) (λ c. divisor (search)) (λ c. divisor (search)) (search needs) (search needs) inverse-requires (search needs) returns)
+group-sides-spec = tie.close (tie.spec (search needs) (λ c. divisor (search)) (λ c. divisor (search)) (search needs) (search needs) returns)

@@ -1,7 +1,6 @@
--- `line_of` meets its contract: the three passes by their line numbers; sides of at most 4,096 keep the one product small.
-use mathlib.Core.Path.{_≡_}
-use Prim.Native.Nat.{ℕ, _+_, _*_, _-_, _≤_}
-use native.Mathlib.Nat.{mul-le-mul}
+-- `line_of` meets its contract: the three passes by their line numbers.
+use mathlib.Core.Path.{_≡_, _∙_}
+use Prim.Native.Nat.{_+_, _-_}
 use native.Mathlib.Omega.{arith}
 use borrow.Author.Needs.{needs}
 use borrow.Author.Tests.{lt-ltb, le-ltb}
@@ -10,39 +9,44 @@ use Rattle.passes.specs.declared.line.Line.{Line}
 use Rattle.passes.proofs.turning.line_of.Statement.{statement}
 use Rattle.passes.proofs.turning.line_of.Tie as tie
 
-module _ (x : tie.Start) where
-  -- the line's number where no pass is left out
-  abbrev number : ℕ
-  number = x .args .s .skipped + x .args .l
-
-  row-start : number - x .args .s .n ≤ 4096 → (number - x .args .s .n) * x .args .s .n ≤ 16777216
-  row-start h = mul-le-mul h (x .pre .0 .n-few)
-
-  -- a line of that number is the line asked for
-  numbered : {i : Line} → i ≡ lineAt (x .args .s .m) (x .args .s .n) number → i ≡ lineOf (x .args .s .m) (x .args .s .n) (x .args .l)
-  numbered e = rw (← x .pre .0 .skipped-is) e
+-- a line of that number, where no pass is left out, is the line asked for
+numbered : (x : tie.Start) → {i : Line} → i ≡ lineAt (x .args .s .m) (x .args .s .n) (x .args .s .skipped + x .args .l) → i ≡ lineOf (x .args .s .m) (x .args .s .n) (x .args .l)
+numbered x e = rw (← x .pre .0 .skipped-is) e
 
 returns : tie.Need-returns
 unfolding lineAt
-returns c = numbered (search) (rw (lt-ltb _ _ (c .if1 .taken)))
+returns c =
+    let i : tie.After-line-in = search in
+    let t : tie.Then1 = search in
+    numbered (search) (i .line-in .ensures ∙ rw (lt-ltb _ _ (t .if1 .taken)))
 
 returns-2 : tie.Need-returns-2
 unfolding lineAt
-returns-2 c = let e : tie.Else1 = search in numbered (search) (rw (le-ltb _ _ (e .if1 .left), lt-ltb _ _ (c .if2 .taken)))
+returns-2 c =
+    let i : tie.After-line-in2 = search in
+    let t : tie.Then2 = search in
+    let e : tie.Else1 = search in
+    numbered (search) (i .line-in2 .ensures ∙ rw (le-ltb _ _ (e .if1 .left), lt-ltb _ _ (t .if2 .taken)))
 
 returns-3 : tie.Need-returns-3
 unfolding lineAt
-returns-3 c = let e : tie.Else1 = search in numbered (search) (rw (le-ltb _ _ (e .if1 .left), le-ltb _ _ (c .if2 .left)))
+returns-3 c =
+    let i : tie.After-line-in3 = search in
+    let t : tie.Else2 = search in
+    let e : tie.Else1 = search in
+    numbered (search) (i .line-in3 .ensures ∙ rw (le-ltb _ _ (e .if1 .left), le-ltb _ _ (t .if2 .left)))
 
 pub line-of-spec : {M : Type 1} → statement M
 line-of-spec =
     tie.close
     (tie.spec
     (search needs)
+    (λ c κs. let x : tie.Start = search in (x .pre .0, omega arith))
     returns
     (search needs)
-    (λ c. omega (arith, row-start (search) (omega arith)))
+    (λ c κs. let x : tie.Start = search in (x .pre .0, omega arith))
     returns-2
     (search needs)
     (search needs)
+    (λ c κs. let x : tie.Start = search in (x .pre .0, omega arith))
     returns-3)

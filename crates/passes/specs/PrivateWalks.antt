@@ -1,0 +1,102 @@
+-- These definitions serve only the contracts of private functions: a reader of the promises can pass over them.
+-- Walks over the places that a line receives its words from. Assumes nothing: these are definitions.
+use mathlib.Core.Bool.{cond}
+use mathlib.Core.Path.{_≡_}
+use mathlib.Core.Logic.{_⊎_}
+use Prim.Native.Nat.{ℕ, zero, suc, _+_, _*_, _/_, _%_, _<_, _≤_}
+use lib.Dec.{eqb}
+use Rattle.flat.specs.Passes.{rowGroup, columnGroup}
+use Rattle.walks.specs.PrivateWalk.{walk}
+use Rattle.walks.specs.PrivateSource.{Inverse, StateAt}
+use Rattle.passes.specs.PrivateScratch.{Apart}
+use Rattle.passes.specs.declared.walk.Place.{Place}
+use Rattle.passes.specs.declared.walk.Walk.{Walk}
+
+-- a walk at the first place of a group that starts at `lap`
+abbrev pub begun : ℕ → Place
+begun lap = record { place = lap; group = 0; lap = lap }
+
+-- a walk of one group of places, in their own order, at place q
+abbrev pub risen : ℕ → Place
+risen q = record { place = q; group = q; lap = 0 }
+
+-- where a walk stands that has come to place g of a group: past its end the next group starts, at its break the column goes one up
+abbrev pub arrived : Walk → ℕ → ℕ → Place
+arrived w lap g = cond (eqb g (w .size)) (begun ((lap + w .turn) % w .round)) (record { place = g * w .step + (lap + 1) % w .round; group = g; lap = lap })
+
+-- where it stands one step on within a run
+abbrev pub stepped : Walk → Place → Place
+stepped w p = record { place = (p .place + w .step) % w .modulus; group = p .group + 1; lap = p .lap }
+
+-- where it stands one place on
+unfoldable pub onward : Walk → Place → Place
+onward w p = cond (eqb (p .group + 1) (w .size)) (arrived w (p .lap) (p .group + 1)) (cond (eqb (p .group + 1) (w .split)) (arrived w (p .lap) (p .group + 1)) (stepped w p))
+
+-- where it stands k places on
+unfoldable pub stands : Walk → Place → ℕ → Place
+stands w p zero = p
+stands w p (suc k) = onward w (stands w p k)
+
+-- the place of the line there
+abbrev pub placeAt : Walk → Place → ℕ → ℕ
+placeAt w p k = stands w p k .place
+
+-- the numbers of a place are in range
+pub record Low (w : Walk) (p : Place) : Type 0 where
+  pub place : p .place < w .modulus
+  pub group : p .group < w .size
+  pub lap : p .lap < w .round
+
+-- the numbers of a walk over `count` places
+pub record Small (w : Walk) (count : ℕ) : Type 0 where
+  pub short : w .step ≤ w .modulus
+  pub turns : w .turn ≤ w .round
+  pub modulus : w .modulus ≤ count
+  pub round : w .round ≤ count
+  pub size : w .size ≤ count
+
+-- a walk goes from p over `count` different places
+pub record Walks (w : Walk) (p : Place) (count : ℕ) : Type 0 where
+  pub small : Small w count
+  pub low : (k : ℕ) → k < count → Low w (stands w p k)
+  pub apart : Apart (placeAt w p) count
+
+-- and they are the places that f says
+pub record Follows (w : Walk) (p : Place) (count : ℕ) (f : ℕ → ℕ) : Type 0 where
+  pub walks : Walks w p count
+  pub starts : p .group ≡ 0 → p .place ≡ p .lap
+  pub places : (k : ℕ) → k < count → f k ≡ placeAt w p k
+
+-- r places on, the first time, the walk is past the end of its group or at its break
+pub record Ahead (w : Walk) (p : Place) (r : ℕ) : Type 0 where
+  pub some : 0 < r
+  pub free : (t : ℕ) → t + 1 < r → (p .group + t + 1 ≡ w .size → ⊥) × (p .group + t + 1 ≡ w .split → ⊥)
+  pub stops : (p .group + r ≡ w .size) ⊎ (p .group + r ≡ w .split)
+
+-- where a run that starts at `place` stands t steps on
+abbrev pub steps : Walk → ℕ → ℕ → ℕ
+steps w place t = walk place (w .step) (w .modulus) t
+
+-- a run of `size` places from `place` on: they are different, and those that are read or written on the other side, from `from` on, are on the line
+pub record RunFits (w : Walk) (count from place size : ℕ) : Type 0 where
+  pub low : place < w .modulus
+  pub short : w .step ≤ w .modulus
+  pub round : w .modulus ≤ count
+  pub on-line : from + size ≤ count
+  pub apart : Apart (steps w place) size
+
+-- a walk over the sources of row i stands at place j
+pub record SourceAt (m n i j : ℕ) (p : Place) : Type 0 where
+  pub column : ℕ
+  pub state : StateAt m n i j (p .group) (p .lap) column
+  pub place : p .place ≡ p .group * columnGroup m n + column
+
+-- the walk over a line of a pass begins at p
+pub record Begins (m n pass index : ℕ) (p : Place) : Type 0 where
+  pub one : pass ≡ 1 → p ≡ risen (index / columnGroup m n)
+  pub two : pass ≡ 2 → SourceAt m n index 0 p
+  pub three : (pass ≡ 1 → ⊥) → (pass ≡ 2 → ⊥) → p ≡ begun (index % m)
+
+-- a row needs the inverse of a modulo b
+abbrev pub Inverted : ℕ → ℕ → ℕ → ℕ → Type 0
+Inverted m n pass x = pass ≡ 2 → Inverse (rowGroup m n) (columnGroup m n) x
