@@ -1,7 +1,7 @@
 -- Marks, one bit a place: a bit set in a word leaves the other bits of the word and every other word, and zeroes are no marks.
 use mathlib.Core.Path.{_≡_, refl, sym, ap, ap₂, _∙_}
 use mathlib.Core.Bool.{true, false}
-use mathlib.Core.List.{List, _++_, append-nil}
+use mathlib.Core.List.{List}
 use mathlib.Core.Logic.{⊎-elim}
 use Prim.Native.Nat.{ℕ, zero, suc, _+_, _*_, _-_, _/_, _%_, _^_, _<_, _≤_, max}
 use native.Mathlib.Nat.{mod-lt, div-eq-of-lt, one-mul, div-add-mod', div-lt-iff-lt-mul, zero-div}
@@ -9,16 +9,12 @@ use native.Mathlib.Omega.{arith}
 use lib.Arith.{digits-mod}
 use lib.Bits.{bitOr, or-shr, or-step, shifted-even}
 use lib.Dec.{eqb, lit<}
-use lib.ListN.{length, getD, set, drop, replicate, length-set}
+use lib.ListN.{length, getD, set, replicate, length-set, length-replicate}
 use lib.Pow.{pow-add, pow-lt, shl-shr, shl-exact}
-use lib.Seq.{drop-length, getD-set-same, getD-set-other}
+use lib.Seq.{getD-set-same, getD-set-other, ext-getD}
 use Rattle.lists.proofs.Decide.{eq-or-ne, lt-or-ge}
+use Rattle.moves.specs.Stretch.{Stretch}
 use Rattle.grids.specs.Private.{bitAt, MarkedToo}
-
--- zeroes stored as far as the end
-pub all-cleared : {k : ℕ} (before : List ℕ) {after : List ℕ} → k ≡ length before → after ≡ replicate k 0 ++ drop k before → after ≡ replicate (length before) 0
-all-cleared {k} before e z =
-    z ∙ ap (λ (i : ℕ). replicate i 0 ++ drop i before) e ∙ ap (λ (l : List ℕ). replicate (length before) 0 ++ l) (drop-length before) ∙ append-nil (replicate (length before) 0)
 
 -- the last bit of two words' joined bits
 or-odd : (a b : ℕ) → bitOr a b % 2 ≡ max (a % 2) (b % 2)
@@ -100,3 +96,14 @@ bit-none marks q e = ap (λ (w : ℕ). eqb (w / 2 ^ (q % 32) % 2) 1) e ∙ ap (�
 -- a mark is not both there and missing
 pub both : {A : Type 0} (marks : List ℕ) (q : ℕ) → bitAt marks q ≡ true → bitAt marks q ≡ false → A
 both marks q t f = let z : _≡_ {A = ℕ} 0 1 = cc in absurd (omega arith)
+
+-- words that are all zeroed
+pub all-zero : {xs ys : List ℕ} → Stretch 0 (length xs) (λ u. 0) xs ys → ys ≡ replicate (length xs) 0
+all-zero {xs} {ys} s =
+    ext-getD 0 ys (replicate (length xs) 0) (s .same ∙ sym (length-replicate {A = ℕ} (length xs) 0))
+    (λ q h. let e : q ≡ 0 + q = omega arith in ap (λ (z : ℕ). getD ys z 0) e ∙ s .holds q (omega (arith, s .same)) ∙ sym (zeroes (length xs) q))
+  where
+    zeroes : (n k : ℕ) → getD (replicate {A = ℕ} n 0) k 0 ≡ 0
+    zeroes zero k = refl
+    zeroes (suc n) zero = refl
+    zeroes (suc n) (suc k) = zeroes n k

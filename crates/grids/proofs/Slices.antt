@@ -12,7 +12,7 @@ use Rattle.lists.proofs.Decide.{eq-or-ne, lt-or-ge}
 use Rattle.orbits.specs.Cycles.{takes}
 use Rattle.orbits.proofs.Takes.{takes-permutes}
 use Rattle.moves.specs.Stretch.{Stretch}
-use Rattle.moves.specs.Promises.{Ahead}
+use Rattle.moves.specs.Promises.{Apart}
 use Rattle.grids.specs.declared.chunks.Grid.{Grid}
 use Rattle.grids.specs.Private.{mirror, fold, half, pairs, bitAt, MarkedToo, Fits, Level, Beside, Waiting, BothHold, Settled, Toured}
 use Rattle.grids.proofs.Bits.{both}
@@ -29,16 +29,16 @@ next-chunk w {p} {q} h =
 next-place : (n m : ℕ) {p x : ℕ} → x ≡ takes n m p → p < n * m → x < n * m
 next-place n m {p} e h = omega (arith, takes-permutes n m .within p h)
 
--- the slice of a place lies in the words, and one that goes to another place goes ahead
+-- the slice of a place lies in the words, apart from that of another place
 module _ {g : Grid} {xs : List ℕ} (f : Fits g xs) where
   pub slice-inside : {p : ℕ} → p < g .n * g .m → p * g .chunk + g .lo + g .count ≤ length xs
   slice-inside h = omega (arith, next-chunk (g .chunk) h, f .inside, f .slice)
 
-  pub slice-ahead : (p x : ℕ) → Ahead (p * g .chunk + g .lo) (x * g .chunk + g .lo) (g .count)
-  slice-ahead p x =
+  pub slice-apart : (p x : ℕ) → (p ≡ x → ⊥) → Apart (p * g .chunk + g .lo) (x * g .chunk + g .lo) (g .count)
+  slice-apart p x ne =
       ⊎-elim
       (λ (h : x < p). inr (omega (arith, next-chunk (g .chunk) h, f .slice)))
-      (λ (h : p ≤ x). inl (omega (arith, mul-le-mul-right (g .chunk) h)))
+      (λ (h : p ≤ x). inl (omega (arith, next-chunk (g .chunk) {p = p} {q = x} (omega arith), f .slice)))
       (lt-or-ge x p)
 
   -- a grid that fits in words fits in as many
@@ -88,13 +88,13 @@ module _ (n m : ℕ) where
       let e = sym (first-own (n * m) first low) in
       subst (λ (z : ℕ). Chasing (pairs-permute n m) first z marks marks) e (chase-begins (pairs-permute n m) level (omega arith) free mark)
 
-  -- while the cycle is followed the free places are two, and the one is not what the other is to receive
+  -- while the cycle is followed the free places are two, and neither is what one of them is to receive
   free-apart : {first p x : ℕ} {before marks : List ℕ} → Chasing (pairs-permute n m) first (fold (n * m) p) before marks → p < n * m → x ≡ takes n m p
-      → (fold (n * m) x ≡ first → ⊥) → (p ≡ mirror (n * m) p → ⊥) × (mirror (n * m) x ≡ p → ⊥)
+      → (fold (n * m) x ≡ first → ⊥) → (p ≡ x → ⊥) × (p ≡ mirror (n * m) p → ⊥) × (mirror (n * m) x ≡ p → ⊥)
   free-apart {first} {p} {x} {before} {marks} c low e ne =
       let free = on-free (pairs-permute n m) c (pair-next e low) ne in
       let other : fold (n * m) p ≡ fold (n * m) x → ⊥ = λ z. both marks (fold (n * m) p) (c .here) (ap (bitAt marks) z ∙ free) in
-      (λ z. other (ap (fold (n * m)) (sym (e ∙ middle-stays p low z))), λ z. other (ap (fold (n * m)) (sym z) ∙ fold-mirror n m x (next-place n m e low)))
+      (λ z. other (ap (fold (n * m)) z), λ z. other (ap (fold (n * m)) (sym (e ∙ middle-stays p low z))), λ z. other (ap (fold (n * m)) (sym z) ∙ fold-mirror n m x (next-place n m e low)))
 
   -- at its end too
   end-apart : {first p x : ℕ} → first < mirror (n * m) first → p < n * m → x ≡ takes n m p → fold (n * m) x ≡ first → p ≡ mirror (n * m) p → ⊥
@@ -274,7 +274,7 @@ module _ {g : Grid} {first : ℕ} where
   module _ {p x r : ℕ} {ys marks zs marked : List ℕ} (f : Following g first p x ys marks zs marked) (folded : r ≡ fold (g .n * g .m) x) where
     -- while the next pair is not that of the first place
     module _ (away : r ≡ first → ⊥) where
-      pub next-apart : (p ≡ mirror (g .n * g .m) p → ⊥) × (mirror (g .n * g .m) x ≡ p → ⊥)
+      pub next-apart : (p ≡ x → ⊥) × (p ≡ mirror (g .n * g .m) p → ⊥) × (mirror (g .n * g .m) x ≡ p → ⊥)
       next-apart = free-apart (g .n) (g .m) (f .chase) (f .low) (f .is) (λ e. away (folded ∙ e))
 
       module _ {vs after : List ℕ}

@@ -21,7 +21,7 @@ use Rattle.orbits.proofs.Takes.{takes-split, takes-last}
 use Rattle.moves.specs.Stretch.{Stretch}
 use Rattle.grids.specs.Grids.{GridTurned}
 use Rattle.grids.specs.Promises.{Turnable}
-use Rattle.grids.specs.Private.{mirror, fold, half, pairs, bitAt, Level, Beside, Settled, Sliced}
+use Rattle.grids.specs.Private.{mirror, fold, half, pairs, bitAt, Level, Settled, Sliced}
 use Rattle.grids.proofs.Bits.{both, bit-none}
 use Rattle.grids.proofs.Mirror.{pairs-permute}
 use Rattle.grids.proofs.Slices.{middle-stays}

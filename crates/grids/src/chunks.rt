@@ -49,12 +49,12 @@ fn source(g: Grid, p: usize) -> usize
     p * g.n - column * (g.n * g.m - 1)
 }
 
-// Place p receives the slice of place x.
+// Place p receives the slice of another place x.
 fn carry(buf: &mut [u32], g: Grid, p: usize, x: usize)
-    requires { ⌜ Fits g (now buf) × (p < g .n * g .m) × (x < g .n * g .m) ⌝ }
+    requires { ⌜ Fits g (now buf) × (p < g .n * g .m) × (x < g .n * g .m) × (p ≡ x → ⊥) ⌝ }
     ensures { λ _. ⌜ Stretch (p * g .chunk + g .lo) (g .count) (λ u. getD (now (buf .entry)) (x * g .chunk + g .lo + u) 0) (now (buf .entry)) (now (buf .exit)) ⌝ }
 {
-    moves::fall(buf, p * g.chunk + g.lo, x * g.chunk + g.lo, g.count);
+    moves::hand(buf, p * g.chunk + g.lo, x * g.chunk + g.lo, g.count);
 }
 
 // The slice of place p waits at `to`.
@@ -101,7 +101,7 @@ fn keep_both(kept: &mut [u32], buf: &[u32], g: Grid, p: usize)
 // Place p receives the slice of place x, and its mirrored place that of the mirrored one.
 fn carry_both(buf: &mut [u32], g: Grid, p: usize, x: usize)
     requires { ⌜ Fits g (now buf) × (p < g .n * g .m) × (x < g .n * g .m) ⌝ }
-    requires { ⌜ (p ≡ mirror (g .n * g .m) p → ⊥) × (mirror (g .n * g .m) x ≡ p → ⊥) ⌝ }
+    requires { ⌜ (p ≡ x → ⊥) × (p ≡ mirror (g .n * g .m) p → ⊥) × (mirror (g .n * g .m) x ≡ p → ⊥) ⌝ }
     ensures { λ _. ⌜ BothHold (g .n * g .m) (g .chunk) (g .lo) (g .count) p (λ u. getD (now (buf .entry)) (x * g .chunk + g .lo + u) 0) (λ u. getD (now (buf .entry)) (mirror (g .n * g .m) x * g .chunk + g .lo + u) 0) (now (buf .entry)) (now (buf .exit)) ⌝ }
 {
     carry(buf, g, p, x);
@@ -111,7 +111,7 @@ fn carry_both(buf: &mut [u32], g: Grid, p: usize, x: usize)
 // The same, and the pair of x is marked: its places are free then.
 fn advance(buf: &mut [u32], marks: &mut [u32], g: Grid, p: usize, x: usize)
     requires { ⌜ Fits g (now buf) × (p < g .n * g .m) × (x < g .n * g .m) × (g .n * g .m ≤ 64 * length (now marks)) ⌝ }
-    requires { ⌜ (p ≡ mirror (g .n * g .m) p → ⊥) × (mirror (g .n * g .m) x ≡ p → ⊥) ⌝ }
+    requires { ⌜ (p ≡ x → ⊥) × (p ≡ mirror (g .n * g .m) p → ⊥) × (mirror (g .n * g .m) x ≡ p → ⊥) ⌝ }
     ensures { λ _. ⌜ BothHold (g .n * g .m) (g .chunk) (g .lo) (g .count) p (λ u. getD (now (buf .entry)) (x * g .chunk + g .lo + u) 0) (λ u. getD (now (buf .entry)) (mirror (g .n * g .m) x * g .chunk + g .lo + u) 0) (now (buf .entry)) (now (buf .exit)) ⌝ }
     ensures { λ _. ⌜ MarkedToo (fold (g .n * g .m) x) (now (marks .entry)) (now (marks .exit)) ⌝ }
 {

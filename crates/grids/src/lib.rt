@@ -52,6 +52,6 @@ pub fn turn_grid(buf: &mut [u32], marks: &mut [u32], m: usize, n: usize, chunk: 
         return false;
     }
     chunks::turned(buf, marks, m, n, chunk);
-    marks::clear(marks);
+    moves::zero(marks, 0, marks.len());
     true
 }

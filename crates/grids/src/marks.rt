@@ -1,7 +1,7 @@
 // Marks of places, one bit a place, thirty-two to a word.
 ghost use mathlib.Core.Path.{_≡_};
 ghost use Prim.Native.Nat.{_*_, _<_};
-ghost use lib.ListN.{length, replicate};
+ghost use lib.ListN.{length};
 ghost use Rattle.grids.specs.Private.{bitAt, MarkedToo};
 
 // Whether a place is marked.
@@ -20,13 +20,4 @@ pub(crate) fn mark(marks: &mut [u32], place: usize)
 {
     let at = place >> 5;
     marks[at] = marks[at] | (1 << (place & 31));
-}
-
-// Takes every mark away.
-pub(crate) fn clear(marks: &mut [u32])
-    ensures { λ _. ⌜ now (marks .exit) ≡ replicate (length (now (marks .entry))) 0 ⌝ }
-{
-    for k in 0..marks.len() {
-        marks[k] = 0;
-    }
 }

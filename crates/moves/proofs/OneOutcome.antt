@@ -4,11 +4,10 @@ use mathlib.Core.List.{List}
 use mathlib.Core.Logic.{_⊎_, inl, inr, ⊎-elim}
 use Prim.Native.Nat.{ℕ, _+_, _-_, _<_, _≤_}
 use native.Mathlib.Omega.{arith}
-use lib.ListN.{length, getD}
 use lib.Seq.{ext-getD}
 use Rattle.lists.proofs.Decide.{lt-or-ge}
 use Rattle.moves.specs.Stretch.{Stretch, Outside, Traded}
-use Rattle.moves.specs.Promises.{Where, CopyPromise, FallPromise, RisePromise, ZeroPromise, TradePromise}
+use Rattle.moves.specs.Promises.{Where, CopyPromise, FallPromise, HandPromise, RisePromise, ZeroPromise, TradePromise}
 use Rattle.moves.proofs.Filling.{at}
 
 -- what is decided one way or the other: an order, either of two, both of two, all of three
@@ -75,6 +74,9 @@ module _ {xs ys zs : List ℕ} where
 
   pub fall-once : (to from count : ℕ) → FallPromise to from count xs ys → FallPromise to from count xs zs → ys ≡ zs
   fall-once to from count p q = one-where (three (most _ _) (most _ _) (either (most _ _) (most _ _))) one-stretch p q
+
+  pub hand-once : (to from count : ℕ) → HandPromise to from count xs ys → HandPromise to from count xs zs → ys ≡ zs
+  hand-once to from count p q = one-where (three (most _ _) (most _ _) (either (most _ _) (most _ _))) one-stretch p q
 
   pub rise-once : (to from count : ℕ) → RisePromise to from count xs ys → RisePromise to from count xs zs → ys ≡ zs
   rise-once to from count p q = one-where (two (most _ _) (most _ _)) one-stretch p q

@@ -30,6 +30,11 @@ abbrev pub FallPromise : ℕ → ℕ → ℕ → List ℕ → List ℕ → Type 
 FallPromise to from count before =
     Where ((to + count ≤ length before) × (from + count ≤ length before) × Ahead to from count) (Stretch to count (λ u. getD before (from + u) 0) before) before
 
+-- the same where the two runs lie apart
+abbrev pub HandPromise : ℕ → ℕ → ℕ → List ℕ → List ℕ → Type 0
+HandPromise to from count before =
+    Where ((to + count ≤ length before) × (from + count ≤ length before) × Apart to from count) (Stretch to count (λ u. getD before (from + u) 0) before) before
+
 -- the same where the words go to a place after them
 abbrev pub RisePromise : ℕ → ℕ → ℕ → List ℕ → List ℕ → Type 0
 RisePromise to from count before = Where ((from ≤ to) × (to + count ≤ length before)) (Stretch to count (λ u. getD before (from + u) 0) before) before

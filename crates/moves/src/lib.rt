@@ -6,7 +6,7 @@ mod words;
 ghost use mathlib.Core.Bool.{true, false};
 ghost use mathlib.Core.Path.{_≡_};
 ghost use Prim.Native.Nat.{_+_, _≤_};
-ghost use Rattle.moves.specs.Promises.{Ahead, Apart, CopyPromise, FallPromise, RisePromise, ZeroPromise, TradePromise};
+ghost use Rattle.moves.specs.Promises.{Ahead, Apart, CopyPromise, FallPromise, HandPromise, RisePromise, ZeroPromise, TradePromise};
 
 // Whether the run of count words from an offset on ends past a buffer of so many words.
 fn past(len: usize, at: usize, count: usize) -> bool
@@ -28,14 +28,22 @@ fn behind(to: usize, from: usize, count: usize) -> bool
     to - from < count
 }
 
-// Whether two runs of count words have a word in common.
+// How far two offsets lie apart.
+fn distance(x: usize, y: usize) -> usize
+    ensures { λ r. ⌜ (x ≤ y → r + x ≡ y) × (y ≤ x → r + y ≡ x) ⌝ }
+{
+    if x < y {
+        return y - x;
+    }
+    x - y
+}
+
+// Whether two runs of count words have a word in common. Which of them comes first is not asked: the machine would guess it, and half of the
+// time wrong.
 fn overlap(x: usize, y: usize, count: usize) -> bool
     ensures { λ r. ⌜ (r ≡ false → Apart x y count) × (r ≡ true → (Apart x y count → ⊥)) ⌝ }
 {
-    if x <= y {
-        return y - x < count;
-    }
-    x - y < count
+    distance(x, y) < count
 }
 
 // Word to + u of the buffer receives word from + u of the other one, for u below count.
@@ -62,6 +70,22 @@ pub fn fall(buf: &mut [u32], to: usize, from: usize, count: usize)
         return;
     }
     if behind(to, from, count) {
+        return;
+    }
+    runs::fallen(buf, to, from, count);
+}
+
+// The same where the two runs lie apart.
+pub fn hand(buf: &mut [u32], to: usize, from: usize, count: usize)
+    ensures { λ _. ⌜ HandPromise to from count (now (buf .entry)) (now (buf .exit)) ⌝ }
+{
+    if past(buf.len(), to, count) {
+        return;
+    }
+    if past(buf.len(), from, count) {
+        return;
+    }
+    if overlap(to, from, count) {
         return;
     }
     runs::fallen(buf, to, from, count);

@@ -74,6 +74,9 @@ copy-once t = let e = moves.OneOutcome.copy-once (t .args .1 .0) (t .args .1 .1 
 pub fall-once : Once moves.fall.Kinds.ps moves.fall.Kinds.r moves.fall.Reads.Post
 fall-once t = let e = moves.OneOutcome.fall-once (t .args .1 .0) (t .args .1 .1 .0) (t .args .1 .1 .1 .0) (t .first) (t .second) in (refl, λ i. (e i, _))
 
+pub hand-once : Once moves.hand.Kinds.ps moves.hand.Kinds.r moves.hand.Reads.Post
+hand-once t = let e = moves.OneOutcome.hand-once (t .args .1 .0) (t .args .1 .1 .0) (t .args .1 .1 .1 .0) (t .first) (t .second) in (refl, λ i. (e i, _))
+
 pub rise-once : Once moves.rise.Kinds.ps moves.rise.Kinds.r moves.rise.Reads.Post
 rise-once t = let e = moves.OneOutcome.rise-once (t .args .1 .0) (t .args .1 .1 .0) (t .args .1 .1 .1 .0) (t .first) (t .second) in (refl, λ i. (e i, _))
 

@@ -11,9 +11,9 @@ use borrow.Rule.Slice.PartMut.{midOf, mid-len}
 use Rattle.lists.proofs.Decide.{lt-or-ge}
 use Rattle.grids.specs.Promises.{Turnable}
 use Rattle.halves.proofs.Parts.{whole}
-use Rattle.strips.specs.Bounds.{Held, From, Lines, Strip, Narrow}
+use Rattle.strips.specs.PrivateBounds.{Held, From, Lines, Strip, Narrow}
 use Rattle.grids.specs.Grids.{GridTurned}
-use Rattle.strips.specs.Steps.{BlocksTurned, PartTurned, Widened}
+use Rattle.strips.specs.PrivateSteps.{BlocksTurned, PartTurned, Widened}
 use Rattle.strips.proofs.Strips.{place, from-words, grid-home, by-rows, by-columns, joined-turn, parted-turn}
 
 -- as many lines as fit, and no more than 64
@@ -164,7 +164,7 @@ pub wide-turned : {m n g s y q : ℕ} {xs vs ws ys zs : List ℕ} → y * s + q 
     → GridTurned m y (s * g) ws ys → BlocksTurned y m s g ys zs → GridTurned m n g xs zs
 wide-turned {m} {g = g} {xs = xs} {zs = zs} whole w a t b = subst (λ (k : ℕ). GridTurned m k g xs zs) whole (parted-turn w a (by-columns t b))
 
--- what a block with a short line is: a single line is turned as it stands, and else it is small, tall or wide
+-- what one strip is: a single line is turned as it stands, and else it is a grid, small, tall or wide
 pub row-turned : {m n g : ℕ} {xs : List ℕ} → m ≡ 1 → GridTurned m n g xs xs
 row-turned {m} {n} {g} {xs} one = from-words m n g refl (λ i j u hi hj hu. stands i j u (omega arith)) (λ k h. refl)
   where
@@ -175,18 +175,8 @@ pub column-turned : {m n g : ℕ} {xs : List ℕ} → n ≡ 1 → GridTurned m n
 column-turned one = grid-home (row-turned one)
 
 module _ {y m n g : ℕ} {xs tile : List ℕ} (t : Narrow y m n g xs tile) where
-  -- a side times an element is no more words than the block of 4,096 lines of 64
-  pub light : g ≤ 64
-  light = ⊎-elim
-      (λ (h : m * g ≤ 64). omega (arith, le-mul-of-pos-right g (t .rows)))
-      (λ (h : n * g ≤ 64). omega (arith, le-mul-of-pos-right g (t .columns)))
-      (t .narrow)
-
-  pub narrow-places : m * n ≤ 16777216
-  narrow-places = omega (arith, mul-le-mul (t .far-rows) (t .far-columns))
-
-  pub narrow-words : m * n * g ≤ 1073741824
-  narrow-words = omega (arith, mul-le-mul narrow-places light)
+  pub narrow-places : m * n ≤ 1048576
+  narrow-places = omega (arith, t .few, le-mul-of-pos-right (m * n) (t .words))
 
   -- one of many blocks
   pub one-narrow : (base end : ℕ) (ys : List ℕ) {kept : List ℕ} → length kept ≡ length tile → end ≡ base + m * n * g → end ≤ length ys → Narrow 1 m n g (midOf base (end - base) ys) kept
@@ -196,36 +186,64 @@ module _ {y m n g : ℕ} {xs tile : List ℕ} (t : Narrow y m n g xs tile) where
     words = t .words;
     far-rows = t .far-rows;
     far-columns = t .far-columns;
+    few = t .few;
     narrow = t .narrow;
     inside = omega (arith, mid-len base end ys inside);
     room = same ∙ t .room;
   }
 
 module _ {m n g : ℕ} {xs tile : List ℕ} (t : Narrow 1 m n g xs tile) where
+  pub narrow-grid : 8 ≤ g → Turnable m n g xs tile
+  narrow-grid long = record {
+    some-rows = t .rows;
+    some-columns = t .columns;
+    far-rows = t .far-rows;
+    far-columns = t .far-columns;
+    few = narrow-places t;
+    some-words = t .words;
+    inside = omega (arith, t .inside);
+    marked = omega (arith, t .room, marks);
+  }
+    where
+      eight : (k : ℕ) → k * g ≤ 64 → k ≤ 8
+      eight k h = omega (arith, mul-le-mul-right k long)
+
+      marks : m * n ≤ 65536
+      marks = ⊎-elim
+          (⊎-elim
+          (λ (h : m * g ≤ 64). let few : m ≤ 8 = eight m h in omega (arith, mul-le-mul few (t .far-columns)))
+          (λ (h : n * g ≤ 64). let few : n ≤ 8 = eight n h in omega (arith, mul-le-mul (t .far-rows) few)))
+          (λ k. k .1)
+          (t .narrow)
+
   pub narrow-small : m * n * g ≤ 512 → Held 1 m n g xs tile
   narrow-small few = record { rows = t .rows; columns = t .columns; words = t .words; inside = t .inside; room = omega (arith, t .room) }
 
-  pub narrow-tall : n ≤ m → 512 < m * n * g → Strip n m g xs tile
-  narrow-tall less many = record {
-    some = t .columns;
-    words = t .words;
-    narrow = ⊎-elim (λ (h : m * g ≤ 64). omega (arith, mul-le-mul-right g less)) (λ (h : n * g ≤ 64). h) (t .narrow);
-    far = t .far-rows;
-    enough = omega arith;
-    inside = omega (arith, t .inside);
-    room = t .room;
-  }
+  module _ (light : g < 8) (many : 512 < m * n * g) where
+    a-line : (m * g ≤ 64) ⊎ (n * g ≤ 64)
+    a-line = ⊎-elim (λ h. h) (λ k. absurd (omega (arith, k .0))) (t .narrow)
 
-  pub narrow-wide : m ≤ n → 512 < m * n * g → Strip m n g xs tile
-  narrow-wide less many = record {
-    some = t .rows;
-    words = t .words;
-    narrow = ⊎-elim (λ (h : m * g ≤ 64). h) (λ (h : n * g ≤ 64). omega (arith, mul-le-mul-right g less)) (t .narrow);
-    far = t .far-columns;
-    enough = omega arith;
-    inside = omega (arith, t .inside);
-    room = t .room;
-  }
+    pub narrow-tall : n ≤ m → Strip n m g xs tile
+    narrow-tall less = record {
+      some = t .columns;
+      words = t .words;
+      narrow = ⊎-elim (λ (h : m * g ≤ 64). omega (arith, mul-le-mul-right g less)) (λ (h : n * g ≤ 64). h) a-line;
+      far = t .far-rows;
+      enough = omega arith;
+      inside = omega (arith, t .inside);
+      room = t .room;
+    }
+
+    pub narrow-wide : m ≤ n → Strip m n g xs tile
+    narrow-wide less = record {
+      some = t .rows;
+      words = t .words;
+      narrow = ⊎-elim (λ (h : m * g ≤ 64). h) (λ (h : n * g ≤ 64). omega (arith, mul-le-mul-right g less)) a-line;
+      far = t .far-columns;
+      enough = omega arith;
+      inside = omega (arith, t .inside);
+      room = t .room;
+    }
 
 -- blocks of words from an offset on
 pub from-narrow : {base end y m n : ℕ} {xs tile : List ℕ} → From base y m n xs → (m ≤ 64) ⊎ (n ≤ 64) → length tile ≡ 1024 → end ≡ base + y * (m * n)
@@ -236,7 +254,8 @@ from-narrow {base} {end} {xs = xs} f short room is = record {
   words = omega arith;
   far-rows = f .far-rows;
   far-columns = f .far-columns;
-  narrow = ⊎-elim (λ h. inl (omega arith)) (λ h. inr (omega arith)) short;
+  few = ⊎-elim (λ h. omega (arith, mul-le-mul h (f .far-columns))) (λ h. omega (arith, mul-le-mul (f .far-rows) h)) short;
+  narrow = inl (⊎-elim (λ h. inl (omega arith)) (λ h. inr (omega arith)) short);
   inside = omega (arith, mid-len base end xs (omega (arith, f .inside)));
   room = room;
 }

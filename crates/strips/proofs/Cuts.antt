@@ -1,29 +1,29 @@
--- The sizes of large blocks: a side cut in strips of 32 to 64 words, the strips, the marks of their grid and the lines left over have room.
+-- The sizes of large blocks: a side cut in strips of 32 to 64 words or in halves, the strips, the marks of their grid and the lines left over have room.
 use mathlib.Core.Path.{_≡_, ap, subst, _∙_}
 use mathlib.Core.List.{List}
 use mathlib.Core.Logic.{_⊎_, inl, inr, ⊎-elim}
 use Prim.Native.Nat.{ℕ, _+_, _*_, _-_, _/_, _%_, _<_, _≤_}
-use native.Mathlib.Nat.{div-add-mod', div-lt-iff-lt-mul, mod-lt, mul-le-mul, mul-le-mul-right, le-mul-of-pos-right, mul-pos, zero-mul}
+use native.Mathlib.Nat.{div-add-mod', div-lt-iff-lt-mul, mod-lt, mul-le-mul, mul-le-mul-left, mul-le-mul-right, le-mul-of-pos-right, mul-pos}
 use native.Mathlib.Omega.{arith}
 use lib.ListN.{length}
 use Rattle.lists.proofs.Decide.{lt-or-ge}
 use Rattle.grids.specs.Promises.{Turnable}
-use Rattle.strips.specs.Bounds.{From, Waiting, Narrow, Cut, Large}
+use Rattle.strips.specs.PrivateBounds.{From, Waiting, Narrow, Thin, Cut, Large}
 use Rattle.grids.specs.Grids.{GridTurned}
-use Rattle.strips.specs.Steps.{BlocksTurned, PartTurned, Widened}
+use Rattle.strips.specs.PrivateSteps.{BlocksTurned, PartTurned, Widened}
 use Rattle.strips.proofs.Bounds.{tall-turned, wide-turned}
 
 -- the first number of lines that is tried, and each later one
-pub cut-first : {g : ℕ} → 0 < g → g ≤ 31 → Cut g ((31 + g) / g)
+pub cut-first : {g : ℕ} → 0 < g → g ≤ 31 → Thin g ((32 + g - 1) / g)
 cut-first {g} some light =
-    let whole = div-add-mod' (31 + g) g in
-    let less = mod-lt (31 + g) some in
+    let whole = div-add-mod' (32 + g - 1) g in
+    let less = mod-lt (32 + g - 1) some in
     record { least = omega arith; most = omega arith }
 
-pub cut-next : {g k : ℕ} → 0 < g → (31 + g) / g ≤ k → k ≤ 64 / g → Cut g k
+pub cut-next : {g k : ℕ} → 0 < g → (32 + g - 1) / g ≤ k → k ≤ 64 / g → Thin g k
 cut-next {g} {k} some low high =
-    let whole = div-add-mod' (31 + g) g in
-    let less = mod-lt (31 + g) some in
+    let whole = div-add-mod' (32 + g - 1) g in
+    let less = mod-lt (32 + g - 1) some in
     let most = div-add-mod' 64 g in
     record { least = omega (arith, mul-le-mul-right g low); most = omega (arith, mul-le-mul-right g high) }
 
@@ -31,11 +31,46 @@ cut-next {g} {k} some low high =
 pub cut-last : {g : ℕ} → 0 < g → 64 / g ≤ 64
 cut-last {g} some = omega (arith, div-add-mod' 64 g, le-mul-of-pos-right (64 / g) some)
 
-pub few-lines : {g r : ℕ} → 0 < g → Cut g r → r ≤ 64
+pub few-lines : {g r : ℕ} → 0 < g → Thin g r → r ≤ 64
 few-lines {g} {r} some c = omega (arith, c .most, le-mul-of-pos-right r some)
 
-pub some-lines : {g r : ℕ} → Cut g r → 0 < r
+pub some-lines : {g r : ℕ} → Thin g r → 0 < r
 some-lines {g} {r} c = ⊎-elim (λ (h : r < 1). let z : r ≡ 0 = omega arith in absurd (omega (arith, c .least, ap (λ (k : ℕ). k * g) z))) (λ (h : 1 ≤ r). h) (lt-or-ge r 1)
+
+-- lines of 32 to 64 words may be cut off, and halves where elements are long
+module _ {x other g : ℕ} (big : 64 < x * g) (few : x * other * g ≤ 1048576) where
+  pub cut-thin : {r : ℕ} → Thin g r → Cut x other g r
+  cut-thin {r} c =
+      let thick : 32 * (other * (x / r)) ≤ r * g * (other * (x / r)) = mul-le-mul-right (other * (x / r)) (c .least) in
+      let up : x / r * r * (other * g) ≤ x * (other * g) = mul-le-mul-right (other * g) (within r (div-add-mod' x r)) in
+      record {
+        some = some-lines c;
+        low = ⊎-elim (λ (h : x < r). absurd (omega (arith, c .most, mul-le-mul-right g h))) (λ (h : r ≤ x). h) (lt-or-ge x r);
+        strip = inl (c .most);
+        marks = omega arith;
+      }
+    where
+      within : (r : ℕ) → x / r * r + x % r ≡ x → x / r * r ≤ x
+      within r whole = omega arith
+
+  pub cut-half : 8 ≤ g → g ≤ 31 → other ≤ 4096 → Cut x other g (x / 2)
+  cut-half long light narrow =
+      let r = x / 2 in
+      let three : 3 ≤ x = ⊎-elim (λ (h : x < 3). absurd (omega (arith, mul-le-mul (two h) light))) (λ (h : 3 ≤ x). h) (lt-or-ge x 3) in
+      let some : 0 < r = omega arith in
+      let whole : x / r * r + x % r ≡ x = div-add-mod' x r in
+      let times : x / r ≤ 3 = ⊎-elim (λ (h : x / r < 4). omega arith) (λ (h : 4 ≤ x / r). absurd (omega (arith, mul-le-mul-right r h))) (lt-or-ge (x / r) 4) in
+      let half : r * 2 ≤ x = omega arith in
+      let eight : x * other * 8 ≤ x * other * g = mul-le-mul-left (x * other) long in
+      record {
+        some = some;
+        low = omega arith;
+        strip = inr (long, omega (arith, mul-le-mul-right other half));
+        marks = omega (arith, mul-le-mul narrow times);
+      }
+    where
+      two : x < 3 → x ≤ 2
+      two h = omega arith
 
 -- a side cut in y times r lines and q left over
 pub record Stripped (x other g r y q : ℕ) : Type 0 where
@@ -43,34 +78,32 @@ pub record Stripped (x other g r y q : ℕ) : Type 0 where
   pub sum : y * r * (other * g) + q * (other * g) ≡ x * (other * g)
   pub words : y * r * g + q * g ≡ x * g
   pub some-lines : 0 < r
-  pub few-lines : r ≤ 64
   pub some-strips : 0 < y
   pub far : y ≤ 4096
   pub run : y * r ≤ 4096
-  pub marks : other * y ≤ 32768
+  pub marks : other * y ≤ 65536
+  pub chunk : r * g ≤ 126976
+  pub strip : r * other * g ≤ x * other * g
 
-module _ {x other g r : ℕ} (c : Cut g r) (some-words : 0 < g) (big : 64 < x * g) (far : x ≤ 4096) (few : x * other * g ≤ 1048576) where
-  pub stripped : Stripped x other g r (x / r) (x % r)
-  stripped =
-      let y = x / r in
-      let pos = some-lines c in
-      let whole : y * r + x % r ≡ x = div-add-mod' x r in
-      let up : y * r ≤ x = omega arith in
-      let least : r ≤ x = ⊎-elim (λ (h : x < r). absurd (omega (arith, c .most, mul-le-mul-right g h))) (λ (h : r ≤ x). h) (lt-or-ge x r) in
-      let one : 0 < y = ⊎-elim (λ (h : y < 1). absurd (omega (arith, div-lt-iff-lt-mul pos .0 h))) (λ (h : 1 ≤ y). h) (lt-or-ge y 1) in
-      let sum : y * r * (other * g) + x % r * (other * g) ≡ x * (other * g) = omega (arith, ap (λ (z : ℕ). z * (other * g)) whole) in
-      let thick : 32 * (other * y) ≤ r * g * (other * y) = mul-le-mul-right (other * y) (c .least) in
-      record {
-        whole = whole;
-        sum = sum;
-        words = omega (arith, ap (λ (z : ℕ). z * g) whole);
-        some-lines = pos;
-        few-lines = few-lines some-words c;
-        some-strips = one;
-        far = omega (arith, le-mul-of-pos-right y pos);
-        run = omega arith;
-        marks = omega arith;
-      }
+pub stripped : {x other g r : ℕ} → Cut x other g r → g ≤ 31 → x ≤ 4096 → Stripped x other g r (x / r) (x % r)
+stripped {x} {other} {g} {r} c light far =
+    let y = x / r in
+    let whole : y * r + x % r ≡ x = div-add-mod' x r in
+    let up : y * r ≤ x = omega arith in
+    let one : 0 < y = ⊎-elim (λ (h : y < 1). absurd (omega (arith, c .low, div-lt-iff-lt-mul (c .some) .0 h))) (λ (h : 1 ≤ y). h) (lt-or-ge y 1) in
+    let few : r ≤ 4096 = omega (arith, c .low) in
+    record {
+      whole = whole;
+      sum = omega (arith, ap (λ (z : ℕ). z * (other * g)) whole);
+      words = omega (arith, ap (λ (z : ℕ). z * g) whole);
+      some-lines = c .some;
+      some-strips = one;
+      far = omega (arith, le-mul-of-pos-right y (c .some));
+      run = omega arith;
+      marks = c .marks;
+      chunk = omega (arith, mul-le-mul few light);
+      strip = omega (arith, mul-le-mul-right (other * g) (c .low));
+    }
 
 -- an element has words, so that a side with more than 64 words is not empty
 some-side : {x : ℕ} (g : ℕ) → 64 < x * g → 0 < x
@@ -95,7 +128,7 @@ short-line {x} {other} {g} {r} {y} {q} p some few left less = ⊎-elim
     after-too k h = omega arith
 
 -- a large block cut by rows
-module _ {m n g r y q : ℕ} {xs tile : List ℕ} (t : Large m n g xs tile) (c : Cut g r) (p : Stripped m n g r y q) {ys : List ℕ} (same : length ys ≡ length xs) where
+module _ {m n g r y q : ℕ} {xs tile : List ℕ} (t : Large m n g xs tile) (c : Cut m n g r) (p : Stripped m n g r y q) {ys : List ℕ} (same : length ys ≡ length xs) where
   pub rows-rest : From (n * (y * r * g)) q n g ys
   rows-rest = record {
     rows = some-side g (t .columns);
@@ -111,9 +144,10 @@ module _ {m n g r y q : ℕ} {xs tile : List ℕ} (t : Large m n g xs tile) (c :
       rows = p .some-lines;
       columns = some-side g (t .columns);
       words = t .words;
-      far-rows = omega (arith, p .few-lines);
+      far-rows = omega (arith, c .low, t .far-rows);
       far-columns = t .far-columns;
-      narrow = inl (c .most);
+      few = omega (arith, p .strip, t .few);
+      narrow = ⊎-elim (λ h. inl (inl h)) (λ k. inr k) (c .strip);
       inside = omega (arith, t .inside, p .sum);
       room = same-room ∙ t .room;
     }
@@ -140,7 +174,7 @@ module _ {m n g r y q : ℕ} {xs tile : List ℕ} (t : Large m n g xs tile) (c :
     }
 
 -- and by columns
-module _ {m n g r z q : ℕ} {xs tile : List ℕ} (t : Large m n g xs tile) (c : Cut g r) (p : Stripped n m g r z q) {ys : List ℕ} (same : length ys ≡ length xs) where
+module _ {m n g r z q : ℕ} {xs tile : List ℕ} (t : Large m n g xs tile) (c : Cut n m g r) (p : Stripped n m g r z q) {ys : List ℕ} (same : length ys ≡ length xs) where
   pub columns-rest : From (m * (z * r * g)) q g m ys
   columns-rest = record {
     rows = t .words;
@@ -157,8 +191,9 @@ module _ {m n g r z q : ℕ} {xs tile : List ℕ} (t : Large m n g xs tile) (c :
       columns = p .some-lines;
       words = t .words;
       far-rows = t .far-rows;
-      far-columns = omega (arith, p .few-lines);
-      narrow = inr (c .most);
+      far-columns = omega (arith, c .low, t .far-columns);
+      few = omega (arith, p .strip, t .few);
+      narrow = ⊎-elim (λ h. inl (inr h)) (λ k. inr (k .0, omega (arith, k .1))) (c .strip);
       inside = omega (arith, t .inside, p .sum);
       room = same-room ∙ t .room;
     }

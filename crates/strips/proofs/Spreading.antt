@@ -8,7 +8,7 @@ use native.Mathlib.Omega.{arith}
 use lib.ListN.{length, getD, set, length-set}
 use lib.Seq.{getD-set-same, getD-set-other}
 use Rattle.lists.proofs.Decide.{eq-or-ne}
-use Rattle.strips.specs.Moves.{Scattered}
+use Rattle.strips.specs.PrivateMoves.{Scattered}
 
 -- the words that are passed are filled
 pub record Spread (to apart hi : ℕ) (value : ℕ → ℕ) (xs ys : List ℕ) : Type 0 where

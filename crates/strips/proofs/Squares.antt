@@ -4,17 +4,15 @@ use mathlib.Core.Path.{_≡_, refl, sym, ap, _∙_}
 use mathlib.Core.List.{List}
 use mathlib.Core.Logic.{_⊎_, inl, inr, ⊎-elim}
 use Prim.Native.Nat.{ℕ, _+_, _*_, _/_, _%_, _<_, _≤_}
-use native.Mathlib.Nat.{mul-le-mul-right}
 use native.Mathlib.Omega.{arith}
 use lib.Arith.{digits-div, digits-mod, digits-lt}
 use lib.ListN.{length, getD}
 use Rattle.lists.proofs.Decide.{eq-or-ne, lt-or-ge}
 use Rattle.moves.specs.Stretch.{Outside, Traded}
-use Rattle.moves.specs.Promises.{Apart}
 use Rattle.grids.specs.Grids.{GridTurned}
-use Rattle.strips.specs.Bounds.{Square}
-use Rattle.strips.specs.Moves.{RowCrossed}
-use Rattle.strips.proofs.Strips.{place, from-words}
+use Rattle.strips.specs.PrivateBounds.{Square}
+use Rattle.strips.specs.PrivateMoves.{RowCrossed}
+use Rattle.strips.proofs.Strips.{from-words}
 use Rattle.strips.proofs.Tiles.{next-run}
 
 -- a word of another element lies outside an element

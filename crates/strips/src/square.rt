@@ -1,8 +1,8 @@
 // Squares of elements of several words: elements trade places across the diagonal.
 ghost use Prim.Native.Nat.{_<_};
 ghost use Rattle.grids.specs.Grids.{GridTurned};
-ghost use Rattle.strips.specs.Bounds.{Square};
-ghost use Rattle.strips.specs.Moves.{RowCrossed};
+ghost use Rattle.strips.specs.PrivateBounds.{Square};
+ghost use Rattle.strips.specs.PrivateMoves.{RowCrossed};
 
 // The elements of row i before the diagonal trade places with those of column i.
 fn cross(buf: &mut [u32], n: usize, g: usize, i: usize)

@@ -1,5 +1,5 @@
 -- `refused` meets its contract: each of the conditions is tested, the room of the buffer by a division, so that no product is too large.
-use mathlib.Core.Path.{_≡_, sym}
+use mathlib.Core.Path.{sym}
 use mathlib.Core.Bool.{true≢false}
 use mathlib.Core.Logic.{⊎-elim}
 use Prim.Native.Nat.{ℕ, _*_, _/_, _<_, _≤_}

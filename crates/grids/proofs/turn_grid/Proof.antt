@@ -1,8 +1,10 @@
--- `turn_grid` meets its contract: a block that cannot be turned is left, others are turned and the marks cleared.
+-- `turn_grid` meets its contract: a block that cannot be turned is left, others are turned and the marks zeroed.
 use mathlib.Core.Path.{refl, ap, _∙_}
 use Prim.Native.Nat.{ℕ}
+use native.Mathlib.Omega.{arith}
 use lib.ListN.{replicate}
 use borrow.Author.Needs.{needs}
+use Rattle.grids.proofs.Bits.{all-zero}
 use Rattle.grids.proofs.turn_grid.Statement.{statement}
 use Rattle.grids.proofs.turn_grid.Tie as tie
 
@@ -13,10 +15,13 @@ returns c =
 
 returns-2 : tie.Need-returns-2
 returns-2 c =
-    let z : tie.After-clear = search in
+    let z : tie.After-zero = search in
     let d : tie.After-turned = search in
     let t : tie.After-refused = search in
-    record { turned = λ f. (refl, d .turned .ensures .0, z .clear .ensures ∙ ap (λ (k : ℕ). replicate k 0) (d .turned .ensures .1)); kept = λ never. absurd (never (t .refused .ensures .0 (search))) }
+    record {
+      turned = λ f. (refl, d .turned .ensures .0, all-zero (z .zero .ensures .inside (omega arith)) ∙ ap (λ (k : ℕ). replicate k 0) (d .turned .ensures .1));
+      kept = λ never. absurd (never (t .refused .ensures .0 (search)));
+    }
 
 pub turn-grid-spec : {M : Type 1} → statement M
 turn-grid-spec =

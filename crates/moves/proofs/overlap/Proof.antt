@@ -1,24 +1,30 @@
--- `overlap` meets its contract: two runs lie apart where the way from the first to the second is as long as they are.
-use mathlib.Core.Logic.{inl, inr, ⊎-elim}
-use Prim.Native.Nat.{_-_}
+-- `overlap` meets its contract: two runs lie apart where they lie as far apart as they are long.
+use mathlib.Core.Logic.{_⊎_, inl, inr, ⊎-elim}
+use Prim.Native.Nat.{ℕ, _+_, _<_, _≤_}
 use native.Mathlib.Omega.{arith}
 use borrow.Author.Needs.{needs}
 use borrow.Author.Tests.{ltb-true, ltb-false}
+use Rattle.lists.proofs.Decide.{lt-or-ge}
 use Rattle.moves.proofs.overlap.Statement.{statement}
 use Rattle.moves.proofs.overlap.Tie as tie
 
+returns : tie.Need-returns
+returns c =
+    let d : tie.After-distance = search in
+    let s : tie.Start = search in
+    let x = s .args .x in
+    let y = s .args .y in
+    let way = d .distance .result in
+    let n = s .args .count in (
+      λ e. ⊎-elim
+          (λ (h : x < y). inl (omega (arith, ltb-false way n e, d .distance .ensures .0 (omega arith))))
+          (λ (h : y ≤ x). inr (omega (arith, ltb-false way n e, d .distance .ensures .1 h)))
+          (lt-or-ge x y),
+      λ e a. ⊎-elim
+          (λ h. omega (arith, ltb-true way n e, d .distance .ensures .0 (omega arith)))
+          (λ h. omega (arith, ltb-true way n e, d .distance .ensures .1 (omega arith)))
+          a,
+    )
+
 pub overlap-spec : {M : Type 1} → statement M
-overlap-spec =
-    tie.close
-    (tie.spec
-    (λ c.
-    let s : tie.Start = search in
-    let a = s .args in
-    let way = a .y - a .x in
-    (λ e. inl (omega (arith, ltb-false way (a .count) e)), λ e h. ⊎-elim (λ l. omega (arith, ltb-true way (a .count) e)) (λ g. omega (arith, ltb-true way (a .count) e)) h))
-    (search needs)
-    (λ c.
-    let s : tie.Start = search in
-    let a = s .args in
-    let way = a .x - a .y in
-    (λ e. inr (omega (arith, ltb-false way (a .count) e)), λ e h. ⊎-elim (λ l. omega (arith, ltb-true way (a .count) e)) (λ g. omega (arith, ltb-true way (a .count) e)) h)))
+overlap-spec = tie.close (tie.spec (search needs) returns)

@@ -1,5 +1,4 @@
 -- `zero` meets its contract: words that end past the buffer are left, others zeroed.
-use native.Mathlib.Omega.{arith}
 use borrow.Author.Needs.{needs}
 use Rattle.moves.proofs.Inside.{made, unmade}
 use Rattle.moves.proofs.zero.Statement.{statement}

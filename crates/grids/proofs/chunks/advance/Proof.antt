@@ -1,5 +1,4 @@
 -- `chunks::advance` meets its contract: the slices are moved and the pair is marked.
-use Prim.Native.Nat.{_*_}
 use native.Mathlib.Omega.{arith}
 use borrow.Author.Needs.{needs}
 use Rattle.grids.proofs.chunks.advance.Statement.{statement}

@@ -1,7 +1,7 @@
--- `chunks::carry` meets its contract: both slices lie in the buffer, and one goes ahead to the place of the other.
+-- `chunks::carry` meets its contract: both slices lie in the buffer, and apart.
 use native.Mathlib.Omega.{arith}
 use borrow.Author.Needs.{needs}
-use Rattle.grids.proofs.Slices.{slice-inside, slice-ahead}
+use Rattle.grids.proofs.Slices.{slice-inside, slice-apart}
 use Rattle.grids.proofs.chunks.carry.Statement.{statement}
 use Rattle.grids.proofs.chunks.carry.Tie as tie
 
@@ -16,7 +16,7 @@ carry-spec =
     (search needs)
     (search needs)
     (λ c.
-    let m : tie.After-fall = search in
+    let m : tie.After-hand = search in
     let s : tie.Start = search in
     let a = s .args in
-    m .fall .ensures .inside (slice-inside (s .pre .0) (s .pre .1), slice-inside (s .pre .0) (s .pre .2), slice-ahead (s .pre .0) (a .p) (a .x))))
+    m .hand .ensures .inside (slice-inside (s .pre .0) (s .pre .1), slice-inside (s .pre .0) (s .pre .2), slice-apart (s .pre .0) (a .p) (a .x) (s .pre .3))))

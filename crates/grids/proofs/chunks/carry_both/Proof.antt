@@ -16,8 +16,8 @@ returns c =
     let s : tie.Start = search in
     let g = s .args .g in
     let slice = s .pre .0 .0 .slice in
-    both-hold _ _ _ _ _ slice (s .pre .0 .1) (s .pre .1 .0) (q .mirrored .ensures) (b .carry .ensures) (d .carry2 .ensures) (λ u k.
-    other-slice (g .n) (g .m) _ _ _ slice (b .carry .ensures) (y .mirrored2 .result) u k (λ e. s .pre .1 .1 (sym (y .mirrored2 .ensures) ∙ e))
+    both-hold _ _ _ _ _ slice (s .pre .0 .1) (s .pre .1 .1) (q .mirrored .ensures) (b .carry .ensures) (d .carry2 .ensures) (λ u k.
+    other-slice (g .n) (g .m) _ _ _ slice (b .carry .ensures) (y .mirrored2 .result) u k (λ e. s .pre .1 .2 (sym (y .mirrored2 .ensures) ∙ e))
     ∙ ap (λ (z : ℕ). getD (s .args .buf .now) (z * g .chunk + g .lo + u) 0) (y .mirrored2 .ensures))
 
 pub carry-both-spec : {M : Type 1} → statement M

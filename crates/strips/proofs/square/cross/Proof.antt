@@ -5,7 +5,7 @@ use Prim.Native.Nat.{_*_, _-_, _≤_}
 use native.Mathlib.Nat.{le-mul-of-pos-right}
 use native.Mathlib.Omega.{arith}
 use borrow.Author.Needs.{needs}
-use Rattle.strips.specs.Moves.{RowCrossed}
+use Rattle.strips.specs.PrivateMoves.{RowCrossed}
 use Rattle.strips.proofs.Squares.{Pair, pair, crossed-none, crossed-more}
 use Rattle.strips.proofs.square.cross.Statement.{statement}
 use Rattle.strips.proofs.square.cross.Tie as tie

@@ -6,7 +6,7 @@ use lib.ListN.{length}
 use borrow.Author.Needs.{needs}
 use Rattle.halves.proofs.Blocks.{TurnedTo, turned-none, all-turned}
 use Rattle.strips.proofs.Tiles.{block-inside, block-more}
-use Rattle.strips.proofs.Bounds.{narrow-places, narrow-words, one-narrow}
+use Rattle.strips.proofs.Bounds.{narrow-places, one-narrow}
 use Rattle.strips.proofs.strip.strips.Statement.{statement}
 use Rattle.strips.proofs.strip.strips.Tie as tie
 
@@ -58,7 +58,7 @@ strips-spec =
     Inv-loop
     μ-loop
     (λ c. let s : Begin = search in record { fits = omega (arith, narrow-places (s .pre)) })
-    (λ c. let s : Begin = search in record { fits = omega (arith, narrow-words (s .pre)) })
+    (λ c. let s : Begin = search in record { fits = omega (arith, s .pre .few) })
     (λ c. (omega arith, turned-none, refl))
     (λ c. record { fits = omega (arith, ends (search)) })
     (λ c. omega (arith, ends (search)))

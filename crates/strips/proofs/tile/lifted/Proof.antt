@@ -1,10 +1,9 @@
 -- `tile::lifted` meets its contract: elements of one word are copied at once, others row by row; the loop keeps that the rows passed stand in the tile.
 use mathlib.Core.Path.{_≡_}
-use Prim.Native.Nat.{_+_, _*_, _-_, _≤_}
+use Prim.Native.Nat.{_*_, _-_, _≤_}
 use native.Mathlib.Omega.{arith}
-use lib.ListN.{length}
 use borrow.Author.Needs.{needs}
-use Rattle.strips.specs.Moves.{Lifted}
+use Rattle.strips.specs.PrivateMoves.{Lifted}
 use Rattle.strips.proofs.Tiles.{lifted-none, lifted-more, lifted-words, sizes, next-run}
 use Rattle.strips.proofs.tile.lifted.Statement.{statement}
 use Rattle.strips.proofs.tile.lifted.Tie as tie
