@@ -198,6 +198,7 @@ pub(crate) fn turned(buf: &mut [u32], marks: &mut [u32], m: usize, n: usize, chu
     let width = slice_width(chunk);
     let mut kept = [0; 160];
     let mut lo = 0;
+    // Divides: twice for a slice of all chunks, which bounds it.
     while lo < chunk {
         let count = lesser(width, chunk - lo);
         let g = Grid {

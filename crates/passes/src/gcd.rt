@@ -10,6 +10,7 @@ pub(crate) fn gcd(m: usize, n: usize) -> usize
 {
     let mut x = m;
     let mut y = n;
+    // Divides: once a step of Euclid, a few times a turn.
     while y != 0 {
         let rest = x % y;
         x = y;
@@ -27,6 +28,7 @@ pub(crate) fn inverse(a: usize, b: usize) -> usize
     let mut x = a % b;
     let mut v = 0;
     let mut u = 1 % b;
+    // Divides: a few times a step of Euclid, which a turn or a tick makes once.
     while x != 0 {
         let rest = y % x;
         let w = (v + (b - y / x * u % b)) % b;

@@ -76,6 +76,7 @@ pub(crate) fn go_on(
     let inverse = turning::inverse_for(s, 2);
     let mut left = budget;
     let mut p = *progress as usize;
+    // Divides: for a line, to find where it starts.
     while 0 < left && p < total {
         let words = stage_words(s, p);
         if left <= words {
