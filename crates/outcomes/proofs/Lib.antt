@@ -22,10 +22,11 @@ pub mod ResultSheets
 pub mod Wrong
 pub mod Tested
 pub mod Shapes
--- the wrong versions of each call: a block laid out afresh; words moved by a rule; stores in a mapped file; lists of cycles; answers alone; the join desk;
+-- the wrong versions of each call: a block laid out afresh; words moved by a rule; runs of words and blocks of chunks; stores in a mapped file; lists of cycles; answers alone; the join desk;
 -- sheets, their writers and the whole job
 pub mod RefutedBlocks
 pub mod RefutedMoves
+pub mod RefutedRuns
 pub mod RefutedMapped
 pub mod RefutedCycles
 pub mod RefutedAnswers

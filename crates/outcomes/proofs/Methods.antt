@@ -1,4 +1,4 @@
--- Demand 2 about calls: the passes of rows and columns and the recursive method accept the same blocks, scratch apart, and leave the same words; the reverse turn
+-- Demand 2 about calls: the passes of rows and columns, the strips and the recursive method accept the same blocks, scratch apart, and leave the same words; the reverse turn
 -- brings every word home, and so does the turn after it. Both lay the block out alike, and two outcomes of one turn are equal.
 use mathlib.Core.Path.{_≡_, sym, _∙_}
 use Prim.Native.Nat.{_≤_}
@@ -27,6 +27,16 @@ same-words-back one other e f g z room =
     let q : TurnPromise (one .m) (one .n) (one .words) (other .scratch) (other .number) (other .words-after) (other .scratch-after) =
     rw (← e, ← f, ← g) (other .post) in
     let y = q .number-is ∙ sym (room-passed (sides (one .m) (one .n)) (one .words) (other .scratch) (sym (one .post .number) ∙ z) room) in
+    (y, one-turn (q .words y) (one .post .words z))
+
+-- of two turns through scratch, by strips or by passes, one accepts what the other does where its own scratch is enough, and both leave the same words
+pub same-turns : (one other : TurnCall) → other .m ≡ one .m → other .n ≡ one .n → other .words ≡ one .words → one .number ≡ 0
+    → need (sides (one .m) (one .n)) ≤ length (other .scratch) → (other .number ≡ 0) × (other .words-after ≡ one .words-after)
+same-turns one other e f g z room =
+    let q : TurnPromise (one .m) (one .n) (one .words) (other .scratch) (other .number) (other .words-after) (other .scratch-after) =
+    rw (← e, ← f, ← g) (other .post) in
+    let good = block-good (sides (one .m) (one .n)) (one .words) (one .scratch) (sym (one .post .number-is) ∙ z) in
+    let y = q .number-is ∙ sym (room-passed (sides (one .m) (one .n)) (one .words) (other .scratch) good room) in
     (y, one-turn (q .words y) (one .post .words z))
 
 -- a turn that was accepted, then the reverse turn with the same sides through any scratch that is enough: accepted, every word home

@@ -7,6 +7,7 @@ use denote.Triple.Clauses.{AtExit}
 use borrow.Author.Needs.{needs}
 use borrow.Fn.Kinds.{endedOf, Dens, GoodsP}
 use Rattle.passes.proofs as passes
+use Rattle.strips.proofs as strips
 use Rattle.halves.proofs as halves
 use Rattle.axes.proofs as axes
 use Rattle.printer.proofs as printer
@@ -34,6 +35,32 @@ module _ (κs : Lfts 2) where
   pub of-turn-back : (args : Dens κs passes.turn_back.Kinds.ps) (number : ℕ) (exit : AtExit (endedOf 2 passes.turn_back.Kinds.ps passes.turn_back.Kinds.r) κs)
       → passes.turn_back.Reads.Post κs args number exit → TurnBackCall
   of-turn-back args number exit post = record {
+    m = args .1 .1 .0;
+    n = args .1 .1 .1 .0;
+    words = args .0 .now;
+    scratch = args .1 .0 .now;
+    number = number;
+    words-after = exit .0 .now;
+    scratch-after = exit .1 .0 .now;
+    post = post;
+  }
+
+  pub of-strips-turn : (args : Dens κs strips.turn.Kinds.ps) (number : ℕ) (exit : AtExit (endedOf 2 strips.turn.Kinds.ps strips.turn.Kinds.r) κs)
+      → strips.turn.Reads.Post κs args number exit → TurnCall
+  of-strips-turn args number exit post = record {
+    m = args .1 .1 .0;
+    n = args .1 .1 .1 .0;
+    words = args .0 .now;
+    scratch = args .1 .0 .now;
+    number = number;
+    words-after = exit .0 .now;
+    scratch-after = exit .1 .0 .now;
+    post = post;
+  }
+
+  pub of-strips-turn-back : (args : Dens κs strips.turn_back.Kinds.ps) (number : ℕ) (exit : AtExit (endedOf 2 strips.turn_back.Kinds.ps strips.turn_back.Kinds.r) κs)
+      → strips.turn_back.Reads.Post κs args number exit → TurnBackCall
+  of-strips-turn-back args number exit post = record {
     m = args .1 .1 .0;
     n = args .1 .1 .1 .0;
     words = args .0 .now;

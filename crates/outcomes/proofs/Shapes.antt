@@ -65,7 +65,7 @@ abbrev pub exactly : {checks : List Check} → (Unit {0} → List ℕ) → Targe
 exactly f = record { Right = λ ys. ys ≡ f tt; right = f; test = λ _. true; one = λ e t ys r. r }
 
 -- the layout under an order that a chain of swaps names, of a block that lies in the buffer
-abbrev lays : List ℕ → List ℕ → List ℕ → List ℕ → Bool
+abbrev pub lays : List ℕ → List ℕ → List ℕ → List ℕ → Bool
 lays ds o chain xs = same (named (length ds) chain) o && not (ltb (length xs) (volume ds))
 
 pub laid-only : (ds o chain xs : List ℕ) → T (lays ds o chain xs) → (ys : List ℕ) → Laid ds o xs ys → ys ≡ laid ds o xs

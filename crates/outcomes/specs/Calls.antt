@@ -13,7 +13,7 @@ use Rattle.printer.specs.Writer.{WrittenAs, ReleaseWrittenAs}
 use Rattle.sheet.specs.declared.ResultSheet.{ResultSheet}
 use Rattle.sheet.specs.ResultReader.{ResultReadAs}
 
--- a call of the flat turn by passes
+-- a call of the flat turn, by strips or by passes
 pub record TurnCall : Type 0 where
   pub m : ℕ
   pub n : ℕ
@@ -24,7 +24,7 @@ pub record TurnCall : Type 0 where
   pub scratch-after : List ℕ
   pub post : TurnPromise m n words scratch number words-after scratch-after
 
--- a call of the reverse turn
+-- a call of the reverse turn, by strips or by passes
 pub record TurnBackCall : Type 0 where
   pub m : ℕ
   pub n : ℕ
