@@ -172,7 +172,7 @@ module _ (r release order : ℕ) (known : noRelease release ≡ false) (low : or
             ap (askedFor order) (p .given i) ∙ ap (λ (t : List ℕ). accepted (pick t ds) order (length (planOf t))) same;
         refusal = λ n.
             ap (askedFor order) (p .refusal n)
-            ∙ ap (λ (t : Bool). let b : Answer = record { number = a .number; place = 0; lens = replicate 5 0; order = cond t order 0; swaps = 0 } in b)
+            ∙ ap (λ (t : Bool). let b : Answer = record { number = a .number; place = 0; lengths = replicate 5 0; order = cond t order 0; swaps = 0 } in b)
             (ne-eqb (a .number) 0 n);
       }
 

@@ -54,14 +54,14 @@ module _ {r : ℕ} {ds c xs ss : List ℕ} {a : Answer} {ys ts : List ℕ} (axes
   laid-out : Laid ds (named r c) xs ys
   laid-out = p .block .words z
 
-  five-lengths : a .lens ≡ fiveLengths (follow ds c)
-  five-lengths = ap (λ (b : Answer). b .lens) (p .given z) ∙ ap fiveLengths (pick-named ds c axes)
+  five-lengths : a .lengths ≡ fiveLengths (follow ds c)
+  five-lengths = ap (λ (b : Answer). b .lengths) (p .given z) ∙ ap fiveLengths (pick-named ds c axes)
 
   -- of these the first r are those of the shape that came back
-  new-lengths : take r (a .lens) ≡ follow ds c
+  new-lengths : take r (a .lengths) ≡ follow ds c
   new-lengths = ap (take r) five-lengths ∙ first-of-five (follow ds c) (length-follow ds c ∙ axes)
 
-  as-many : length (take r (a .lens)) ≡ r
+  as-many : length (take r (a .lengths)) ≡ r
   as-many = ap length new-lengths ∙ length-follow ds c ∙ axes
 
   new-order : orderOf r (a .order) ≡ named r c
@@ -74,24 +74,24 @@ module _ {r : ℕ} {ds c xs ss : List ℕ} {a : Answer} {ys ts : List ℕ} (axes
   as-long = ap length (p .block .zeroed z) ∙ cleared-length ss (le-refl (chainNeed ds c)) (ran .room)
 
   -- what the caller of the joined chain must lend: the larger of both needs, each on the shape as it is called
-  pub joined-need : (t : List ℕ) → chainNeed ds (c ++ t) ≡ max (chainNeed ds c) (chainNeed (take r (a .lens)) t)
+  pub joined-need : (t : List ℕ) → chainNeed ds (c ++ t) ≡ max (chainNeed ds c) (chainNeed (take r (a .lengths)) t)
   joined-need t = rw new-lengths (need-append ds c t)
 
   -- a chain run backwards on the shape that came back needs what the chain needs
-  pub back-need : chainNeed (take r (a .lens)) (reverse c) ≡ chainNeed ds c
+  pub back-need : chainNeed (take r (a .lengths)) (reverse c) ≡ chainNeed ds c
   back-need = rw new-lengths (need-back ds c)
 
   -- scratch that the call left, lent to a second chain on the shape that came back, holds after both what the joined chain leaves of it
-  scratch-on : (t : List ℕ) {us : List ℕ} → chainNeed (take r (a .lens)) t ≤ length ss → us ≡ cleared (chainNeed (take r (a .lens)) t) ts
+  scratch-on : (t : List ℕ) {us : List ℕ} → chainNeed (take r (a .lengths)) t ≤ length ss → us ≡ cleared (chainNeed (take r (a .lengths)) t) ts
       → us ≡ cleared (chainNeed ds (c ++ t)) ss
   scratch-on t h e =
       e
-      ∙ ap (cleared (chainNeed (take r (a .lens)) t)) (p .block .zeroed z)
-      ∙ cleared-twice (chainNeed (take r (a .lens)) t) (chainNeed ds c) ss h
+      ∙ ap (cleared (chainNeed (take r (a .lengths)) t)) (p .block .zeroed z)
+      ∙ cleared-twice (chainNeed (take r (a .lengths)) t) (chainNeed ds c) ss h
       ∙ ap (λ (w : ℕ). cleared w ss) (sym (joined-need t))
 
   -- and lent to the chain run backwards it stays as it is
-  scratch-back : {us : List ℕ} → us ≡ cleared (chainNeed (take r (a .lens)) (reverse c)) ts → us ≡ ts
+  scratch-back : {us : List ℕ} → us ≡ cleared (chainNeed (take r (a .lengths)) (reverse c)) ts → us ≡ ts
   scratch-back e =
       let w = chainNeed ds c in
       e
@@ -102,8 +102,8 @@ module _ {r : ℕ} {ds c xs ss : List ℕ} {a : Answer} {ys ts : List ℕ} (axes
 
 -- where the first is accepted, the second has no bad swap, both have at most 32 swaps together, and each call has the scratch that it needs
 module _ {r : ℕ} {ds s t xs ss ss₂ ss₃ : List ℕ} {a₁ a₂ a : Answer} {ys ts zs us ws vs : List ℕ} (axes : length ds ≡ r)
-    (p : ChainPromise r ds s xs ss a₁ ys ts) (q : ChainPromise r (take r (a₁ .lens)) t ys ss₂ a₂ zs us) (j : ChainPromise r ds (s ++ t) xs ss₃ a ws vs)
-    (e : a₁ .number ≡ 0) (good : badSwap r t ≡ false) (few : length (s ++ t) ≤ 32) (room₂ : chainNeed (take r (a₁ .lens)) t ≤ length ss₂)
+    (p : ChainPromise r ds s xs ss a₁ ys ts) (q : ChainPromise r (take r (a₁ .lengths)) t ys ss₂ a₂ zs us) (j : ChainPromise r ds (s ++ t) xs ss₃ a ws vs)
+    (e : a₁ .number ≡ 0) (good : badSwap r t ≡ false) (few : length (s ++ t) ≤ 32) (room₂ : chainNeed (take r (a₁ .lengths)) t ≤ length ss₂)
     (room₃ : chainNeed ds (s ++ t) ≤ length ss₃) where
   second-accepted : a₂ .number ≡ 0
   second-accepted =
@@ -136,9 +136,9 @@ module _ {r : ℕ} {ds s t xs ss ss₂ ss₃ : List ℕ} {a₁ a₂ a : Answer} 
 
 -- through one scratch, as long as the joined chain needs, that too holds afterwards what the joined chain leaves in it
 module _ {r : ℕ} {ds s t xs ss : List ℕ} {a₁ a₂ a : Answer} {ys ts zs us ws vs : List ℕ} (axes : length ds ≡ r)
-    (p : ChainPromise r ds s xs ss a₁ ys ts) (q : ChainPromise r (take r (a₁ .lens)) t ys ts a₂ zs us) (j : ChainPromise r ds (s ++ t) xs ss a ws vs)
+    (p : ChainPromise r ds s xs ss a₁ ys ts) (q : ChainPromise r (take r (a₁ .lengths)) t ys ts a₂ zs us) (j : ChainPromise r ds (s ++ t) xs ss a ws vs)
     (e : a₁ .number ≡ 0) (good : badSwap r t ≡ false) (few : length (s ++ t) ≤ 32) (room : chainNeed ds (s ++ t) ≤ length ss) where
-  enough : chainNeed (take r (a₁ .lens)) t ≤ length ss
+  enough : chainNeed (take r (a₁ .lengths)) t ≤ length ss
   enough = omega (arith, joined-need axes p e t)
 
   pub chains-join-scratch : Joined r a₁ a₂ a zs ws × (vs ≡ us)
@@ -151,13 +151,13 @@ module _ {r : ℕ} {ds s t xs ss ss′ : List ℕ} {a a′ : Answer} {ys ts zs u
     (q : ChainPromise r ds t xs ss′ a′ zs us) (e : a .number ≡ 0) (d : a′ .number ≡ 0) (one : named r s ≡ named r t) where
   pub one-order : Alike a a′ ys zs
   one-order = record {
-    lengths = ap (λ (b : Answer). b .lens) (q .given d) ∙ ap (λ (o : List ℕ). fiveLengths (pick o ds)) (sym one) ∙ sym (ap (λ (b : Answer). b .lens) (p .given e));
+    lengths = ap (λ (b : Answer). b .lengths) (q .given d) ∙ ap (λ (o : List ℕ). fiveLengths (pick o ds)) (sym one) ∙ sym (ap (λ (b : Answer). b .lengths) (p .given e));
     order = ap (λ (b : Answer). b .order) (q .given d) ∙ ap (numberOf r) (sym one) ∙ sym (ap (λ (b : Answer). b .order) (p .given e));
     words = chain-once ds axes t (laid-out axes q d) (subst (λ (o : List ℕ). Laid ds o xs ys) one (laid-out axes p e));
   }
 
 module _ {r : ℕ} {ds c xs ss ss′ : List ℕ} {a a′ : Answer} {ys ts zs us : List ℕ} (axes : length ds ≡ r) (p : ChainPromise r ds c xs ss a ys ts)
-    (q : ChainPromise r (take r (a .lens)) (reverse c) ys ss′ a′ zs us) (e : a .number ≡ 0) (room : chainNeed ds c ≤ length ss′) where
+    (q : ChainPromise r (take r (a .lengths)) (reverse c) ys ss′ a′ zs us) (e : a .number ≡ 0) (room : chainNeed ds c ≤ length ss′) where
   back-again : a′ .number ≡ 0
   back-again =
       q .block .number-is
@@ -170,7 +170,7 @@ module _ {r : ℕ} {ds c xs ss ss′ : List ℕ} {a a′ : Answer} {ys ts zs us 
       record {
         accepts = back-again;
         lengths = five-lengths turned q back-again ∙ ap fiveLengths (ap (λ (l : List ℕ). follow l (reverse c)) (new-lengths axes p e) ∙ follow-home ds c);
-        words = chain-once (take r (a .lens)) turned (reverse c) (laid-out turned q back-again)
+        words = chain-once (take r (a .lengths)) turned (reverse c) (laid-out turned q back-again)
             (subst
             (λ (l : List ℕ). Laid l (named r (reverse c)) ys xs)
             (pick-named ds c axes ∙ sym (new-lengths axes p e))
@@ -179,7 +179,7 @@ module _ {r : ℕ} {ds c xs ss ss′ : List ℕ} {a a′ : Answer} {ys ts zs us 
 
 -- through the scratch that the chain left, which is enough, that stays as it is
 pub backwards-scratch : {r : ℕ} {ds c xs ss : List ℕ} {a a′ : Answer} {ys ts zs us : List ℕ} → length ds ≡ r → ChainPromise r ds c xs ss a ys ts
-    → ChainPromise r (take r (a .lens)) (reverse c) ys ts a′ zs us → a .number ≡ 0 → Restored ds xs a′ zs × (us ≡ ts)
+    → ChainPromise r (take r (a .lengths)) (reverse c) ys ts a′ zs us → a .number ≡ 0 → Restored ds xs a′ zs × (us ≡ ts)
 backwards-scratch axes p q e =
     let home = backwards axes p q e (omega (arith, as-long axes p e, ran axes p e .room)) in
     (home, scratch-back axes p e (q .block .zeroed (home .accepts)))
@@ -208,9 +208,9 @@ module _ {r : ℕ} {ds c xs ss ss′ : List ℕ} {release k : ℕ} {a a′ : Ans
       let z = by-accepted room in
       record {
         accepts = z;
-        lengths = ap (λ (b : Answer). b .lens) (q .given z)
+        lengths = ap (λ (b : Answer). b .lengths) (q .given z)
             ∙ ap (λ (o : List ℕ). fiveLengths (pick o ds)) the-order
-            ∙ sym (ap (λ (b : Answer). b .lens) (p .given e));
+            ∙ sym (ap (λ (b : Answer). b .lengths) (p .given e));
         order = ap (λ (b : Answer). numberBy r release (b .order)) (q .given z) ∙ one;
         words = chain-once ds axes c (subst (λ (o : List ℕ). Laid ds o xs zs) the-order (q .block .words z)) (laid-out axes p e);
       }

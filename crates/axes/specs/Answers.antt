@@ -13,11 +13,11 @@ fiveLengths lengths = lengths ++ replicate (5 - length lengths) 0
 
 -- an accepted call answers the new lengths, the order number and the swaps done
 abbrev pub accepted : List ℕ → ℕ → ℕ → Answer
-accepted lengths order count = record { number = 0; place = 0; lens = fiveLengths lengths; order = order; swaps = count }
+accepted lengths order count = record { number = 0; place = 0; lengths = fiveLengths lengths; order = order; swaps = count }
 
 -- a refused call answers its number and place, and 0 in every other field
 abbrev pub refused : ℕ → ℕ → Answer
-refused number place = record { number = number; place = place; lens = replicate 5 0; order = 0; swaps = 0 }
+refused number place = record { number = number; place = place; lengths = replicate 5 0; order = 0; swaps = 0 }
 
 -- the place of a refused chain: for 6 that of the first swap that the axes do not have, elsewhere 0
 abbrev pub refusedPlace : ℕ → ℕ → List ℕ → ℕ
@@ -25,4 +25,4 @@ refusedPlace r number chain = cond (eqb number 6) (firstPlace (noSwap r) chain) 
 
 -- the answer of a chain as that of a request for an order: where it is accepted, the number that was asked for stands in the place of the chain's own
 abbrev pub askedFor : ℕ → Answer → Answer
-askedFor order a = record { number = a .number; place = a .place; lens = a .lens; order = cond (eqb (a .number) 0) order (a .order); swaps = a .swaps }
+askedFor order a = record { number = a .number; place = a .place; lengths = a .lengths; order = cond (eqb (a .number) 0) order (a .order); swaps = a .swaps }

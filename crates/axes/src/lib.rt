@@ -13,27 +13,27 @@ mod sizes;
 // The lengths of up to five axes, last axis fastest. A call on four axes does not read the fifth.
 #[repr(C)]
 pub struct Shape {
-    pub lens: [usize; 5],
+    pub lengths: [usize; 5],
 }
 
 impl Shape {
     // The shape of the first axes: the lengths of the others are 0.
     pub(crate) fn first(self, axes: usize) -> Shape
-        ensures { λ r. ⌜ r .lens ≡ fiveLengths (take axes (self .lens)) ⌝ }
+        ensures { λ r. ⌜ r .lengths ≡ fiveLengths (take axes (self .lengths)) ⌝ }
     {
         if 4 < axes {
             return self;
         }
-        let mut lens = self.lens;
+        let mut lengths = self.lengths;
         for k in axes..5 {
-            lens[k] = 0;
+            lengths[k] = 0;
         }
-        Shape { lens: lens }
+        Shape { lengths: lengths }
     }
 
     // The shape of so many axes with those at places k and k + 1 exchanged. Where they have no such places nothing changes; lengths past them come back 0.
     pub fn swapped(self, axes: usize, k: usize) -> Shape
-        ensures { λ r. ⌜ r .lens ≡ fiveLengths (exchange k (take axes (self .lens))) ⌝ }
+        ensures { λ r. ⌜ r .lengths ≡ fiveLengths (exchange k (take axes (self .lengths))) ⌝ }
     {
         let stands = self.first(axes);
         if 3 < k {
@@ -42,20 +42,20 @@ impl Shape {
         if axes < k + 2 {
             return stands;
         }
-        let mut lens = stands.lens;
-        exchange_at(&mut lens, k);
-        Shape { lens: lens }
+        let mut lengths = stands.lengths;
+        exchange_at(&mut lengths, k);
+        Shape { lengths: lengths }
     }
 }
 
 // Exchanges the lengths at places k and k + 1.
-fn exchange_at(lens: &mut [usize], k: usize)
-    requires { ⌜ k + 1 < length (now lens) ⌝ }
-    ensures { λ _. ⌜ now (lens .exit) ≡ exchange k (now (lens .entry)) ⌝ }
+fn exchange_at(lengths: &mut [usize], k: usize)
+    requires { ⌜ k + 1 < length (now lengths) ⌝ }
+    ensures { λ _. ⌜ now (lengths .exit) ≡ exchange k (now (lengths .entry)) ⌝ }
 {
-    let first = lens[k];
-    lens[k] = lens[k + 1];
-    lens[k + 1] = first;
+    let first = lengths[k];
+    lengths[k] = lengths[k + 1];
+    lengths[k + 1] = first;
 }
 
 // What a call on a block answers: its number, its place, the five new lengths (of four axes the last is 0), an order number (a chain's own order in
@@ -64,7 +64,7 @@ fn exchange_at(lens: &mut [usize], k: usize)
 pub struct Answer {
     pub number: u32,
     pub place: usize,
-    pub lens: [usize; 5],
+    pub lengths: [usize; 5],
     pub order: usize,
     pub swaps: usize,
 }
@@ -76,7 +76,7 @@ fn refusal(number: u32, place: usize) -> Answer
     Answer {
         number: number,
         place: place,
-        lens: [0; 5],
+        lengths: [0; 5],
         order: 0,
         swaps: 0,
     }
@@ -89,11 +89,11 @@ fn asked(done: Answer, order: usize) -> Answer
     if done.number != 0 {
         return done;
     }
-    let lens = done.lens;
+    let lengths = done.lengths;
     Answer {
         number: 0,
         place: done.place,
-        lens: lens,
+        lengths: lengths,
         order: order,
         swaps: done.swaps,
     }
@@ -108,10 +108,10 @@ fn chain_on(
     swaps: &[usize],
 ) -> Answer
     requires { ⌜ FourOrFive axes ⌝ }
-    ensures { λ r. ⌜ ChainPromise axes (take axes (shape .lens)) (now (swaps .entry)) (now (buf .entry)) (now (scratch .entry)) r (now (buf .exit)) (now (scratch .exit)) ⌝ }
+    ensures { λ r. ⌜ ChainPromise axes (take axes (shape .lengths)) (now (swaps .entry)) (now (buf .entry)) (now (scratch .entry)) r (now (buf .exit)) (now (scratch .exit)) ⌝ }
 {
-    let lens = shape.lens;
-    let number = chains::chain_number(&lens[..axes], buf, scratch, swaps);
+    let lengths = shape.lengths;
+    let number = chains::chain_number(&lengths[..axes], buf, scratch, swaps);
     if number == 6 {
         let place = checks::first_above(swaps, axes - 2);
         return refusal(6, place);
@@ -133,10 +133,10 @@ fn request_on(
     order: usize,
 ) -> Answer
     requires { ⌜ FourOrFive axes ⌝ }
-    ensures { λ r. ⌜ RequestPromise axes (take axes (shape .lens)) release order (now (buf .entry)) (now (scratch .entry)) r (now (buf .exit)) (now (scratch .exit)) ⌝ }
+    ensures { λ r. ⌜ RequestPromise axes (take axes (shape .lengths)) release order (now (buf .entry)) (now (scratch .entry)) r (now (buf .exit)) (now (scratch .exit)) ⌝ }
 {
-    let lens = shape.lens;
-    let number = checks::block_number(&lens[..axes], buf);
+    let lengths = shape.lengths;
+    let number = checks::block_number(&lengths[..axes], buf);
     if number != 0 {
         return refusal(number, 0);
     }
@@ -153,14 +153,14 @@ fn request_on(
 
 // A chain of swaps on a block of four axes.
 pub fn chain(buf: &mut [u32], scratch: &mut [u32], shape: Shape, swaps: &[usize]) -> Answer
-    ensures { λ r. ⌜ ChainPromise 4 (take 4 (shape .lens)) (now (swaps .entry)) (now (buf .entry)) (now (scratch .entry)) r (now (buf .exit)) (now (scratch .exit)) ⌝ }
+    ensures { λ r. ⌜ ChainPromise 4 (take 4 (shape .lengths)) (now (swaps .entry)) (now (buf .entry)) (now (scratch .entry)) r (now (buf .exit)) (now (scratch .exit)) ⌝ }
 {
     chain_on(buf, scratch, shape, 4, swaps)
 }
 
 // A chain of swaps on a block of five axes.
 pub fn chain5(buf: &mut [u32], scratch: &mut [u32], shape: Shape, swaps: &[usize]) -> Answer
-    ensures { λ r. ⌜ ChainPromise 5 (take 5 (shape .lens)) (now (swaps .entry)) (now (buf .entry)) (now (scratch .entry)) r (now (buf .exit)) (now (scratch .exit)) ⌝ }
+    ensures { λ r. ⌜ ChainPromise 5 (take 5 (shape .lengths)) (now (swaps .entry)) (now (buf .entry)) (now (scratch .entry)) r (now (buf .exit)) (now (scratch .exit)) ⌝ }
 {
     chain_on(buf, scratch, shape, 5, swaps)
 }
@@ -173,7 +173,7 @@ pub fn request(
     release: usize,
     order: usize,
 ) -> Answer
-    ensures { λ r. ⌜ RequestPromise 4 (take 4 (shape .lens)) release order (now (buf .entry)) (now (scratch .entry)) r (now (buf .exit)) (now (scratch .exit)) ⌝ }
+    ensures { λ r. ⌜ RequestPromise 4 (take 4 (shape .lengths)) release order (now (buf .entry)) (now (scratch .entry)) r (now (buf .exit)) (now (scratch .exit)) ⌝ }
 {
     request_on(buf, scratch, shape, 4, release, order)
 }
@@ -186,7 +186,7 @@ pub fn request5(
     release: usize,
     order: usize,
 ) -> Answer
-    ensures { λ r. ⌜ RequestPromise 5 (take 5 (shape .lens)) release order (now (buf .entry)) (now (scratch .entry)) r (now (buf .exit)) (now (scratch .exit)) ⌝ }
+    ensures { λ r. ⌜ RequestPromise 5 (take 5 (shape .lengths)) release order (now (buf .entry)) (now (scratch .entry)) r (now (buf .exit)) (now (scratch .exit)) ⌝ }
 {
     request_on(buf, scratch, shape, 5, release, order)
 }

@@ -22,7 +22,7 @@ ghost use Rattle.cycles.specs.Promise.{JudgedAs, RunAs};
 // The lengths of a sheet's four axes.
 #[repr(C)]
 pub struct SheetShape {
-    pub lens: [usize; 4],
+    pub lengths: [usize; 4],
 }
 
 // The flat turn of m by n by strips, the fast way.
@@ -78,7 +78,7 @@ pub extern "C" fn zib_chain(
     shape: axes::Shape,
     swaps: &[usize],
 ) -> axes::Answer
-    ensures { λ r. ⌜ ChainPromise 4 (take 4 (shape .lens)) (now (swaps .entry)) (now (buf .entry)) (now (scratch .entry)) r (now (buf .exit)) (now (scratch .exit)) ⌝ }
+    ensures { λ r. ⌜ ChainPromise 4 (take 4 (shape .lengths)) (now (swaps .entry)) (now (buf .entry)) (now (scratch .entry)) r (now (buf .exit)) (now (scratch .exit)) ⌝ }
 {
     axes::chain(buf, scratch, shape, swaps)
 }
@@ -92,7 +92,7 @@ pub extern "C" fn zib_request(
     release: usize,
     order: usize,
 ) -> axes::Answer
-    ensures { λ r. ⌜ RequestPromise 4 (take 4 (shape .lens)) release order (now (buf .entry)) (now (scratch .entry)) r (now (buf .exit)) (now (scratch .exit)) ⌝ }
+    ensures { λ r. ⌜ RequestPromise 4 (take 4 (shape .lengths)) release order (now (buf .entry)) (now (scratch .entry)) r (now (buf .exit)) (now (scratch .exit)) ⌝ }
 {
     axes::request(buf, scratch, shape, release, order)
 }
@@ -113,7 +113,7 @@ pub extern "C" fn zib_chain5(
     shape: axes::Shape,
     swaps: &[usize],
 ) -> axes::Answer
-    ensures { λ r. ⌜ ChainPromise 5 (take 5 (shape .lens)) (now (swaps .entry)) (now (buf .entry)) (now (scratch .entry)) r (now (buf .exit)) (now (scratch .exit)) ⌝ }
+    ensures { λ r. ⌜ ChainPromise 5 (take 5 (shape .lengths)) (now (swaps .entry)) (now (buf .entry)) (now (scratch .entry)) r (now (buf .exit)) (now (scratch .exit)) ⌝ }
 {
     axes::chain5(buf, scratch, shape, swaps)
 }
@@ -127,7 +127,7 @@ pub extern "C" fn zib_request5(
     release: usize,
     order: usize,
 ) -> axes::Answer
-    ensures { λ r. ⌜ RequestPromise 5 (take 5 (shape .lens)) release order (now (buf .entry)) (now (scratch .entry)) r (now (buf .exit)) (now (scratch .exit)) ⌝ }
+    ensures { λ r. ⌜ RequestPromise 5 (take 5 (shape .lengths)) release order (now (buf .entry)) (now (scratch .entry)) r (now (buf .exit)) (now (scratch .exit)) ⌝ }
 {
     axes::request5(buf, scratch, shape, release, order)
 }
@@ -156,10 +156,10 @@ pub extern "C" fn zib_write_result(
     words: &[u32],
     out: &mut [u8],
 ) -> printer::Written
-    ensures { λ r. ⌜ WrittenAs (shape .lens) order (now (words .entry)) (now (out .entry)) r (now (out .exit)) ⌝ }
+    ensures { λ r. ⌜ WrittenAs (shape .lengths) order (now (words .entry)) (now (out .entry)) r (now (out .exit)) ⌝ }
 {
-    let lens = shape.lens;
-    printer::write_result(lens, order, words, out)
+    let lengths = shape.lengths;
+    printer::write_result(lengths, order, words, out)
 }
 
 // The whole job on a sheet: read, run through its chain, its result sheet or its refusal written.
@@ -257,10 +257,10 @@ pub extern "C" fn zib_write_release(
     words: &[u32],
     out: &mut [u8],
 ) -> printer::Written
-    ensures { λ r. ⌜ ReleaseWrittenAs (shape .lens) release order (now (words .entry)) (now (out .entry)) r (now (out .exit)) ⌝ }
+    ensures { λ r. ⌜ ReleaseWrittenAs (shape .lengths) release order (now (words .entry)) (now (out .entry)) r (now (out .exit)) ⌝ }
 {
-    let lens = shape.lens;
-    printer::write_release(lens, release, order, words, out)
+    let lengths = shape.lengths;
+    printer::write_release(lengths, release, order, words, out)
 }
 
 // The offset and the delay of one exchange of four readings.

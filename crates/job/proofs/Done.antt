@@ -61,13 +61,13 @@ met-refused {out = out} {r = r} long t p =
 
 -- the buffer of a right sheet: the block's part holds the sheet's words, and what is past it is as it was
 module _ {bytes words : List ℕ} {r : Sheet} {words₁ ws : List ℕ} (t : Taken words bytes r words₁ ws) where
-  pub block-words : take (volume (r .lens)) words₁ ≡ ws
-  block-words = ap (take (volume (r .lens))) (t .stored) ∙ take-at ws (drop (length ws) words) (volume (r .lens)) (t .right .block)
+  pub block-words : take (volume (r .lengths)) words₁ ≡ ws
+  block-words = ap (take (volume (r .lengths))) (t .stored) ∙ take-at ws (drop (length ws) words) (volume (r .lengths)) (t .right .block)
 
-  past-block : drop (volume (r .lens)) words₁ ≡ drop (volume (r .lens)) words
+  past-block : drop (volume (r .lengths)) words₁ ≡ drop (volume (r .lengths)) words
   past-block =
-      ap (drop (volume (r .lens))) (t .stored)
-      ∙ drop-at ws (drop (length ws) words) (volume (r .lens)) (t .right .block)
+      ap (drop (volume (r .lengths))) (t .stored)
+      ∙ drop-at ws (drop (length ws) words) (volume (r .lengths)) (t .right .block)
       ∙ ap (λ (k : ℕ). drop k words) (t .right .block)
 
   same-words : length words₁ ≡ length words
@@ -77,16 +77,16 @@ module _ {bytes words : List ℕ} {r : Sheet} {words₁ ws : List ℕ} (t : Take
       ∙ omega (arith, length-drop (length ws) words, t .right .block, t .right .room)
 
   -- it is enough for the chain to be run
-  pub run-asks : (volume (r .lens) ≤ 1048576) × (volume (r .lens) ≤ length words₁)
+  pub run-asks : (volume (r .lengths) ≤ 1048576) × (volume (r .lengths) ≤ length words₁)
   run-asks = (omega (arith, t .right .few-words), omega (arith, same-words, t .right .room))
 
 -- a right sheet, its chain run and its result sheet written
 module _ {bytes words scratch out : List ℕ} {r : Sheet} {words₁ ws : List ℕ} {a : Answer} {words₂ scratch₂ : List ℕ} {w : Written} {out′ : List ℕ}
     (block : length words ≡ 1024) (room : length scratch ≡ 1024) (long : length out ≡ 16384)
-    (t : Taken words bytes r words₁ ws) (p : RunOn (r .lens) (swapsOf r) words₁ scratch a words₂ scratch₂)
-    {lengths : List ℕ} (front-is : lengths ≡ take 4 (a .lens)) (q : WrittenAs lengths (a .order) words₂ out w out′) where
+    (t : Taken words bytes r words₁ ws) (p : RunOn (r .lengths) (swapsOf r) words₁ scratch a words₂ scratch₂)
+    {lengths : List ℕ} (front-is : lengths ≡ take 4 (a .lengths)) (q : WrittenAs lengths (a .order) words₂ out w out′) where
   abbrev ds : List ℕ
-  ds = r .lens
+  ds = r .lengths
 
   abbrev order : List ℕ
   order = named 4 (swapsOf r)
@@ -134,7 +134,7 @@ module _ {bytes words scratch out : List ℕ} {r : Sheet} {words₁ ws : List �
   new-lengths : lengths ≡ pick order ds
   new-lengths =
       front-is
-      ∙ ap (λ (s : Answer). take 4 (s .lens)) (chain-on .given chain-runs)
+      ∙ ap (λ (s : Answer). take 4 (s .lengths)) (chain-on .given chain-runs)
       ∙ first-of-five (pick order ds) (length-pick order ds ∙ length-named 4 (swapsOf r))
 
   new-order : a .order ≡ numberOf 4 order

@@ -26,9 +26,9 @@ pub record Turned-away (buffer bytes : List ℕ) (r : Sheet) (buffer′ : List �
 
 -- a sheet that was accepted
 pub record Taken (buffer bytes : List ℕ) (r : Sheet) (buffer′ words : List ℕ) : Type 0 where
-  pub means : meaning buffer bytes ≡ Outcome.accepted (r .lens) (swapsOf r) words
-  pub stored : buffer′ ≡ kept (Outcome.accepted (r .lens) (swapsOf r) words) buffer
-  pub right : Right buffer bytes (r .lens) (swapsOf r) words
+  pub means : meaning buffer bytes ≡ Outcome.accepted (r .lengths) (swapsOf r) words
+  pub stored : buffer′ ≡ kept (Outcome.accepted (r .lengths) (swapsOf r) words) buffer
+  pub right : Right buffer bytes (r .lengths) (swapsOf r) words
   pub inside : r .count ≤ length (r .swaps)
   pub count : length (swapsOf r) ≡ r .count
 
@@ -57,17 +57,17 @@ module _ {buffer bytes : List ℕ} {r : Sheet} {buffer′ : List ℕ} (p : ReadA
           absurd (omega (arith, h .given))
       by (Outcome.accepted ds chain words) m w =
           let a = p .answers ∙ ap answer m in
-          let lens : ds ≡ r .lens = sym (ap (λ (s : Sheet). s .lens) a) in
+          let lengths : ds ≡ r .lengths = sym (ap (λ (s : Sheet). s .lengths) a) in
           let count : r .count ≡ length chain = ap (λ (s : Sheet). s .count) a in
           let swaps : r .swaps ≡ padded chain = ap (λ (s : Sheet). s .swaps) a in
           let first : chain ≡ swapsOf r =
           sym (ap₂ take count swaps ∙ take-at chain (replicate (32 - length chain) 0) (length chain) refl) in
-          let means : meaning buffer bytes ≡ Outcome.accepted (r .lens) (swapsOf r) words = m ∙ ap₂ (λ (l : List ℕ) (c : List ℕ). Outcome.accepted l c words) lens first in (
+          let means : meaning buffer bytes ≡ Outcome.accepted (r .lengths) (swapsOf r) words = m ∙ ap₂ (λ (l : List ℕ) (c : List ℕ). Outcome.accepted l c words) lengths first in (
             words,
             record {
               means = means;
               stored = p .words ∙ ap (λ (o : Outcome). kept o buffer) means;
-              right = accepted-exactly buffer bytes (r .lens) (swapsOf r) words .0 means;
+              right = accepted-exactly buffer bytes (r .lengths) (swapsOf r) words .0 means;
               inside = omega (arith, count, ap length swaps, length-append chain (replicate (32 - length chain) 0));
               count = sym (ap length first) ∙ sym count;
             },

@@ -6,13 +6,13 @@ ghost use Rattle.job.specs.Job.{Done};
 ghost use Rattle.job.specs.Private.{RunOn};
 
 // Runs a chain on the block at the start of the words: the chain is lent the block's part only.
-fn run(words: &mut [u32], scratch: &mut [u32], lens: [usize; 4], swaps: &[usize]) -> axes::Answer
-    requires { ⌜ (volume lens ≤ 1048576) × (volume lens ≤ length (now words)) ⌝ }
-    ensures { λ r. ⌜ RunOn lens (now (swaps .entry)) (now (words .entry)) (now (scratch .entry)) r (now (words .exit)) (now (scratch .exit)) ⌝ }
+fn run(words: &mut [u32], scratch: &mut [u32], lengths: [usize; 4], swaps: &[usize]) -> axes::Answer
+    requires { ⌜ (volume lengths ≤ 1048576) × (volume lengths ≤ length (now words)) ⌝ }
+    ensures { λ r. ⌜ RunOn lengths (now (swaps .entry)) (now (words .entry)) (now (scratch .entry)) r (now (words .exit)) (now (scratch .exit)) ⌝ }
 {
-    let size = checks::words_of(&lens);
+    let size = checks::words_of(&lengths);
     let shape = axes::Shape {
-        lens: [lens[0], lens[1], lens[2], lens[3], 0],
+        lengths: [lengths[0], lengths[1], lengths[2], lengths[3], 0],
     };
     axes::chain(&mut words[..size], scratch, shape, swaps)
 }
@@ -43,11 +43,11 @@ pub fn job(
             count: line.count,
         };
     }
-    let lens = sheet.lens;
+    let lengths = sheet.lengths;
     let swaps = sheet.swaps;
     let count = sheet.count;
-    let answer = run(words, scratch, lens, &swaps[..count]);
-    let turned = answer.lens;
+    let answer = run(words, scratch, lengths, &swaps[..count]);
+    let turned = answer.lengths;
     let front = [turned[0], turned[1], turned[2], turned[3]];
     let written = printer::write_result(front, answer.order, words, out);
     Told {

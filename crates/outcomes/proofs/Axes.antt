@@ -17,19 +17,19 @@ pub reads : {r : ℕ} (l : List ℕ) → length l ≡ 5 → r ≤ 5 → length (
 reads {r} l e h = length-take-le r l (omega arith)
 
 pub chain-once : Once axes.chain.Kinds.ps axes.chain.Kinds.r axes.chain.Reads.Post
-chain-once t = let (x, y, z) = axes.OneOutcome.chain-once (reads (t .args .1 .1 .0 .lens) (search needs) (omega arith)) (t .first) (t .second) in (x, λ i. (y i, (z i, _)))
+chain-once t = let (x, y, z) = axes.OneOutcome.chain-once (reads (t .args .1 .1 .0 .lengths) (search needs) (omega arith)) (t .first) (t .second) in (x, λ i. (y i, (z i, _)))
 
 pub chain5-once : Once axes.chain5.Kinds.ps axes.chain5.Kinds.r axes.chain5.Reads.Post
-chain5-once t = let (x, y, z) = axes.OneOutcome.chain-once (reads (t .args .1 .1 .0 .lens) (search needs) (omega arith)) (t .first) (t .second) in (x, λ i. (y i, (z i, _)))
+chain5-once t = let (x, y, z) = axes.OneOutcome.chain-once (reads (t .args .1 .1 .0 .lengths) (search needs) (omega arith)) (t .first) (t .second) in (x, λ i. (y i, (z i, _)))
 
 pub request-once : Once axes.request.Kinds.ps axes.request.Kinds.r axes.request.Reads.Post
-request-once t = let (x, y, z) = axes.OneOutcome.request-once (reads (t .args .1 .1 .0 .lens) (search needs) (omega arith)) (t .first) (t .second) in (x, λ i. (y i, (z i, _)))
+request-once t = let (x, y, z) = axes.OneOutcome.request-once (reads (t .args .1 .1 .0 .lengths) (search needs) (omega arith)) (t .first) (t .second) in (x, λ i. (y i, (z i, _)))
 
 pub request5-once : Once axes.request5.Kinds.ps axes.request5.Kinds.r axes.request5.Reads.Post
-request5-once t = let (x, y, z) = axes.OneOutcome.request-once (reads (t .args .1 .1 .0 .lens) (search needs) (omega arith)) (t .first) (t .second) in (x, λ i. (y i, (z i, _)))
+request5-once t = let (x, y, z) = axes.OneOutcome.request-once (reads (t .args .1 .1 .0 .lengths) (search needs) (omega arith)) (t .first) (t .second) in (x, λ i. (y i, (z i, _)))
 
 pub swapped-once : Once axes.Shape.swapped.Kinds.ps axes.Shape.swapped.Kinds.r axes.Shape.swapped.Reads.Post
-swapped-once t = (ap (λ (l : List ℕ). let s : Shape = record { lens = l } in s) (t .first ∙ sym (t .second)), refl)
+swapped-once t = (ap (λ (l : List ℕ). let s : Shape = record { lengths = l } in s) (t .first ∙ sym (t .second)), refl)
 
 pub plan-once : Once plans.plan.Kinds.ps plans.plan.Kinds.r plans.plan.Reads.Post
 plan-once t = (plans.OneOutcome.plan-once (t .first) (t .second), refl)

@@ -20,16 +20,16 @@ promised : {r : ℕ} (c : ChainCall r) {ds chain xs ss : List ℕ} → c .length
 promised c e f g h = rw (← e, ← f, ← g, ← h) (c .post)
 
 -- running one chain, then the other on the shape that came back, leaves the words and shape of the joined chain in one call
-pub chains-join : {r : ℕ} (first second both : ChainCall r) → second .lengths ≡ take r (first .answer .lens) → second .words ≡ first .words-after → both .lengths ≡ first .lengths
+pub chains-join : {r : ℕ} (first second both : ChainCall r) → second .lengths ≡ take r (first .answer .lengths) → second .words ≡ first .words-after → both .lengths ≡ first .lengths
     → both .words ≡ first .words → both .swaps ≡ first .swaps ++ second .swaps → first .answer .number ≡ 0 → badSwap r (second .swaps) ≡ false
-    → length (first .swaps ++ second .swaps) ≤ 32 → chainNeed (take r (first .answer .lens)) (second .swaps) ≤ length (second .scratch)
+    → length (first .swaps ++ second .swaps) ≤ 32 → chainNeed (take r (first .answer .lengths)) (second .swaps) ≤ length (second .scratch)
     → chainNeed (first .lengths) (first .swaps ++ second .swaps) ≤ length (both .scratch)
     → Joined r (first .answer) (second .answer) (both .answer) (second .words-after) (both .words-after)
 chains-join first second both e f g h i z good few room₂ room₃ =
     demands.chains-join (first .axes) (first .post) (promised second e refl f refl) (promised both g i h refl) z good few room₂ room₃
 
 -- the same with the demand's own premises: both calls accepted, at most 32 swaps together, enough scratch for the joined call
-pub demand : {r : ℕ} (first second both : ChainCall r) → second .lengths ≡ take r (first .answer .lens) → second .words ≡ first .words-after
+pub demand : {r : ℕ} (first second both : ChainCall r) → second .lengths ≡ take r (first .answer .lengths) → second .words ≡ first .words-after
     → both .lengths ≡ first .lengths → both .words ≡ first .words → both .swaps ≡ first .swaps ++ second .swaps → first .answer .number ≡ 0
     → second .answer .number ≡ 0 → length (first .swaps ++ second .swaps) ≤ 32
     → chainNeed (first .lengths) (first .swaps ++ second .swaps) ≤ length (both .scratch)
@@ -41,7 +41,7 @@ demand {r} first second both e f g h i z y few room =
     room
 
 -- and where all three are lent one scratch, as long as the joined chain needs, they leave that the same too
-pub chains-join-scratch : {r : ℕ} (first second both : ChainCall r) → second .lengths ≡ take r (first .answer .lens) → second .words ≡ first .words-after
+pub chains-join-scratch : {r : ℕ} (first second both : ChainCall r) → second .lengths ≡ take r (first .answer .lengths) → second .words ≡ first .words-after
     → second .scratch ≡ first .scratch-after → both .lengths ≡ first .lengths → both .words ≡ first .words → both .scratch ≡ first .scratch
     → both .swaps ≡ first .swaps ++ second .swaps → first .answer .number ≡ 0 → badSwap r (second .swaps) ≡ false
     → length (first .swaps ++ second .swaps) ≤ 32 → chainNeed (first .lengths) (first .swaps ++ second .swaps) ≤ length (first .scratch)
@@ -55,13 +55,13 @@ pub one-order : {r : ℕ} (one other : ChainCall r) → other .lengths ≡ one .
 one-order one other e f z y same = demands.one-order (one .axes) (one .post) (promised other e refl f refl) z y same
 
 -- a chain run backwards on the returned shape restores every word
-pub backwards : {r : ℕ} (there back : ChainCall r) → back .lengths ≡ take r (there .answer .lens) → back .words ≡ there .words-after → back .swaps ≡ reverse (there .swaps)
+pub backwards : {r : ℕ} (there back : ChainCall r) → back .lengths ≡ take r (there .answer .lengths) → back .words ≡ there .words-after → back .swaps ≡ reverse (there .swaps)
     → there .answer .number ≡ 0 → chainNeed (there .lengths) (there .swaps) ≤ length (back .scratch)
     → Restored (there .lengths) (there .words) (back .answer) (back .words-after)
 backwards there back e f g z room = demands.backwards (there .axes) (there .post) (promised back e g f refl) z room
 
 -- and through the scratch that the chain left, which is enough, it leaves that as it is
-pub backwards-scratch : {r : ℕ} (there back : ChainCall r) → back .lengths ≡ take r (there .answer .lens) → back .words ≡ there .words-after → back .scratch ≡ there .scratch-after
+pub backwards-scratch : {r : ℕ} (there back : ChainCall r) → back .lengths ≡ take r (there .answer .lengths) → back .words ≡ there .words-after → back .scratch ≡ there .scratch-after
     → back .swaps ≡ reverse (there .swaps) → there .answer .number ≡ 0
     → Restored (there .lengths) (there .words) (back .answer) (back .words-after) × (back .scratch-after ≡ there .scratch-after)
 backwards-scratch there back e f s g z = demands.backwards-scratch (there .axes) (there .post) (promised back e g f s) z

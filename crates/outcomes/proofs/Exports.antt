@@ -77,16 +77,16 @@ pub from-tiles-once : Once exports.zib_from_tiles.Kinds.ps exports.zib_from_tile
 from-tiles-once t = let (x, y, z) = tiles.OneOutcome.from-tiles-once (t .args .1 .1 .0) (t .args .1 .1 .1 .0) (t .args .1 .1 .1 .1 .0) (t .args .1 .1 .1 .1 .1 .0) (t .first) (t .second) in (x, λ i. (y i, (z i, _)))
 
 pub chain-once : Once exports.zib_chain.Kinds.ps exports.zib_chain.Kinds.r exports.zib_chain.Reads.Post
-chain-once t = let (x, y, z) = axes.OneOutcome.chain-once (reads (t .args .1 .1 .0 .lens) (search needs) (omega arith)) (t .first) (t .second) in (x, λ i. (y i, (z i, _)))
+chain-once t = let (x, y, z) = axes.OneOutcome.chain-once (reads (t .args .1 .1 .0 .lengths) (search needs) (omega arith)) (t .first) (t .second) in (x, λ i. (y i, (z i, _)))
 
 pub chain5-once : Once exports.zib_chain5.Kinds.ps exports.zib_chain5.Kinds.r exports.zib_chain5.Reads.Post
-chain5-once t = let (x, y, z) = axes.OneOutcome.chain-once (reads (t .args .1 .1 .0 .lens) (search needs) (omega arith)) (t .first) (t .second) in (x, λ i. (y i, (z i, _)))
+chain5-once t = let (x, y, z) = axes.OneOutcome.chain-once (reads (t .args .1 .1 .0 .lengths) (search needs) (omega arith)) (t .first) (t .second) in (x, λ i. (y i, (z i, _)))
 
 pub request-once : Once exports.zib_request.Kinds.ps exports.zib_request.Kinds.r exports.zib_request.Reads.Post
-request-once t = let (x, y, z) = axes.OneOutcome.request-once (reads (t .args .1 .1 .0 .lens) (search needs) (omega arith)) (t .first) (t .second) in (x, λ i. (y i, (z i, _)))
+request-once t = let (x, y, z) = axes.OneOutcome.request-once (reads (t .args .1 .1 .0 .lengths) (search needs) (omega arith)) (t .first) (t .second) in (x, λ i. (y i, (z i, _)))
 
 pub request5-once : Once exports.zib_request5.Kinds.ps exports.zib_request5.Kinds.r exports.zib_request5.Reads.Post
-request5-once t = let (x, y, z) = axes.OneOutcome.request-once (reads (t .args .1 .1 .0 .lens) (search needs) (omega arith)) (t .first) (t .second) in (x, λ i. (y i, (z i, _)))
+request5-once t = let (x, y, z) = axes.OneOutcome.request-once (reads (t .args .1 .1 .0 .lengths) (search needs) (omega arith)) (t .first) (t .second) in (x, λ i. (y i, (z i, _)))
 
 pub plan-once : Once exports.zib_plan.Kinds.ps exports.zib_plan.Kinds.r exports.zib_plan.Reads.Post
 plan-once t = (plans.OneOutcome.plan-once (t .first) (t .second), refl)

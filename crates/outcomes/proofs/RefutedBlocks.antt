@@ -81,8 +81,8 @@ request r ds release k b s =
 abbrev place : Block Answer → List ℕ
 place o = o .answer .place ∷ []
 
-abbrev lens : Block Answer → List ℕ
-lens o = o .answer .lens
+abbrev lengths : Block Answer → List ℕ
+lengths o = o .answer .lengths
 
 abbrev order : Block Answer → List ℕ
 order o = o .answer .order ∷ []
@@ -281,7 +281,7 @@ axes =
     ∷ wrong "chain/equal-lengths-skipped" (chain 4 (1 ∷ 1 ∷ 2 ∷ 2 ∷ []) (2 ∷ []) (upto 4) nines) buffer (upto 4)
     -- an order read as where each axis goes: 0, 1, 2 names order 9, and not order 18 with its words, lengths and number
     ∷ wrong "chain/words-of-the-inverse" ninth buffer six
-    ∷ wrong "chain/lengths-of-the-inverse" ninth lens (1 ∷ 2 ∷ 3 ∷ 1 ∷ 0 ∷ [])
+    ∷ wrong "chain/lengths-of-the-inverse" ninth lengths (1 ∷ 2 ∷ 3 ∷ 1 ∷ 0 ∷ [])
     ∷ wrong "chain/number-of-the-inverse" ninth order (18 ∷ [])
     ∷ wrong "chain/scratch-left" chained scratch nines
     ∷ wrong "chain/scratch-too-far" chained scratch (replicate 4 0)
@@ -297,7 +297,7 @@ axes =
     -- two swaps above 2: the place is that of the first, no word changes, and the lengths are 0
     ∷ wrong "chain/place-of-the-last-bad-swap" (chain 4 flat (3 ∷ 3 ∷ []) six nines) place (1 ∷ [])
     ∷ wrong "chain/refusal-touches-a-word" (chain 4 flat (3 ∷ 3 ∷ []) six nines) buffer (1 ∷ 1 ∷ 2 ∷ 3 ∷ 4 ∷ 5 ∷ [])
-    ∷ wrong "chain/refusal-answers-lengths" (chain 4 flat (3 ∷ 3 ∷ []) six nines) lens (1 ∷ 1 ∷ 2 ∷ 3 ∷ 0 ∷ [])
+    ∷ wrong "chain/refusal-answers-lengths" (chain 4 flat (3 ∷ 3 ∷ []) six nines) lengths (1 ∷ 1 ∷ 2 ∷ 3 ∷ 0 ∷ [])
     ∷ gives "chain/thirty-two-refused" (chain 4 flat (replicate 32 0) six nines) 5
     ∷ gives "chain/thirty-three-accepted" (chain 4 flat (replicate 33 0) six nines) 0
     -- the need of scratch: a partner of length 1 makes a swap need nothing; the length 1 itself is not counted; the longest axis is asked for where the chain
@@ -324,12 +324,12 @@ axes =
     ∷ gives "chain/fifth-multiplied-in" (chain 4 (and-fifth 7) (2 ∷ []) six nines) 3
     ∷ gives "chain/fifth-of-0-refused" (chain 4 (and-fifth 0) (2 ∷ []) six nines) 1
     ∷ gives "chain/huge-fifth-refused" (chain 4 (and-fifth 18446744073709551615) (2 ∷ []) six nines) 1
-    ∷ wrong "chain/fifth-unchanged" (chain 4 (and-fifth 7) (2 ∷ []) six nines) lens (1 ∷ 1 ∷ 3 ∷ 2 ∷ 7 ∷ [])
-    ∷ wrong "chain/refusal-gives-the-fifth" (chain 4 (and-fifth 7) (2 ∷ []) [] nines) lens (0 ∷ 0 ∷ 0 ∷ 0 ∷ 7 ∷ [])
+    ∷ wrong "chain/fifth-unchanged" (chain 4 (and-fifth 7) (2 ∷ []) six nines) lengths (1 ∷ 1 ∷ 3 ∷ 2 ∷ 7 ∷ [])
+    ∷ wrong "chain/refusal-gives-the-fifth" (chain 4 (and-fifth 7) (2 ∷ []) [] nines) lengths (0 ∷ 0 ∷ 0 ∷ 0 ∷ 7 ∷ [])
     ∷ gives "chain/swap-3-accepted" (chain 4 (and-fifth 7) (3 ∷ []) six nines) 0
     ∷ refuses "chain5/refuses-always" chained-five
     ∷ wrong "chain5/moves-nothing" chained-five buffer six
-    ∷ wrong "chain5/gives-four-lengths" chained-five lens (1 ∷ 1 ∷ 1 ∷ 3 ∷ 0 ∷ [])
+    ∷ wrong "chain5/gives-four-lengths" chained-five lengths (1 ∷ 1 ∷ 1 ∷ 3 ∷ 0 ∷ [])
     ∷ wrong "chain5/first-swap-moves-the-rest-relabel" (chain 5 five (3 ∷ 3 ∷ []) six nines) buffer (0 ∷ 3 ∷ 1 ∷ 4 ∷ 2 ∷ 5 ∷ [])
     ∷ gives "chain5/swap-3-refused" chained-five 6
     ∷ gives "chain5/swap-4-accepted" (chain 5 five (4 ∷ []) six nines) 0
@@ -342,7 +342,7 @@ axes =
     ∷ gives "request/fixed-answer" (request 4 tall 1 24 six nines) (asked .right .answer .number)
     -- the order read as where each axis goes, 18 for 9: no word moves
     ∷ wrong "request/words-of-the-inverse" asked buffer six
-    ∷ wrong "request/lengths-of-the-inverse" asked lens (1 ∷ 2 ∷ 3 ∷ 1 ∷ 0 ∷ [])
+    ∷ wrong "request/lengths-of-the-inverse" asked lengths (1 ∷ 2 ∷ 3 ∷ 1 ∷ 0 ∷ [])
     ∷ wrong "request/number-of-the-inverse" asked order (18 ∷ [])
     ∷ wrong "request/swap-count-invented" asked count (1 ∷ [])
     ∷ wrong "request/scratch-left" asked scratch nines
@@ -367,11 +367,11 @@ axes =
     -- release 2 read as release 1: order 18 moves no word of this block, and leaves other lengths; the number of the order that was named answered, not the one
     -- that was asked for
     ∷ wrong "request/words-of-release-1" released buffer six
-    ∷ wrong "request/lengths-of-release-1" released lens (1 ∷ 2 ∷ 3 ∷ 1 ∷ 0 ∷ [])
+    ∷ wrong "request/lengths-of-release-1" released lengths (1 ∷ 2 ∷ 3 ∷ 1 ∷ 0 ∷ [])
     ∷ wrong "request/number-of-release-1" released order (9 ∷ [])
     ∷ wrong "request/released-scratch-too-far" released scratch (replicate 4 0)
     -- release 1 read as release 2: number 18 names order 18
-    ∷ wrong "request/release-1-turned" (request 4 tall 1 18 six nines) lens (3 ∷ 1 ∷ 1 ∷ 2 ∷ 0 ∷ [])
+    ∷ wrong "request/release-1-turned" (request 4 tall 1 18 six nines) lengths (3 ∷ 1 ∷ 1 ∷ 2 ∷ 0 ∷ [])
     ∷ gives "request/release-0-accepted" (request 4 tall 0 9 six nines) 0
     ∷ gives "request/release-3-accepted" (request 4 tall 3 9 six nines) 0
     ∷ gives "request/huge-release-accepted" (request 4 tall 18446744073709551615 9 six nines) 0
@@ -382,7 +382,7 @@ axes =
     -- order 24 is 10234, and not 02134
     ∷ wrong "request5/order-24-moves-nothing" asked-five buffer six
     -- in release 2 number 9 names 04123, and not 02341
-    ∷ wrong "request5/release-2-read-as-1" (request 5 (1 ∷ 2 ∷ 3 ∷ 1 ∷ 1 ∷ []) 2 9 six nines) lens (1 ∷ 3 ∷ 1 ∷ 1 ∷ 2 ∷ [])
+    ∷ wrong "request5/release-2-read-as-1" (request 5 (1 ∷ 2 ∷ 3 ∷ 1 ∷ 1 ∷ []) 2 9 six nines) lengths (1 ∷ 3 ∷ 1 ∷ 1 ∷ 2 ∷ [])
     ∷ gives "request5/order-24-refused" asked-five 7
     ∷ gives "request5/order-120-accepted" (request 5 tall-five 1 120 six nines) 0
     ∷ late "request5/seven-before-fourteen" (request 5 tall-five 3 120 six nines) 7 14

@@ -160,8 +160,8 @@ long-sheets-refuted = refuted long-sheets refl
 abbrev result-place : Slice ResultSheet → List ℕ
 result-place o = o .answer .place ∷ []
 
-abbrev result-lens : Slice ResultSheet → List ℕ
-result-lens o = o .answer .lens
+abbrev result-lengths : Slice ResultSheet → List ℕ
+result-lengths o = o .answer .lengths
 
 abbrev release : Slice ResultSheet → List ℕ
 release o = o .answer .release ∷ []
@@ -192,7 +192,7 @@ results =
     ∷ wrong "read_result/order-as-place" result result-place (1 ∷ [])
     ∷ wrong "read_result/order-lost" result order (0 ∷ [])
     ∷ wrong "read_result/release-invented" result release (1 ∷ [])
-    ∷ wrong "read_result/other-lengths" result result-lens (1 ∷ 1 ∷ 2 ∷ 3 ∷ [])
+    ∷ wrong "read_result/other-lengths" result result-lengths (1 ∷ 1 ∷ 2 ∷ 3 ∷ [])
     ∷ wrong "read_result/stores-nothing" result words nines
     ∷ wrong "read_result/later-word-changed" result words (1 ∷ 4 ∷ 2 ∷ 5 ∷ 3 ∷ 6 ∷ 0 ∷ [])
     -- the release lost, the order read as 18, the release taken for the order

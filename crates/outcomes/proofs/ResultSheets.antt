@@ -90,17 +90,17 @@ written-is-read {release} {ds} {order} {words} {out} {w} {out′} {buffer} {r} {
 -- every accepted sheet is the one that the writer for its release writes for those values, byte for byte, in any buffer that has room for it: for the
 -- answered lengths, release and order number and for any words that begin with those stored
 pub read-is-written : {buffer bytes : List ℕ} {r : ResultSheet} {buffer′ words out : List ℕ} {w : Written} {out′ : List ℕ}
-    → ResultReadAs buffer bytes r buffer′ → r .number ≡ 0 → volume (r .lens) ≤ length words → take (volume (r .lens)) words ≡ take (volume (r .lens)) buffer′
-    → length bytes ≤ length out → WrittenFor (r .release) (r .lens) (r .order) words out w out′
+    → ResultReadAs buffer bytes r buffer′ → r .number ≡ 0 → volume (r .lengths) ≤ length words → take (volume (r .lengths)) words ≡ take (volume (r .lengths)) buffer′
+    → length bytes ≤ length out → WrittenFor (r .release) (r .lengths) (r .order) words out w out′
     → (w .number ≡ 0) × (w .count ≡ length bytes) × (out′ ≡ bytes ++ drop (length bytes) out)
 unfolding resultBy
 read-is-written {buffer} {bytes} {r} {buffer′} {words} {out} {w} {out′} p z enough same room q =
     let h = read-is-right p z in
-    let said = resultBy (r .lens) (r .release) (r .order) words in
+    let said = resultBy (r .lengths) (r .release) (r .order) words in
     let text : bytes ≡ said =
-    h .right .text ∙ ap (resultBy (r .lens) (r .release) (r .order)) (sym same) ∙ result-first (r .lens) (r .release) (r .order) words (h .right .axes) enough in
-    let n : numberFor (r .release) (r .lens) (r .order) words out ≡ 0 =
-    zero-for-it (r .release) (r .lens) (r .order) words out (record { lengths = h .right .lengths; few = h .right .few-words; enough = enough })
+    h .right .text ∙ ap (resultBy (r .lengths) (r .release) (r .order)) (sym same) ∙ result-first (r .lengths) (r .release) (r .order) words (h .right .axes) enough in
+    let n : numberFor (r .release) (r .lengths) (r .order) words out ≡ 0 =
+    zero-for-it (r .release) (r .lengths) (r .order) words out (record { lengths = h .right .lengths; few = h .right .few-words; enough = enough })
     (h .release) (h .known) (rw text at room) in
     let full = in-full said out n (q .answers) (q .bytes) in
     (ap (λ (s : Written). s .number) (q .answers) ∙ n, rw text (full .0), rw text (full .1))
@@ -116,15 +116,15 @@ accepts-exactly {buffer} {bytes} {r} {buffer′} p = (forth, back)
         let h = g .right in
         record {
           release = r .release;
-          ds = r .lens;
+          ds = r .lengths;
           order = r .order;
-          words = take (volume (r .lens)) buffer′;
+          words = take (volume (r .lengths)) buffer′;
           out = bytes;
           four = h .axes;
           held = h .small;
           room = h .room;
           accepted =
-              zero-for-it (r .release) (r .lens) (r .order) (take (volume (r .lens)) buffer′) bytes
+              zero-for-it (r .release) (r .lengths) (r .order) (take (volume (r .lengths)) buffer′) bytes
               (record { lengths = h .lengths; few = h .few-words; enough = omega (arith, h .block) }) (g .release) (g .known)
               (omega (arith, ap length (h .text)));
           text = h .text;
@@ -144,13 +144,13 @@ pub comes-back : (w : WriteCall) (r : ReadResultCall) → w .answer .number ≡ 
 comes-back w r z e room = written-is-read (w .four) (for-none (w .post)) z room (rw e at (r .post))
 
 -- what loads without a release is written for the loaded values byte for byte
-pub goes-out : (r : ReadResultCall) (w : WriteCall) → r .answer .number ≡ 0 → r .answer .release ≡ 0 → w .lengths ≡ r .answer .lens
-    → w .order ≡ r .answer .order → volume (r .answer .lens) ≤ length (w .words)
-    → take (volume (r .answer .lens)) (w .words) ≡ take (volume (r .answer .lens)) (r .buffer-after) → length (r .bytes) ≤ length (w .out)
+pub goes-out : (r : ReadResultCall) (w : WriteCall) → r .answer .number ≡ 0 → r .answer .release ≡ 0 → w .lengths ≡ r .answer .lengths
+    → w .order ≡ r .answer .order → volume (r .answer .lengths) ≤ length (w .words)
+    → take (volume (r .answer .lengths)) (w .words) ≡ take (volume (r .answer .lengths)) (r .buffer-after) → length (r .bytes) ≤ length (w .out)
     → (w .answer .number ≡ 0) × (w .answer .count ≡ length (r .bytes)) × (w .out-after ≡ r .bytes ++ drop (length (r .bytes)) (w .out))
 goes-out r w z none e f enough same room =
-    let post : WrittenAs (r .answer .lens) (r .answer .order) (w .words) (w .out) (w .answer) (w .out-after) = rw (← e, ← f) (w .post) in
-    let written : WrittenFor (r .answer .release) (r .answer .lens) (r .answer .order) (w .words) (w .out) (w .answer) (w .out-after) = rw none (for-none post) in
+    let post : WrittenAs (r .answer .lengths) (r .answer .order) (w .words) (w .out) (w .answer) (w .out-after) = rw (← e, ← f) (w .post) in
+    let written : WrittenFor (r .answer .release) (r .answer .lengths) (r .answer .order) (w .words) (w .out) (w .answer) (w .out-after) = rw none (for-none post) in
     read-is-written (r .post) z enough same room written
 
 -- what was written with its release loads with that release
@@ -164,11 +164,11 @@ comes-back-released w r z e room =
     written-is-read (w .four) (for-release (one-of-two (w .release) known .0) (w .post)) z room (rw e at (r .post))
 
 -- what loads with a release is written with it byte for byte
-pub goes-out-released : (r : ReadResultCall) (w : WriteReleaseCall) → r .answer .number ≡ 0 → (r .answer .release ≡ 0 → ⊥) → w .lengths ≡ r .answer .lens
-    → w .release ≡ r .answer .release → w .order ≡ r .answer .order → volume (r .answer .lens) ≤ length (w .words)
-    → take (volume (r .answer .lens)) (w .words) ≡ take (volume (r .answer .lens)) (r .buffer-after) → length (r .bytes) ≤ length (w .out)
+pub goes-out-released : (r : ReadResultCall) (w : WriteReleaseCall) → r .answer .number ≡ 0 → (r .answer .release ≡ 0 → ⊥) → w .lengths ≡ r .answer .lengths
+    → w .release ≡ r .answer .release → w .order ≡ r .answer .order → volume (r .answer .lengths) ≤ length (w .words)
+    → take (volume (r .answer .lengths)) (w .words) ≡ take (volume (r .answer .lengths)) (r .buffer-after) → length (r .bytes) ≤ length (w .out)
     → (w .answer .number ≡ 0) × (w .answer .count ≡ length (r .bytes)) × (w .out-after ≡ r .bytes ++ drop (length (r .bytes)) (w .out))
 goes-out-released r w z some e g f enough same room =
-    let post : ReleaseWrittenAs (r .answer .lens) (r .answer .release) (r .answer .order) (w .words) (w .out) (w .answer) (w .out-after) =
+    let post : ReleaseWrittenAs (r .answer .lengths) (r .answer .release) (r .answer .order) (w .words) (w .out) (w .answer) (w .out-after) =
     rw (← e, ← g, ← f) (w .post) in
     read-is-written (r .post) z enough same room (for-release some post)

@@ -86,28 +86,28 @@ module _ (κs : Lfts 3) where
   pub of-chain : (args : Dens κs axes.chain.Kinds.ps) → GoodsP κs axes.chain.Kinds.ps args → (answer : Answer)
       (exit : AtExit (endedOf 3 axes.chain.Kinds.ps axes.chain.Kinds.r) κs) → axes.chain.Reads.Post κs args answer exit → ChainCall 4
   of-chain args good answer exit post = record {
-    lengths = take 4 (args .1 .1 .0 .lens);
+    lengths = take 4 (args .1 .1 .0 .lengths);
     swaps = args .1 .1 .1 .0 .now;
     words = args .0 .now;
     scratch = args .1 .0 .now;
     answer = answer;
     words-after = exit .0 .now;
     scratch-after = exit .1 .0 .now;
-    axes = reads (args .1 .1 .0 .lens) (search needs) (omega arith);
+    axes = reads (args .1 .1 .0 .lengths) (search needs) (omega arith);
     post = post;
   }
 
   pub of-chain5 : (args : Dens κs axes.chain5.Kinds.ps) → GoodsP κs axes.chain5.Kinds.ps args → (answer : Answer)
       (exit : AtExit (endedOf 3 axes.chain5.Kinds.ps axes.chain5.Kinds.r) κs) → axes.chain5.Reads.Post κs args answer exit → ChainCall 5
   of-chain5 args good answer exit post = record {
-    lengths = take 5 (args .1 .1 .0 .lens);
+    lengths = take 5 (args .1 .1 .0 .lengths);
     swaps = args .1 .1 .1 .0 .now;
     words = args .0 .now;
     scratch = args .1 .0 .now;
     answer = answer;
     words-after = exit .0 .now;
     scratch-after = exit .1 .0 .now;
-    axes = reads (args .1 .1 .0 .lens) (search needs) (omega arith);
+    axes = reads (args .1 .1 .0 .lengths) (search needs) (omega arith);
     post = post;
   }
 
@@ -115,7 +115,7 @@ module _ (κs : Lfts 2) where
   pub of-request : (args : Dens κs axes.request.Kinds.ps) → GoodsP κs axes.request.Kinds.ps args → (answer : Answer)
       (exit : AtExit (endedOf 2 axes.request.Kinds.ps axes.request.Kinds.r) κs) → axes.request.Reads.Post κs args answer exit → RequestCall 4
   of-request args good answer exit post = record {
-    lengths = take 4 (args .1 .1 .0 .lens);
+    lengths = take 4 (args .1 .1 .0 .lengths);
     release = args .1 .1 .1 .0;
     order = args .1 .1 .1 .1 .0;
     words = args .0 .now;
@@ -123,14 +123,14 @@ module _ (κs : Lfts 2) where
     answer = answer;
     words-after = exit .0 .now;
     scratch-after = exit .1 .0 .now;
-    axes = reads (args .1 .1 .0 .lens) (search needs) (omega arith);
+    axes = reads (args .1 .1 .0 .lengths) (search needs) (omega arith);
     post = post;
   }
 
   pub of-request5 : (args : Dens κs axes.request5.Kinds.ps) → GoodsP κs axes.request5.Kinds.ps args → (answer : Answer)
       (exit : AtExit (endedOf 2 axes.request5.Kinds.ps axes.request5.Kinds.r) κs) → axes.request5.Reads.Post κs args answer exit → RequestCall 5
   of-request5 args good answer exit post = record {
-    lengths = take 5 (args .1 .1 .0 .lens);
+    lengths = take 5 (args .1 .1 .0 .lengths);
     release = args .1 .1 .1 .0;
     order = args .1 .1 .1 .1 .0;
     words = args .0 .now;
@@ -138,7 +138,7 @@ module _ (κs : Lfts 2) where
     answer = answer;
     words-after = exit .0 .now;
     scratch-after = exit .1 .0 .now;
-    axes = reads (args .1 .1 .0 .lens) (search needs) (omega arith);
+    axes = reads (args .1 .1 .0 .lengths) (search needs) (omega arith);
     post = post;
   }
 

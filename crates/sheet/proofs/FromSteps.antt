@@ -63,7 +63,7 @@ module _ {second : List ℕ → Verdict} {buffer bytes ds : List ℕ} {number pl
       rows-refused n e =
           rw (rows .kept n) (page-refused (rw (first .right z, read .step .right z′, rows .judged .wrong n)) e)
 
-      pub all-read : line ≡ 0 → PageAs second buffer bytes (record { number = 0; place = 0; lens = ds; numbers = numbers; count = count }) buffer′
+      pub all-read : line ≡ 0 → PageAs second buffer bytes (record { number = 0; place = 0; lengths = ds; numbers = numbers; count = count }) buffer′
       unfolding meaningBy
       all-read o =
           let words = wordsOf (rowLines 3 (rowCount ds) (rowWidth ds) (drop next′ bytes)) in
@@ -78,11 +78,11 @@ module _ {second : List ℕ → Verdict} {buffer bytes ds : List ℕ} {number pl
 -- the answers of the two readers, made of what both read
 module _ {buffer bytes buffer′ : List ℕ} {p : Page} where
   pub as-sheet : PageAs chainLine buffer bytes p buffer′
-      → ReadAs buffer bytes (record { number = p .number; place = p .place; lens = p .lens; swaps = p .numbers; count = p .count }) buffer′
+      → ReadAs buffer bytes (record { number = p .number; place = p .place; lengths = p .lengths; swaps = p .numbers; count = p .count }) buffer′
   as-sheet h = record { answers = ap sheetOf (h .answers) ∙ same (meaningBy chainLine buffer bytes); words = h .words }
     where
       sheetOf : Page → Sheet
-      sheetOf q = record { number = q .number; place = q .place; lens = q .lens; swaps = q .numbers; count = q .count }
+      sheetOf q = record { number = q .number; place = q .place; lengths = q .lengths; swaps = q .numbers; count = q .count }
 
       same : (o : Outcome) → sheetOf (pageOf o) ≡ answer o
       same (Outcome.refused number place) = refl
@@ -91,12 +91,12 @@ module _ {buffer bytes buffer′ : List ℕ} {p : Page} where
   -- a page with two numbers names a release, one with fewer names none
   pub as-released : PageAs orderLine buffer bytes p buffer′ → 1 < p .count
       → ResultReadAs buffer bytes
-      (record { number = p .number; place = p .place; lens = p .lens; release = getD (p .numbers) 0 0; order = getD (p .numbers) 1 0 }) buffer′
+      (record { number = p .number; place = p .place; lengths = p .lengths; release = getD (p .numbers) 0 0; order = getD (p .numbers) 1 0 }) buffer′
   as-released h two =
       record { answers = ap resultOf (h .answers) ∙ same (meaningBy orderLine buffer bytes) (rw (h .answers) at two); words = h .words }
     where
       resultOf : Page → ResultSheet
-      resultOf q = record { number = q .number; place = q .place; lens = q .lens; release = getD (q .numbers) 0 0; order = getD (q .numbers) 1 0 }
+      resultOf q = record { number = q .number; place = q .place; lengths = q .lengths; release = getD (q .numbers) 0 0; order = getD (q .numbers) 1 0 }
 
       same : (o : Outcome) → 1 < pageOf o .count → resultOf (pageOf o) ≡ resultAnswer o
       same (Outcome.refused number place) k = absurd (omega arith)
@@ -106,12 +106,12 @@ module _ {buffer bytes buffer′ : List ℕ} {p : Page} where
 
   pub as-result : PageAs orderLine buffer bytes p buffer′ → p .count ≤ 1
       → ResultReadAs buffer bytes
-      (record { number = p .number; place = p .place; lens = p .lens; release = 0; order = getD (p .numbers) 0 0 }) buffer′
+      (record { number = p .number; place = p .place; lengths = p .lengths; release = 0; order = getD (p .numbers) 0 0 }) buffer′
   as-result h one =
       record { answers = ap resultOf (h .answers) ∙ same (meaningBy orderLine buffer bytes) (rw (h .answers) at one); words = h .words }
     where
       resultOf : Page → ResultSheet
-      resultOf q = record { number = q .number; place = q .place; lens = q .lens; release = 0; order = getD (q .numbers) 0 0 }
+      resultOf q = record { number = q .number; place = q .place; lengths = q .lengths; release = 0; order = getD (q .numbers) 0 0 }
 
       same : (o : Outcome) → pageOf o .count ≤ 1 → resultOf (pageOf o) ≡ resultAnswer o
       same (Outcome.refused number place) k = refl

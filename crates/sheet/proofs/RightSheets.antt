@@ -18,7 +18,7 @@ accepted-answer {buffer} p m =
     let a = p .answers ∙ ap answer m in (
       ap (λ (s : Sheet). s .number) a,
       record {
-        lengths = ap (λ (s : Sheet). s .lens) a;
+        lengths = ap (λ (s : Sheet). s .lengths) a;
         swaps = ap (λ (s : Sheet). s .swaps) a;
         count = ap (λ (s : Sheet). s .count) a;
         stored = p .words ∙ ap (λ (o : Outcome). kept o buffer) m;

@@ -91,12 +91,12 @@ secondLine false = chainLine
 
 -- a page that is refused: its other fields are 0
 abbrev pub noPage : ℕ → ℕ → Page
-noPage number place = record { number = number; place = place; lens = replicate 4 0; numbers = replicate 32 0; count = 0 }
+noPage number place = record { number = number; place = place; lengths = replicate 4 0; numbers = replicate 32 0; count = 0 }
 
 -- what both readers read: the lengths, the numbers of line 2 before zeros, and their count
 abbrev pub pageOf : Outcome → Page
 pageOf (Outcome.refused number place) = noPage number place
-pageOf (Outcome.accepted ds numbers words) = record { number = 0; place = 0; lens = ds; numbers = padded numbers; count = length numbers }
+pageOf (Outcome.accepted ds numbers words) = record { number = 0; place = 0; lengths = ds; numbers = padded numbers; count = length numbers }
 
 -- the page is that of the meaning, and the words of a right one are stored
 pub record PageAs (second : List ℕ → Verdict) (buffer bytes : List ℕ) (page : Page) (buffer′ : List ℕ) : Type 0 where

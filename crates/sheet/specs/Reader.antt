@@ -9,8 +9,8 @@ use Rattle.sheet.specs.declared.Sheet.{Sheet}
 
 -- the answer holds lengths, 32 swap places and the chain's length; a refusal's other fields are 0
 abbrev pub answer : Outcome → Sheet
-answer (Outcome.refused number place) = record { number = number; place = place; lens = replicate 4 0; swaps = replicate 32 0; count = 0 }
-answer (Outcome.accepted ds chain words) = record { number = 0; place = 0; lens = ds; swaps = padded chain; count = length chain }
+answer (Outcome.refused number place) = record { number = number; place = place; lengths = replicate 4 0; swaps = replicate 32 0; count = 0 }
+answer (Outcome.accepted ds chain words) = record { number = 0; place = 0; lengths = ds; swaps = padded chain; count = length chain }
 
 -- the words are stored from the buffer's start only when the whole sheet is right; later words stay
 abbrev pub kept : Outcome → List ℕ → List ℕ
@@ -24,7 +24,7 @@ pub record ReadAs (buffer bytes : List ℕ) (answered : Sheet) (buffer′ : List
 
 -- what an accepted sheet is answered with: its lengths, its chain before zeros, the chain's length, and its words at the start
 pub record Answered (buffer : List ℕ) (answered : Sheet) (buffer′ ds chain words : List ℕ) : Type 0 where
-  pub lengths : answered .lens ≡ ds
+  pub lengths : answered .lengths ≡ ds
   pub swaps : answered .swaps ≡ padded chain
   pub count : answered .count ≡ length chain
   pub stored : buffer′ ≡ words ++ drop (length words) buffer

@@ -12,8 +12,8 @@ use Rattle.sheet.specs.declared.ResultSheet.{ResultSheet}
 
 -- the answer holds lengths, release, 0 where the sheet names none, and order number; a refusal's other fields are 0
 abbrev pub resultAnswer : Outcome → ResultSheet
-resultAnswer (Outcome.refused number place) = record { number = number; place = place; lens = replicate 4 0; release = 0; order = 0 }
-resultAnswer (Outcome.accepted ds numbers words) = record { number = 0; place = 0; lens = ds; release = lineRelease numbers; order = lineOrder numbers }
+resultAnswer (Outcome.refused number place) = record { number = number; place = place; lengths = replicate 4 0; release = 0; order = 0 }
+resultAnswer (Outcome.accepted ds numbers words) = record { number = 0; place = 0; lengths = ds; release = lineRelease numbers; order = lineOrder numbers }
 
 -- the promise of the reader of result sheets: the words are stored only when the whole sheet is right, as a sheet's are
 pub record ResultReadAs (buffer bytes : List ℕ) (answered : ResultSheet) (buffer′ : List ℕ) : Type 0 where
@@ -22,11 +22,11 @@ pub record ResultReadAs (buffer bytes : List ℕ) (answered : ResultSheet) (buff
 
 -- the answer to a result sheet that is right
 abbrev pub resultFound : List ℕ → ℕ → ℕ → ResultSheet
-resultFound ds release order = record { number = 0; place = 0; lens = ds; release = release; order = order }
+resultFound ds release order = record { number = 0; place = 0; lengths = ds; release = release; order = order }
 
 -- a result sheet that is accepted is right: it is the text of what was answered and stored
 pub record ReadRight (buffer bytes : List ℕ) (r : ResultSheet) (w : List ℕ) : Type 0 where
-  pub right : RightResult buffer bytes (r .lens) (orderNumbers (r .release) (r .order)) (take (volume (r .lens)) w)
+  pub right : RightResult buffer bytes (r .lengths) (orderNumbers (r .release) (r .order)) (take (volume (r .lengths)) w)
   pub release : r .release ≤ 2
   pub known : r .order ≤ 23
-  pub words : w ≡ take (volume (r .lens)) w ++ drop (volume (r .lens)) buffer
+  pub words : w ≡ take (volume (r .lengths)) w ++ drop (volume (r .lengths)) buffer

@@ -11,7 +11,7 @@ ghost use Rattle.sheet.specs.Private.{RefusedWith, VerdictAt, SecondAt, 
 pub struct Shape {
     pub number: u32,
     pub place: usize,
-    pub lens: [usize; 4],
+    pub lengths: [usize; 4],
     pub next: usize,
 }
 
@@ -31,7 +31,7 @@ fn no_shape(number: u32, place: usize) -> Shape
     Shape {
         number,
         place,
-        lens: [0; 4],
+        lengths: [0; 4],
         next: 0,
     }
 }
@@ -51,7 +51,7 @@ fn no_second(number: u32, place: usize) -> Second
 
 // Line 1, for this word buffer.
 pub(crate) fn shape_at(bytes: &[u8], words: &[u32]) -> Shape
-    ensures { λ r. ⌜ VerdictAt (now (bytes .entry)) (shapeLine (now (words .entry)) (now (bytes .entry))) (r .number) (r .place) (r .lens) (r .next) ⌝ }
+    ensures { λ r. ⌜ VerdictAt (now (bytes .entry)) (shapeLine (now (words .entry)) (now (bytes .entry))) (r .number) (r .place) (r .lengths) (r .next) ⌝ }
 {
     if 16384 < bytes.len() {
         return no_shape(9, 0);
@@ -61,15 +61,15 @@ pub(crate) fn shape_at(bytes: &[u8], words: &[u32]) -> Shape
         return no_shape(10, 1);
     }
     let v = values::values_at(bytes, 5, 4);
-    let lens = [v[0], v[1], v[2], v[3]];
-    let number = blocks::sheet_number(&lens, words);
+    let lengths = [v[0], v[1], v[2], v[3]];
+    let number = blocks::sheet_number(&lengths, words);
     if number != 0 {
         return no_shape(number, 0);
     }
     Shape {
         number: 0,
         place: 0,
-        lens,
+        lengths,
         next: first.next,
     }
 }

@@ -14,7 +14,7 @@ ghost use Rattle.sheet.specs.ResultReader.{ResultReadAs};
 pub struct Sheet {
     pub number: u32,
     pub place: usize,
-    pub lens: [usize; 4],
+    pub lengths: [usize; 4],
     pub swaps: [usize; 32],
     pub count: usize,
 }
@@ -24,7 +24,7 @@ pub struct Sheet {
 pub struct ResultSheet {
     pub number: u32,
     pub place: usize,
-    pub lens: [usize; 4],
+    pub lengths: [usize; 4],
     pub release: usize,
     pub order: usize,
 }
@@ -34,12 +34,12 @@ pub fn read(bytes: &[u8], words: &mut [u32]) -> Sheet
     ensures { λ r. ⌜ ReadAs (now (words .entry)) (now (bytes .entry)) r (now (words .exit)) ⌝ }
 {
     let page = whole::read_page(bytes, words, false);
-    let lens = page.lens;
+    let lengths = page.lengths;
     let swaps = page.numbers;
     Sheet {
         number: page.number,
         place: page.place,
-        lens,
+        lengths,
         swaps,
         count: page.count,
     }
@@ -50,13 +50,13 @@ pub fn read_result(bytes: &[u8], words: &mut [u32]) -> ResultSheet
     ensures { λ r. ⌜ ResultReadAs (now (words .entry)) (now (bytes .entry)) r (now (words .exit)) ⌝ }
 {
     let page = whole::read_page(bytes, words, true);
-    let lens = page.lens;
+    let lengths = page.lengths;
     let numbers = page.numbers;
     if 1 < page.count {
         return ResultSheet {
             number: page.number,
             place: page.place,
-            lens,
+            lengths,
             release: numbers[0],
             order: numbers[1],
         };
@@ -64,7 +64,7 @@ pub fn read_result(bytes: &[u8], words: &mut [u32]) -> ResultSheet
     ResultSheet {
         number: page.number,
         place: page.place,
-        lens,
+        lengths,
         release: 0,
         order: numbers[0],
     }

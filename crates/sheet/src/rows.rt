@@ -43,12 +43,12 @@ fn store_rows(bytes: &[u8], at: usize, count: usize, n: usize, words: &mut [u32]
 }
 
 // The rows of a block from `at` on, judged and then stored from the start of words: 0, or the number of the line that is wrong.
-pub(crate) fn rows_into(bytes: &[u8], at: usize, lens: [usize; 4], words: &mut [u32]) -> usize
-    requires { ⌜ (at ≤ length (now bytes)) × OnSheet lens (now words) ⌝ }
-    ensures { λ r. ⌜ RowsTaken (rowLines 3 (rowCount lens) (rowWidth lens) (drop at (now (bytes .entry)))) r (now (words .entry)) (now (words .exit)) ⌝ }
+pub(crate) fn rows_into(bytes: &[u8], at: usize, lengths: [usize; 4], words: &mut [u32]) -> usize
+    requires { ⌜ (at ≤ length (now bytes)) × OnSheet lengths (now words) ⌝ }
+    ensures { λ r. ⌜ RowsTaken (rowLines 3 (rowCount lengths) (rowWidth lengths) (drop at (now (bytes .entry)))) r (now (words .entry)) (now (words .exit)) ⌝ }
 {
-    let count = checks::words_of(&lens[..3]);
-    let n = lens[3];
+    let count = checks::words_of(&lengths[..3]);
+    let n = lengths[3];
     let wrong = rows_at(bytes, at, count, n);
     if wrong != 0 {
         return wrong;

@@ -8,7 +8,7 @@ ghost use Rattle.sheet.specs.Private.{secondLine, noPage, PageAs};
 pub struct Page {
     pub number: u32,
     pub place: usize,
-    pub lens: [usize; 4],
+    pub lengths: [usize; 4],
     pub numbers: [usize; 32],
     pub count: usize,
 }
@@ -20,7 +20,7 @@ fn no_page(number: u32, place: usize) -> Page
     Page {
         number,
         place,
-        lens: [0; 4],
+        lengths: [0; 4],
         numbers: [0; 32],
         count: 0,
     }
@@ -38,8 +38,8 @@ pub(crate) fn read_page(bytes: &[u8], words: &mut [u32], result: bool) -> Page
     if second.number != 0 {
         return no_page(second.number, second.place);
     }
-    let lens = first.lens;
-    let wrong = rows::rows_into(bytes, second.next, lens, words);
+    let lengths = first.lengths;
+    let wrong = rows::rows_into(bytes, second.next, lengths, words);
     if wrong != 0 {
         return no_page(10, wrong);
     }
@@ -47,7 +47,7 @@ pub(crate) fn read_page(bytes: &[u8], words: &mut [u32], result: bool) -> Page
     Page {
         number: 0,
         place: 0,
-        lens,
+        lengths,
         numbers,
         count: second.count,
     }

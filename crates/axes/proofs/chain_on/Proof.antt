@@ -16,15 +16,15 @@ use Rattle.axes.proofs.chain_on.Statement.{statement}
 use Rattle.axes.proofs.chain_on.Tie as tie
 
 module _ (x : tie.Start) where
-  five : length (x .args .shape .lens) ≡ 5
+  five : length (x .args .shape .lengths) ≡ 5
   five = search needs
 
   -- the lengths that are read
   abbrev lengths : List ℕ
-  lengths = take (x .args .axes) (x .args .shape .lens)
+  lengths = take (x .args .axes) (x .args .shape .lengths)
 
   axes : length lengths ≡ x .args .axes
-  axes = length-take-le (x .args .axes) (x .args .shape .lens) (omega (arith, five, x .pre .1))
+  axes = length-take-le (x .args .axes) (x .args .shape .lengths) (omega (arith, five, x .pre .1))
 
   -- the first of the checks that holds
   abbrev number : ℕ

@@ -20,4 +20,4 @@ exchange-at-spec =
     (search needs)
     (λ c. search needs)
     (search needs)
-    (λ c. let x : tie.Start = search in sym (exchange-set (x .args .k) (x .args .lens .now) (x .pre))))
+    (λ c. let x : tie.Start = search in sym (exchange-set (x .args .k) (x .args .lengths .now) (x .pre))))

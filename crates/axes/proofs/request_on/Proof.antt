@@ -31,15 +31,15 @@ few {r} f =
     (eq-or-ne r 4)
 
 module _ (x : tie.Start) where
-  five : length (x .args .shape .lens) ≡ 5
+  five : length (x .args .shape .lengths) ≡ 5
   five = search needs
 
   -- the lengths that are read
   abbrev lengths : List ℕ
-  lengths = take (x .args .axes) (x .args .shape .lens)
+  lengths = take (x .args .axes) (x .args .shape .lengths)
 
   axes : length lengths ≡ x .args .axes
-  axes = length-take-le (x .args .axes) (x .args .shape .lens) (omega (arith, five, x .pre .1))
+  axes = length-take-le (x .args .axes) (x .args .shape .lengths) (omega (arith, five, x .pre .1))
 
   abbrev room : List Check
   room = check 4 (shortScratch (planNeed (x .args .axes) lengths (x .args .release) (x .args .order)) (x .args .scratch .now)) ∷ []

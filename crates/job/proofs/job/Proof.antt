@@ -28,7 +28,7 @@ slice-aggregate-run c = let r : tie.After-read = search in sym (taken (r .read .
 run-requires : tie.Need-run-requires
 run-requires c κs = let r : tie.After-read = search in run-asks (taken (r .read .ensures) (search) .1)
 
-five : (a : tie.After-run) → length (a .run .result .lens) ≡ 5
+five : (a : tie.After-run) → length (a .run .result .lengths) ≡ 5
 five a = search needs
 
 returns-2 : tie.Need-returns-2
@@ -37,7 +37,7 @@ returns-2 c =
     let e : tie.Else1 = search in
     let r : tie.After-read = search in
     met-accepted (omega arith) (omega arith) (omega arith) (taken (r .read .ensures) (e .if1 .left) .1) (a .run .ensures)
-    (first-four (a .run .result .lens) (omega (arith, five a)))
+    (first-four (a .run .result .lengths) (omega (arith, five a)))
     (c .write-result .ensures)
 
 pub job-spec : {M : Type 1} → statement M

@@ -9,12 +9,12 @@ use Rattle.axes.proofs.Shape.first.Statement.{statement}
 use Rattle.axes.proofs.Shape.first.Tie as tie
 
 abbrev Inv-loop : tie.InvT-loop
-Inv-loop axes lens₀ k₀ lens k = Cleared axes lens₀ lens k
+Inv-loop axes lengths₀ k₀ lengths k = Cleared axes lengths₀ lengths k
 
 abbrev μ-loop : tie.MeasureT-loop
-μ-loop axes lens₀ k₀ lens k = 5 - k
+μ-loop axes lengths₀ k₀ lengths k = 5 - k
 
-five : (x : tie.Start Inv-loop μ-loop) → length (x .args .self .lens) ≡ 5
+five : (x : tie.Start Inv-loop μ-loop) → length (x .args .self .lengths) ≡ 5
 five x = search needs
 
 pub first-spec : {M : Type 1} → statement M

@@ -19,11 +19,11 @@ use Rattle.axes.proofs.chains.chain_number.Statement.{statement}
 use Rattle.axes.proofs.chains.chain_number.Tie as tie
 
 module _ (x : tie.Start) where
-  abbrev lens : List ℕ
-  lens = x .args .lens .now
+  abbrev lengths : List ℕ
+  lengths = x .args .lengths .now
 
   abbrev r : ℕ
-  r = length lens
+  r = length lengths
 
   abbrev swaps : List ℕ
   swaps = x .args .swaps .now
@@ -33,29 +33,29 @@ module _ (x : tie.Start) where
 
   -- the checks that are made last
   abbrev last : List Check
-  last = check 5 (longChain swaps) ∷ check 6 (badSwap r swaps) ∷ check 4 (shortScratch (chainNeed lens swaps) scratch) ∷ []
+  last = check 5 (longChain swaps) ∷ check 6 (badSwap r swaps) ∷ check 4 (shortScratch (chainNeed lengths swaps) scratch) ∷ []
 
   -- where those of the block find nothing they decide
-  module _ (z : firstOf (blockChecks lens (x .args .buf .now)) ≡ 0) where
-    decided : firstOf (chainChecks r lens (x .args .buf .now) scratch swaps) ≡ firstOf last
-    decided = by-last lens (x .args .buf .now) last refl z
+  module _ (z : firstOf (blockChecks lengths (x .args .buf .now)) ≡ 0) where
+    decided : firstOf (chainChecks r lengths (x .args .buf .now) scratch swaps) ≡ firstOf last
+    decided = by-last lengths (x .args .buf .now) last refl z
 
-    long : 32 < length swaps → 5 ≡ firstOf (chainChecks r lens (x .args .buf .now) scratch swaps)
+    long : 32 < length swaps → 5 ≡ firstOf (chainChecks r lengths (x .args .buf .now) scratch swaps)
     long h = sym (decided ∙ rw (lt-ltb 32 (length swaps) h))
 
-    bad : length swaps ≤ 32 → firstPlace (noSwap r) swaps < length swaps → 6 ≡ firstOf (chainChecks r lens (x .args .buf .now) scratch swaps)
+    bad : length swaps ≤ 32 → firstPlace (noSwap r) swaps < length swaps → 6 ≡ firstOf (chainChecks r lengths (x .args .buf .now) scratch swaps)
     bad h i = sym (decided ∙ rw (le-ltb 32 (length swaps) h, found-place (noSwap r) swaps i))
 
     -- and of these the last
     room : length swaps ≤ 32 → length swaps ≤ firstPlace (noSwap r) swaps
-        → firstOf (chainChecks r lens (x .args .buf .now) scratch swaps) ≡ cond (shortScratch (chainNeed lens swaps) scratch) 4 0
+        → firstOf (chainChecks r lengths (x .args .buf .now) scratch swaps) ≡ cond (shortScratch (chainNeed lengths swaps) scratch) 4 0
     room h i = decided ∙ rw (le-ltb 32 (length swaps) h, no-place (noSwap r) swaps i)
 
 returns : tie.Need-returns
 returns c =
     let n : tie.After-block-number = search in
     let x : tie.Start = search in
-    by-block (lens x) (x .args .buf .now) (last x) (n .block-number .ensures) (search)
+    by-block (lengths x) (x .args .buf .now) (last x) (n .block-number .ensures) (search)
 
 bad-swap : tie.Need-returns-3
 bad-swap c =
@@ -66,12 +66,12 @@ bad-swap c =
 returns-4 : tie.Need-returns-4
 returns-4 c =
     let x : tie.Start = search in
-    sym (room x (search via) (omega arith) (omega arith) ∙ rw (lt-ltb (length (scratch x)) (chainNeed (lens x) (swaps x)) (omega arith)))
+    sym (room x (search via) (omega arith) (omega arith) ∙ rw (lt-ltb (length (scratch x)) (chainNeed (lengths x) (swaps x)) (omega arith)))
 
 returns-5 : tie.Need-returns-5
 returns-5 c =
     let x : tie.Start = search in
-    sym (room x (search via) (omega arith) (omega arith) ∙ rw (le-ltb (length (scratch x)) (chainNeed (lens x) (swaps x)) (omega arith)))
+    sym (room x (search via) (omega arith) (omega arith) ∙ rw (le-ltb (length (scratch x)) (chainNeed (lengths x) (swaps x)) (omega arith)))
 
 pub chain-number-spec : {M : Type 1} → statement M
 chain-number-spec =

@@ -14,7 +14,7 @@ use Rattle.axes.proofs.chains.run.Tie as tie
 
 abbrev Inv-loop : tie.InvT-loop
 Inv-loop buf₀ scratch₀ axes swaps stands₀ order₀ i₀ i-end buf scratch stands order i =
-    (i-end ≡ length swaps) × (i ≤ length swaps) × Progress axes (take axes (stands₀ .lens)) swaps buf₀ scratch₀ i buf scratch (stands .lens) order
+    (i-end ≡ length swaps) × (i ≤ length swaps) × Progress axes (take axes (stands₀ .lengths)) swaps buf₀ scratch₀ i buf scratch (stands .lengths) order
 
 abbrev μ-loop : tie.MeasureT-loop
 μ-loop buf₀ scratch₀ axes swaps stands₀ order₀ i₀ i-end buf scratch stands order i = length swaps - i
@@ -27,13 +27,13 @@ abbrev Loop : Type 0
 Loop = tie.At-loop Inv-loop μ-loop
 
 module _ (x : Start) where
-  five : length (x .args .shape .lens) ≡ 5
+  five : length (x .args .shape .lengths) ≡ 5
   five = search needs
 
-  axes : length (take (x .args .axes) (x .args .shape .lens)) ≡ x .args .axes
-  axes = length-take-le (x .args .axes) (x .args .shape .lens) (omega (arith, five, x .pre .0 .1))
+  axes : length (take (x .args .axes) (x .args .shape .lengths)) ≡ x .args .axes
+  axes = length-take-le (x .args .axes) (x .args .shape .lengths) (omega (arith, five, x .pre .0 .1))
 
-  accepts : ChainAccepted (x .args .axes) (take (x .args .axes) (x .args .shape .lens)) (x .args .buf .now) (x .args .scratch .now) (x .args .swaps .now)
+  accepts : ChainAccepted (x .args .axes) (take (x .args .axes) (x .args .shape .lengths)) (x .args .buf .now) (x .args .scratch .now) (x .args .swaps .now)
   accepts = accepts-chain (x .args .axes) _ _ _ _ (x .pre .1)
 
   good : (i : ℕ) → i < length (x .args .swaps .now) → getD (x .args .swaps .now) i 0 + 1 < x .args .axes

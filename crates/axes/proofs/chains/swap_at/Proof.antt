@@ -14,7 +14,7 @@ use Rattle.axes.proofs.chains.swap_at.Statement.{statement}
 use Rattle.axes.proofs.chains.swap_at.Tie as tie
 
 slice-aggregate-words-of : tie.Need-slice-aggregate-words-of
-slice-aggregate-words-of c = let x : tie.Start = search in sym (length-take-le (x .args .k) (x .args .lens .now) (omega (arith, x .pre .place)))
+slice-aggregate-words-of c = let x : tie.Start = search in sym (length-take-le (x .args .k) (x .args .lengths .now) (omega (arith, x .pre .place)))
 
 returns : tie.Need-returns
 returns c =
@@ -22,7 +22,7 @@ returns c =
     let after : tie.After-words-of2 = search in
     let before : tie.After-words-of = search in
     let x : tie.Start = search in
-    let l = x .args .lens .now in
+    let l = x .args .lengths .now in
     let k = x .args .k in
     let end = take-all (length l - (k + 2)) (drop (k + 2) l) (omega (arith, length-drop (k + 2) l)) in
     let chunk = after .words-of2 .ensures ∙ ap (λ (t : List ℕ). capped (volume t)) end in
