@@ -190,7 +190,8 @@ fn smaller(x: usize, y: usize) -> usize
     y
 }
 
-// Scratch receives the first `until` words of the line, run by run: at place k the word of the place that the walk stands at, or home, there the word of place k.
+// Scratch receives the first `until` words of the line, run by run: at place k the word of the place that the walk then stands at, or, home, there the
+// word of place k.
 pub(crate) fn lift(
     buf: &[u32],
     scratch: &mut [u32],
