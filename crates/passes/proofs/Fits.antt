@@ -1,5 +1,4 @@
--- Every line of a block that lies in the buffer fits: its words lie in the buffer, scratch holds it, and its pass pairs its
--- places one to one (by the numbers of crate flat). And what a line leaves of scratch.
+-- Every line of a block that lies in the buffer fits: its words lie in the buffer, and scratch holds it. And what a line leaves of scratch.
 use mathlib.Core.Path.{_≡_, refl, sym, ap, _∙_, subst}
 use mathlib.Core.List.{List}
 use mathlib.Core.Logic.{⊎-elim}
@@ -13,12 +12,11 @@ use Rattle.lists.proofs.Decide.{lt-or-ge}
 use Rattle.refusals.proofs.Scratch.{need-entry}
 use Rattle.refusals.specs.Scratch.{need}
 use Rattle.flat.specs.Turn.{sides}
-use Rattle.flat.proofs.Sides.{sides-are, row1-lt, column2-lt, row3-lt, rows1-apart, columns-apart, rows3-apart}
-use Rattle.passes.specs.Lines.{column, row, lineAt, lineOf, lineCount, skipped, posOn, paired}
-use Rattle.passes.specs.PrivateScratch.{Grouped, Apart, Lain, Fits, Lies, Past, lineIn, linesIn}
+use Rattle.passes.specs.Lines.{column, row, lineAt, lineOf, lineCount, skipped, posOn}
+use Rattle.passes.specs.PrivateScratch.{Grouped, Lain, Fits, Lies, Past, lineIn, linesIn}
 use Rattle.passes.specs.declared.line.Line.{Line}
 use Rattle.passes.specs.declared.line.GroupedSides.{GroupedSides}
-use Rattle.passes.proofs.Gone.{lines-lt}
+use Rattle.passes.proofs.Gone.{in-pass, lines-lt}
 use Rattle.passes.proofs.Passed.{line1, line2, line3, skipped-few}
 
 -- what holds of the columns of passes 1 and 3 and of the rows of pass 2 holds of every line
@@ -44,26 +42,10 @@ module _ {m n : ℕ} {xs scratch : List ℕ} (hm : 0 < m) (hn : 0 < n) (y : Lies
       go true d i = record { inside = i; step = omega arith; room = y .columns; few = y .wide; near = omega arith; front = mul-le-mul {n₂ = 4096} {m₂ = 4096} (omega (arith, y .tall)) (y .wide) }
       go false d i = record { inside = i; step = hn; room = y .rows; few = y .tall; near = y .wide; front = omega (arith, y .wide) }
 
-  -- a column, whose pass pairs its rows by f
-  column-fits : (p j : ℕ) → eqb p 2 ≡ false → j < n → ((k : ℕ) → k < m → paired m n p j k < m) → Apart (paired m n p j) m
-      → Fits m n (column m n p j) xs scratch
-  column-fits p j e h w a = let lain = lain-in p j in record { of-pass = rw e (refl, h); lain = (rw e at lain) h; within = w; apart = a }
-
-  row-fits : (i : ℕ) → i < m → Fits m n (row n i) xs scratch
-  row-fits i h = record {
-    of-pass = (refl, h);
-    lain = lain-in 2 i h;
-    within = λ k d. column2-lt m n i k hn;
-    apart = λ j k a b. columns-apart (sides-are m n hm hn) i j k a b;
-  }
-
   pub line-fits : (t : ℕ) → t < n + m + n → Fits m n (lineAt m n t) xs scratch
   line-fits =
-      let s = sides-are m n hm hn in
-      every-line m n (λ l. Fits m n l xs scratch)
-      (λ j h. column-fits 1 j refl h (λ k d. row1-lt m n k j hm) (λ i k d e. rows1-apart s j i k d e))
-      row-fits
-      (λ j h. column-fits 3 j refl h (λ k d. row3-lt m n k j hm) (λ i k d e. rows3-apart s j i k h d e))
+      let in-its : (p t : ℕ) → t < linesIn m n p → Fits m n (lineIn m n p t) xs scratch = λ p t h. record { of-pass = in-pass m n p t h .0; lain = lain-in p t h } in
+      every-line m n (λ l. Fits m n l xs scratch) (in-its 1) (in-its 2) (in-its 3)
 
 -- a line is no longer than what the call needs of scratch
 pub side-need : (m n : ℕ) → (m ≤ need (sides m n)) × (n ≤ need (sides m n))

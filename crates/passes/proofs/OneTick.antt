@@ -1,59 +1,33 @@
--- Any two outcomes of a tick coincide: a line's pass permutes its places, so each place of the line receives a word, and every other word
--- stands. That a map which permutes the places leaves none out is the law of crate orbits that each comes home.
-use mathlib.Core.Path.{_≡_, sym, ap, ap₂, _∙_}
-use mathlib.Core.Bool.{Bool, true, false, cond}
+-- Any two outcomes of a tick coincide: each place of the line receives the word that its pass says, and every other word stands.
+use mathlib.Core.Path.{_≡_, sym, ap₂, _∙_}
 use mathlib.Core.List.{List}
 use mathlib.Core.Logic.{⊎-elim}
 use Prim.Native.Nat.{ℕ, _<_, _≤_}
-use native.Mathlib.Nat.{le-trans}
-use lib.Dec.{eqb}
 use lib.ListN.{getD}
-use lib.Seq.{ext-getD}
-use borrow.Author.Tests.{eqb-true, eqb-false}
 use Rattle.lists.proofs.Decide.{lt-or-ge, eq-or-ne}
-use Rattle.orbits.specs.Orbit.{Permutes, first}
-use Rattle.orbits.proofs.First.{first-holds, first-least}
 use Rattle.refusals.specs.FirstOf.{firstOf}
 use Rattle.refusals.specs.Calls.{passesChecks}
 use Rattle.refusals.proofs.Promise.{one-outcome}
 use Rattle.flat.specs.Turn.{sides}
-use Rattle.passes.specs.Lines.{Moved, lineCount, paired, toPlace}
-use Rattle.passes.specs.PrivateScratch.{Fits}
+use Rattle.passes.specs.Lines.{lineCount, lineOf, LineMoved, posOn, received}
+use Rattle.passes.specs.PrivateScratch.{Filled}
 use Rattle.passes.specs.Plain.{LineTicked}
 use Rattle.passes.specs.Ticks.{TickPromise, LinesPromise}
-use Rattle.passes.specs.declared.line.Line.{Line}
 use Rattle.passes.specs.declared.Ticked.{Ticked}
 use Rattle.passes.specs.declared.LineCount.{LineCount}
-use Rattle.passes.proofs.Received.{reached}
+use Rattle.flat.proofs.Sides.{sides-are}
+use Rattle.passes.proofs.Accepted.{flat-accepted}
+use Rattle.passes.proofs.Filled.{one-filled}
+use Rattle.passes.proofs.Received.{moved-received}
 use Rattle.passes.proofs.Ticks.{flat-passed, line-there, stepped}
 
--- two outcomes of words that moved are equal, where each place receives a word
-pub one-move : {count : ℕ} {pos to from : ℕ → ℕ} {xs ys zs : List ℕ} → Permutes count to → Moved count pos to from xs ys → Moved count pos to from xs zs
-    → ys ≡ zs
-one-move {count} {pos} {to} {ys = ys} {zs} s f g =
-    ext-getD 0 ys zs (f .same ∙ sym (g .same)) (λ p _. ⊎-elim (here p) (away p) (lt-or-ge (first count (λ k. eqb (pos k) p)) count))
-  where
-    here : (p : ℕ) → first count (λ k. eqb (pos k) p) < count → getD ys p 0 ≡ getD zs p 0
-    here p h =
-        let j = first count (λ k. eqb (pos k) p) in
-        let e : pos j ≡ p = eqb-true (pos j) p (first-holds count (λ k. eqb (pos k) p) h) in
-        let c = reached s j h in
-        let there : pos (to (c .0)) ≡ p = ap pos (c .2) ∙ e in
-        ap (λ (z : ℕ). getD ys z 0) (sym there) ∙ f .placed (c .0) (c .1) ∙ sym (g .placed (c .0) (c .1)) ∙ ap (λ (z : ℕ). getD zs z 0) there
-
-    away : (p : ℕ) → count ≤ first count (λ k. eqb (pos k) p) → getD ys p 0 ≡ getD zs p 0
-    away p h =
-        let none : (k : ℕ) → k < count → pos k ≡ p → ⊥ =
-        λ k d. eqb-false (pos k) p (first-least count (λ k. eqb (pos k) p) k (le-trans d h)) in
-        f .others p none ∙ sym (g .others p none)
-
--- a line's places, as its pass pairs them, are permuted
-pub line-permutes : {m n : ℕ} {l : Line} {xs ss : List ℕ} → Fits m n l xs ss → Permutes (l .count) (toPlace m n l)
-line-permutes {m} {n} {l} f = go (eqb (l .pass) 2)
-  where
-    go : (t : Bool) → Permutes (l .count) (λ k. cond t (paired m n (l .pass) (l .index) k) k)
-    go true = record { within = f .within; apart = λ x y a b e. f .apart x y a b e }
-    go false = record { within = λ x a. a; apart = λ x y a b e. e }
+-- a line that has moved is filled with the words that it receives
+filled : (m n done : ℕ) (b₀ s₀ : List ℕ) → firstOf (passesChecks (sides m n) b₀ s₀) ≡ 0 → done < lineCount m n → {ys : List ℕ} → LineMoved m n (lineOf m n done) b₀ ys
+    → let l = lineOf m n done in Filled (posOn l) (λ k. getD b₀ (posOn l (received m n (l .pass) (l .index) k)) 0) (l .count) b₀ ys
+filled m n done b₀ s₀ good h {ys} moved =
+    let a = flat-accepted m n b₀ s₀ good in
+    let t = moved-received (sides-are m n (a .m-pos) (a .n-pos)) (a .m-pos) (a .n-pos) (lineOf m n done) (line-there m n done b₀ s₀ good h .of-pass) b₀ ys moved in
+    record { same = t .same; placed = t .placed; others = t .others }
 
 module _ {m n done : ℕ} {b₀ : List ℕ} where
   pub one-line : (s₀ : List ℕ) → firstOf (passesChecks (sides m n) b₀ s₀) ≡ 0 → (ys zs : List ℕ) → LineTicked m n done b₀ ys → LineTicked m n done b₀ zs → ys ≡ zs
@@ -61,7 +35,8 @@ module _ {m n done : ℕ} {b₀ : List ℕ} where
       let f = stepped m n done b₀ s₀ good p in
       let g = stepped m n done b₀ s₀ good q in
       ⊎-elim
-      (λ (h : done < lineCount m n). one-move (line-permutes (line-there m n done b₀ s₀ good h)) (f .moved h) (g .moved h))
+      (λ (h : done < lineCount m n).
+      one-filled (filled m n done b₀ s₀ good h (f .moved h)) (filled m n done b₀ s₀ good h (g .moved h)))
       (λ (h : lineCount m n ≤ done). f .still h ∙ sym (g .still h))
       (lt-or-ge done (lineCount m n))
 

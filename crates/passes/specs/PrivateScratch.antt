@@ -10,7 +10,7 @@ use Rattle.numbers.specs.Gcd.{gcdOf}
 use Rattle.refusals.specs.Scratch.{need}
 use Rattle.flat.specs.Turn.{sides}
 use Rattle.flat.specs.Passes.{rowGroup, columnGroup}
-use Rattle.passes.specs.Lines.{paired, received, column, row, posOn, skipped, lineCount, lineOf}
+use Rattle.passes.specs.Lines.{received, column, row, posOn, skipped, lineCount, lineOf}
 use Rattle.passes.specs.declared.line.GroupedSides.{GroupedSides}
 use Rattle.passes.specs.declared.line.Line.{Line}
 
@@ -53,12 +53,10 @@ pub record Lain (l : Line) (xs scratch : List ℕ) : Type 0 where
 abbrev pub OfPass : ℕ → ℕ → Line → Type 0
 OfPass m n l = (l .count ≡ cond (eqb (l .pass) 2) n m) × (l .index < cond (eqb (l .pass) 2) m n)
 
--- the line lies in the buffer, scratch has room for it, and its pass pairs its places one to one
+-- the line is one of its pass, lies in the buffer, and scratch has room for it
 pub record Fits (m n : ℕ) (l : Line) (xs scratch : List ℕ) : Type 0 where
   pub of-pass : OfPass m n l
   pub lain : Lain l xs scratch
-  pub within : (k : ℕ) → k < l .count → paired m n (l .pass) (l .index) k < l .count
-  pub apart : Apart (paired m n (l .pass) (l .index)) (l .count)
 
 -- `count` words are stored, word k at place `to k`; what stands at every other place is as it was
 pub record Filled (to word : ℕ → ℕ) (count : ℕ) (before after : List ℕ) : Type 0 where
