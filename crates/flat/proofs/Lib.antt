@@ -6,3 +6,5 @@ pub mod Turn
 pub mod Sides
 -- the three passes, one after the other, are the turn
 pub mod Passes
+-- what the checks of a flat call tell
+pub mod Accepted
