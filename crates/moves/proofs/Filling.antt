@@ -61,6 +61,10 @@ module _ {to : ℕ} {value : ℕ → ℕ} {xs : List ℕ} where
       above = λ q g. getD-set-other ys (to + lo) q v 0 (λ y. omega arith) ∙ f .above q g;
     }
 
+  -- a piece at the front
+  pub first-piece : {count : ℕ} {v : ℕ → ℕ} {ys : List ℕ} → Stretch to count v xs ys → ((p : ℕ) → p < count → v p ≡ value p) → Filled to 0 count value xs ys
+  first-piece s same = record { same = s .same; holds = λ p l h. s .holds p h ∙ same p h; below = λ q h. s .below q (omega arith); above = s .above }
+
   -- a piece more at the back, which may begin before the end of what is filled
   pub piece-up : {lo hi top count : ℕ} {v : ℕ → ℕ} {ys zs : List ℕ} (start : ℕ) → Filled to lo hi value xs ys → Stretch (to + start) count v ys zs
       → ((p : ℕ) → p < count → v p ≡ value (start + p)) → lo ≤ start → start ≤ hi → hi ≤ top → start + count ≡ top → Filled to lo top value xs zs

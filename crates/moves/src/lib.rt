@@ -5,7 +5,7 @@ mod words;
 
 ghost use mathlib.Core.Bool.{true, false};
 ghost use mathlib.Core.Path.{_≡_};
-ghost use Prim.Native.Nat.{_+_, _≤_};
+ghost use Prim.Native.Nat.{_+_, _≤_, max};
 ghost use Rattle.moves.specs.Promises.{Ahead, Apart, CopyPromise, FallPromise, HandPromise, RisePromise, ZeroPromise, TradePromise};
 
 // Whether the run of count words from an offset on ends past a buffer of so many words.
@@ -16,6 +16,23 @@ fn past(len: usize, at: usize, count: usize) -> bool
         return true;
     }
     len - count < at
+}
+
+// The larger of two offsets.
+fn larger(x: usize, y: usize) -> usize
+    ensures { λ r. ⌜ r ≡ max x y ⌝ }
+{
+    if x < y {
+        return y;
+    }
+    x
+}
+
+// Whether one of two runs of count words ends past a buffer of so many words.
+fn outside(len: usize, x: usize, y: usize, count: usize) -> bool
+    ensures { λ r. ⌜ (r ≡ false → (x + count ≤ len) × (y + count ≤ len)) × (r ≡ true → ((x + count ≤ len) × (y + count ≤ len) → ⊥)) ⌝ }
+{
+    past(len, larger(x, y), count)
 }
 
 // Whether words that go to a place after them would be overwritten before they are read, the first first.
@@ -63,10 +80,7 @@ pub fn copy(buf: &mut [u32], to: usize, other: &[u32], from: usize, count: usize
 pub fn fall(buf: &mut [u32], to: usize, from: usize, count: usize)
     ensures { λ _. ⌜ FallPromise to from count (now (buf .entry)) (now (buf .exit)) ⌝ }
 {
-    if past(buf.len(), to, count) {
-        return;
-    }
-    if past(buf.len(), from, count) {
+    if outside(buf.len(), to, from, count) {
         return;
     }
     if behind(to, from, count) {
@@ -79,10 +93,7 @@ pub fn fall(buf: &mut [u32], to: usize, from: usize, count: usize)
 pub fn hand(buf: &mut [u32], to: usize, from: usize, count: usize)
     ensures { λ _. ⌜ HandPromise to from count (now (buf .entry)) (now (buf .exit)) ⌝ }
 {
-    if past(buf.len(), to, count) {
-        return;
-    }
-    if past(buf.len(), from, count) {
+    if outside(buf.len(), to, from, count) {
         return;
     }
     if overlap(to, from, count) {
@@ -118,10 +129,7 @@ pub fn zero(buf: &mut [u32], from: usize, count: usize)
 pub fn trade(buf: &mut [u32], x: usize, y: usize, count: usize)
     ensures { λ _. ⌜ TradePromise x y count (now (buf .entry)) (now (buf .exit)) ⌝ }
 {
-    if past(buf.len(), x, count) {
-        return;
-    }
-    if past(buf.len(), y, count) {
+    if outside(buf.len(), x, y, count) {
         return;
     }
     if overlap(x, y, count) {

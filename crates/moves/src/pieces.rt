@@ -1,4 +1,4 @@
-// Words moved in pieces of eight. The last piece of a run may overlap the one before it, so that no words are left over.
+// Words moved in pieces of eight. The last two pieces of a run may overlap, so that no words are left over.
 ghost use mathlib.Core.Path.{_≡_};
 ghost use Prim.Native.Nat.{ℕ, _+_, _<_, _≤_};
 ghost use lib.ListN.{length, getD};
@@ -43,34 +43,42 @@ pub(crate) fn copy_pieces(buf: &mut [u32], to: usize, other: &[u32], from: usize
     store(buf, to + end, last);
 }
 
-// Moves eight words or more to a place before them or apart from them, the first first. The last piece is read before the one before it
-// may overwrite it.
+// Moves eight to sixteen words to any place: two pieces, both read before either is stored.
+fn two_pieces(buf: &mut [u32], to: usize, from: usize, count: usize)
+    requires { ⌜ (8 ≤ count) × (count ≤ 16) × (to + count ≤ length (now buf)) × (from + count ≤ length (now buf)) ⌝ }
+    ensures { λ _. ⌜ Stretch to count (λ u. getD (now (buf .entry)) (from + u) 0) (now (buf .entry)) (now (buf .exit)) ⌝ }
+{
+    let end = count - 8;
+    let first = held(buf, from);
+    let last = held(buf, from + end);
+    store(buf, to, first);
+    store(buf, to + end, last);
+}
+
+// Moves eight words or more to a place before them or apart from them, the first first.
 pub(crate) fn fall_pieces(buf: &mut [u32], to: usize, from: usize, count: usize)
     requires { ⌜ (8 ≤ count) × (to + count ≤ length (now buf)) × (from + count ≤ length (now buf)) × Ahead to from count ⌝ }
     ensures { λ _. ⌜ Stretch to count (λ u. getD (now (buf .entry)) (from + u) 0) (now (buf .entry)) (now (buf .exit)) ⌝ }
 {
-    let end = count - 8;
-    let last = held(buf, from + end);
     let mut u = 0;
-    while u < end {
+    while 16 < count - u {
         let piece = held(buf, from + u);
         store(buf, to + u, piece);
         u += 8;
     }
-    store(buf, to + end, last);
+    two_pieces(buf, to + u, from + u, count - u);
 }
 
-// Moves eight words or more to a place after them, the last first. The first piece is read before the one after it may overwrite it.
+// Moves eight words or more to a place after them, the last first.
 pub(crate) fn rise_pieces(buf: &mut [u32], to: usize, from: usize, count: usize)
     requires { ⌜ (8 ≤ count) × (from ≤ to) × (to + count ≤ length (now buf)) ⌝ }
     ensures { λ _. ⌜ Stretch to count (λ u. getD (now (buf .entry)) (from + u) 0) (now (buf .entry)) (now (buf .exit)) ⌝ }
 {
-    let first = held(buf, from);
     let mut u = count;
-    while 8 < u {
+    while 16 < u {
         u -= 8;
         let piece = held(buf, from + u);
         store(buf, to + u, piece);
     }
-    store(buf, to, first);
+    two_pieces(buf, to, from, u);
 }

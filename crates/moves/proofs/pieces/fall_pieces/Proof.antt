@@ -1,7 +1,7 @@
 -- `fall_pieces` meets its contract: the stretch is filled from the front, eight words at a time; the words that are read lie past what is
--- filled or apart from it, so they are those of the entry, and the last piece was read there.
+-- filled or apart from it, so they are those of the entry, and so are those of the last two pieces.
 use mathlib.Core.Path.{refl, _∙_}
-use Prim.Native.Nat.{_+_, _-_, _<_}
+use Prim.Native.Nat.{_+_, _-_, _≤_}
 use native.Mathlib.Omega.{arith}
 use lib.ListN.{getD}
 use borrow.Author.Needs.{needs}
@@ -10,10 +10,10 @@ use Rattle.moves.proofs.pieces.fall_pieces.Statement.{statement}
 use Rattle.moves.proofs.pieces.fall_pieces.Tie as tie
 
 abbrev Inv-loop : tie.InvT-loop
-Inv-loop buf₀ to from count end last u₀ buf u = (u < end + 8) × Filled to 0 u (λ k. getD buf₀ (from + k) 0) buf₀ buf
+Inv-loop buf₀ to from count u₀ buf u = (u + 8 ≤ count) × Filled to 0 u (λ k. getD buf₀ (from + k) 0) buf₀ buf
 
 abbrev μ-loop : tie.MeasureT-loop
-μ-loop buf₀ to from count end last u₀ buf u = end - u
+μ-loop buf₀ to from count u₀ buf u = count - u
 
 abbrev Loop : Type 0
 Loop = tie.At-loop Inv-loop μ-loop
@@ -24,7 +24,7 @@ Begin = tie.Start Inv-loop μ-loop
 loop-again : tie.Need-loop-again Inv-loop μ-loop
 loop-again c =
     let w : tie.After-store Inv-loop μ-loop = search in
-    let h : tie.After-held2 Inv-loop μ-loop = search in
+    let h : tie.After-held Inv-loop μ-loop = search in
     let l : Loop = search in
     let s : Begin = search in
     let f = l .loop .inv .1 in (
@@ -33,7 +33,7 @@ loop-again c =
           _
           f
           (w .store .ensures)
-          (λ p k. h .held2 .ensures p k ∙ at (l .loop .buf) (omega arith) ∙ still (s .pre .3) f (l .loop .u + p) (omega arith) (omega arith))
+          (λ p k. h .held .ensures p k ∙ at (l .loop .buf) (omega arith) ∙ still (s .pre .3) f (l .loop .u + p) (omega arith) (omega arith))
           (omega arith)
           (omega arith)
           (omega arith)
@@ -42,12 +42,20 @@ loop-again c =
 
 returns : tie.Need-returns Inv-loop μ-loop
 returns c =
-    let w : tie.After-store2 Inv-loop μ-loop = search in
+    let w : tie.After-two-pieces Inv-loop μ-loop = search in
     let l : Loop = search in
-    let h : tie.After-held Inv-loop μ-loop = search in
     let s : Begin = search in
+    let f = l .loop .inv .1 in
     all-filled
-    (piece-up _ (l .loop .inv .1) (w .store2 .ensures) (λ p k. h .held .ensures p k ∙ at (s .args .buf .now) (omega arith)) (omega arith) (omega arith) (omega arith) refl)
+    (piece-up
+    _
+    f
+    (w .two-pieces .ensures)
+    (λ p k. at (l .loop .buf) (omega arith) ∙ still (s .pre .3) f (l .loop .u + p) (omega arith) (omega arith))
+    (omega arith)
+    (omega arith)
+    (omega arith)
+    refl)
     refl
     (omega arith)
 
@@ -57,10 +65,8 @@ fall-pieces-spec =
     (tie.spec
     Inv-loop
     μ-loop
-    (search needs)
-    (search needs)
-    (search needs)
     (λ c. (omega arith, nothing-filled 0))
+    (search needs)
     (search needs)
     (λ c κs. let l : Loop = search in omega (arith, l .loop .inv .1 .same))
     (search needs)
@@ -69,6 +75,8 @@ fall-pieces-spec =
     (search needs)
     loop-again
     (search needs)
-    (λ c κs. let l : Loop = search in omega (arith, l .loop .inv .1 .same))
+    (search needs)
+    (search needs)
+    (λ c κs. let l : Loop = search in (omega arith, omega arith, omega (arith, l .loop .inv .1 .same), omega (arith, l .loop .inv .1 .same)))
     (search needs)
     returns)

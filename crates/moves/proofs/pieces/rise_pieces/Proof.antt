@@ -1,5 +1,5 @@
 -- `rise_pieces` meets its contract: the stretch is filled from the back, eight words at a time; the words that are read lie before what is
--- filled, so they are those of the entry, and the first piece was read there.
+-- filled, so they are those of the entry, and so are those of the first two pieces.
 use mathlib.Core.Path.{refl, _∙_}
 use Prim.Native.Nat.{_+_, _-_, _<_, _≤_}
 use native.Mathlib.Numerals.{unary-clauses}
@@ -11,10 +11,10 @@ use Rattle.moves.proofs.pieces.rise_pieces.Statement.{statement}
 use Rattle.moves.proofs.pieces.rise_pieces.Tie as tie
 
 abbrev Inv-loop : tie.InvT-loop
-Inv-loop buf₀ to from count first u₀ buf u = (0 < u) × (u ≤ count) × Filled to u count (λ k. getD buf₀ (from + k) 0) buf₀ buf
+Inv-loop buf₀ to from count u₀ buf u = (8 ≤ u) × (u ≤ count) × Filled to u count (λ k. getD buf₀ (from + k) 0) buf₀ buf
 
 abbrev μ-loop : tie.MeasureT-loop
-μ-loop buf₀ to from count first u₀ buf u = u
+μ-loop buf₀ to from count u₀ buf u = u
 
 abbrev Loop : Type 0
 Loop = tie.At-loop Inv-loop μ-loop
@@ -25,23 +25,26 @@ Begin = tie.Start Inv-loop μ-loop
 loop-again : tie.Need-loop-again Inv-loop μ-loop
 loop-again c =
     let w : tie.After-store Inv-loop μ-loop = search in
-    let h : tie.After-held2 Inv-loop μ-loop = search in
+    let h : tie.After-held Inv-loop μ-loop = search in
     let l : Loop = search in
     let s : Begin = search in
     let f = l .loop .inv .2 in
     let from = s .args .from + (l .loop .u - 8) in (
       omega arith,
       omega arith,
-      piece-down f (w .store .ensures) (λ p k. h .held2 .ensures p k ∙ f .below (from + p) (omega arith) ∙ at (s .args .buf .now) (omega arith)) (omega arith) (omega arith) (omega arith),
+      piece-down f (w .store .ensures) (λ p k. h .held .ensures p k ∙ f .below (from + p) (omega arith) ∙ at (s .args .buf .now) (omega arith)) (omega arith) (omega arith) (omega arith),
     )
 
 returns : tie.Need-returns Inv-loop μ-loop
 returns c =
-    let w : tie.After-store2 Inv-loop μ-loop = search in
+    let w : tie.After-two-pieces Inv-loop μ-loop = search in
     let l : Loop = search in
-    let h : tie.After-held Inv-loop μ-loop = search in
     let s : Begin = search in
-    all-filled (piece-down {lo = 0} (l .loop .inv .2) (simp unary-clauses (w .store2 .ensures)) (λ p k. h .held .ensures p k ∙ at (s .args .buf .now) (omega arith)) (omega arith) (omega arith) (omega arith)) refl refl
+    let f = l .loop .inv .2 in
+    all-filled
+    (piece-down {lo = 0} {count = l .loop .u} f (simp unary-clauses (w .two-pieces .ensures)) (λ p k. f .below (s .args .from + p) (omega arith) ∙ at (s .args .buf .now) (omega arith)) (omega arith) (omega arith) (omega arith))
+    refl
+    refl
 
 pub rise-pieces-spec : {M : Type 1} → statement M
 rise-pieces-spec =
@@ -49,7 +52,6 @@ rise-pieces-spec =
     (tie.spec
     Inv-loop
     μ-loop
-    (search needs)
     (λ c. (omega arith, omega arith, nothing-filled _))
     (search needs)
     (search needs)
@@ -58,6 +60,6 @@ rise-pieces-spec =
     (λ c κs. let l : Loop = search in omega (arith, l .loop .inv .2 .same))
     (search needs)
     loop-again
-    (λ c κs. let l : Loop = search in omega (arith, l .loop .inv .2 .same))
+    (λ c κs. let l : Loop = search in (omega arith, omega arith, omega (arith, l .loop .inv .2 .same), omega (arith, l .loop .inv .2 .same)))
     (search needs)
     returns)
