@@ -2,7 +2,7 @@
 -- before e are turned and the others stand; all of them turned are the layout that exchanges the two axes in the middle.
 use mathlib.Core.Path.{_≡_, refl, sym, ap, _∙_}
 use mathlib.Core.List.{List, [], _∷_}
-use mathlib.Core.Logic.{inl, inr, ⊎-elim}
+use mathlib.Core.Logic.{_⊎_, inl, inr, ⊎-elim}
 use Prim.Native.Nat.{ℕ, _+_, _*_, _-_, _<_, _≤_}
 use native.Mathlib.Nat.{mul-comm, mul-le-mul-right, add-mul, one-mul}
 use native.Mathlib.Omega.{arith}
@@ -15,10 +15,23 @@ use Rattle.layout.specs.Layout.Within.{none, more}
 use Rattle.refusals.specs.Calls.{swapBlock}
 use Rattle.refusals.specs.Promise.{middle}
 use Rattle.refusals.proofs.Swap.{swap-volume}
-use Rattle.halves.specs.Private.{ChunksTurned, TurnedAt}
-use Rattle.halves.specs.Promise.{chunked, firstTwo}
-use Rattle.halves.proofs.Lent.{at-three}
 use Rattle.halves.proofs.Parts.{part-at, back-at, before-it, after-it}
+
+-- ys is xs, m by n chunks of w words, turned: the chunk at j·m + i is the one that stood at i·n + j
+pub record ChunksTurned (m n w : ℕ) (xs ys : List ℕ) : Type 0 where
+  pub same : length ys ≡ length xs
+  pub placed : (i j u : ℕ) → i < m → j < n → u < w → getD ys ((j * m + i) * w + u) 0 ≡ getD xs ((i * n + j) * w + u) 0
+
+-- the block of chunks at base is turned: the chunk of place i·n + j stands at place j·m + i; every word outside the block stands
+pub record TurnedAt (m n chunk base : ℕ) (before after : List ℕ) : Type 0 where
+  pub same : length after ≡ length before
+  pub placed : (i j u : ℕ) → i < m → j < n → u < chunk → getD after (base + ((j * m + i) * chunk + u)) 0 ≡ getD before (base + ((i * n + j) * chunk + u)) 0
+  pub others : (k : ℕ) → (k < base) ⊎ (base + m * n * chunk ≤ k) → getD after k 0 ≡ getD before k 0
+
+-- the offset of a word of a chunk
+pub at-three : (m n w i j u : ℕ) → at (m ∷ n ∷ w ∷ []) (i ∷ j ∷ u ∷ []) ≡ (i * n + j) * w + u
+unfolding at volume
+at-three m n w i j u = omega arith
 
 -- a word of a chunk lies in the block, before the turn and after it
 in-block : (m n chunk i j u : ℕ) → i < m → j < n → u < chunk → ((i * n + j) * chunk + u < m * n * chunk) × ((j * m + i) * chunk + u < m * n * chunk)
@@ -26,7 +39,7 @@ in-block m n chunk i j u hi hj hu =
     (digits-lt (digits-lt {q = i} {r = j} hi hj) hu, rw (mul-comm m n) (digits-lt (digits-lt {q = j} {r = i} hj hi) hu))
 
 -- chunks laid out with their two axes exchanged are a block turned
-pub laid-turned : {m n w : ℕ} {xs ys : List ℕ} → Laid (chunked m n w) firstTwo xs ys → ChunksTurned m n w xs ys
+pub laid-turned : {m n w : ℕ} {xs ys : List ℕ} → Laid (m ∷ n ∷ w ∷ []) (1 ∷ 0 ∷ 2 ∷ []) xs ys → ChunksTurned m n w xs ys
 unfolding pick
 laid-turned {m} {n} {w} {xs} {ys} l = record {
   same = l .same;

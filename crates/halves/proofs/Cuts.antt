@@ -4,56 +4,56 @@ use mathlib.Core.Path.{_≡_, refl, sym, ap, _∙_, subst}
 use mathlib.Core.List.{List, _++_}
 use Prim.Native.Nat.{ℕ, _+_, _-_, _*_, _/_, _≤_, _<_}
 use native.Mathlib.Omega.{arith}
-use native.Mathlib.Nat.{add-mul, mul-add, mul-pos, mul-le-mul-left, mul-le-mul-right, le-mul-of-pos-right}
+use native.Mathlib.Nat.{add-mul, mul-add, mul-pos, mul-le-mul-left, mul-le-mul-right}
 use lib.ListN.{length, take, drop, length-append}
 use lib.Seq.{length-take-le}
 use borrow.Rule.Slice.PartMut.{midOf, putMid}
-use Rattle.halves.specs.Private.{Block, ChunksTurned}
+use Rattle.flat.specs.Turn.{Turn}
+use Rattle.halves.specs.Private.{Block}
 use Rattle.halves.proofs.Parts.{whole, second, second-length, joined}
 
--- the first k words are m₁ by n₁ chunks of w words, the others m₂ by n₂
-pub record Parted (k m₁ n₁ m₂ n₂ w : ℕ) (xs : List ℕ) : Type 0 where
+-- the first k words are m₁ by n₁, the others m₂ by n₂
+pub record Parted (k m₁ n₁ m₂ n₂ : ℕ) (xs : List ℕ) : Type 0 where
   pub rows₁ : 0 < m₁
   pub columns₁ : 0 < n₁
   pub rows₂ : 0 < m₂
   pub columns₂ : 0 < n₂
-  pub words : 0 < w
-  pub first : k ≡ m₁ * n₁ * w
-  pub all : length xs ≡ k + m₂ * n₂ * w
+  pub first : k ≡ m₁ * n₁
+  pub all : length xs ≡ k + m₂ * n₂
 
 -- the first part is back, turned
-pub record Front (k m n w : ℕ) (xs s : List ℕ) : Type 0 where
+pub record Front (k m n : ℕ) (xs s : List ℕ) : Type 0 where
   pub part : List ℕ
-  pub turn : ChunksTurned m n w (take k xs) part
+  pub turn : Turn m n (take k xs) part
   pub back : s ≡ part ++ drop k xs
 
 -- the second part is back, turned
-pub record Back (k m n w : ℕ) (s z : List ℕ) : Type 0 where
+pub record Back (k m n : ℕ) (s z : List ℕ) : Type 0 where
   pub part : List ℕ
-  pub turn : ChunksTurned m n w (midOf k (length s - k) s) part
+  pub turn : Turn m n (midOf k (length s - k) s) part
   pub back : z ≡ putMid k (length s - k) s part
 
 -- both are
-pub record Both (k m₁ n₁ m₂ n₂ w : ℕ) (xs z : List ℕ) : Type 0 where
+pub record Both (k m₁ n₁ m₂ n₂ : ℕ) (xs z : List ℕ) : Type 0 where
   pub a : List ℕ
   pub b : List ℕ
-  pub turn₁ : ChunksTurned m₁ n₁ w (take k xs) a
-  pub turn₂ : ChunksTurned m₂ n₂ w (drop k xs) b
+  pub turn₁ : Turn m₁ n₁ (take k xs) a
+  pub turn₂ : Turn m₂ n₂ (drop k xs) b
   pub back : z ≡ a ++ b
   pub same : length z ≡ length xs
 
-module _ {k m₁ n₁ m₂ n₂ w : ℕ} {xs : List ℕ} (c : Parted k m₁ n₁ m₂ n₂ w xs) where
+module _ {k m₁ n₁ m₂ n₂ : ℕ} {xs : List ℕ} (c : Parted k m₁ n₁ m₂ n₂ xs) where
   some₁ : 0 < k
-  some₁ = rw (c .first) (mul-pos (mul-pos (c .rows₁) (c .columns₁)) (c .words))
+  some₁ = rw (c .first) (mul-pos (c .rows₁) (c .columns₁))
 
-  some₂ : 0 < m₂ * n₂ * w
-  some₂ = mul-pos (mul-pos (c .rows₂) (c .columns₂)) (c .words)
+  some₂ : 0 < m₂ * n₂
+  some₂ = mul-pos (c .rows₂) (c .columns₂)
 
   pub cut-within : k ≤ length xs
   cut-within = omega (arith, c .all)
 
-  pub low-block : Block m₁ n₁ w (take k xs)
-  low-block = record { rows = c .rows₁; columns = c .columns₁; words = c .words; fill = length-take-le k xs cut-within ∙ c .first }
+  pub low-block : Block m₁ n₁ (take k xs)
+  low-block = record { rows = c .rows₁; columns = c .columns₁; fill = length-take-le k xs cut-within ∙ c .first }
 
   pub low-long : k ≡ length (take k xs)
   low-long = sym (length-take-le k xs cut-within)
@@ -61,23 +61,23 @@ module _ {k m₁ n₁ m₂ n₂ w : ℕ} {xs : List ℕ} (c : Parted k m₁ n₁
   pub low-falls : length (take k xs) < length xs
   low-falls = omega (arith, low-long, c .all, some₂)
 
-  module _ {s : List ℕ} (f : Front k m₁ n₁ w xs s) where
+  module _ {s : List ℕ} (f : Front k m₁ n₁ xs s) where
     pub cut-after : k ≤ length s
     cut-after = rw (f .back, whole k xs (f .part) cut-within (f .turn .same)) cut-within
 
-    lent-long : length (midOf k (length s - k) s) ≡ m₂ * n₂ * w
+    lent-long : length (midOf k (length s - k) s) ≡ m₂ * n₂
     lent-long =
         ap (λ (l : List ℕ). length (midOf k (length l - k) l)) (f .back)
         ∙ second-length k xs (f .part) cut-within (f .turn .same)
         ∙ omega (arith, c .all)
 
-    pub high-block : Block m₂ n₂ w (midOf k (length s - k) s)
-    high-block = record { rows = c .rows₂; columns = c .columns₂; words = c .words; fill = lent-long }
+    pub high-block : Block m₂ n₂ (midOf k (length s - k) s)
+    high-block = record { rows = c .rows₂; columns = c .columns₂; fill = lent-long }
 
     pub high-falls : length (midOf k (length s - k) s) < length xs
     high-falls = omega (arith, lent-long, c .all, some₁)
 
-    pub both-back : {z : List ℕ} → Back k m₂ n₂ w s z → Both k m₁ n₁ m₂ n₂ w xs z
+    pub both-back : {z : List ℕ} → Back k m₂ n₂ s z → Both k m₁ n₁ m₂ n₂ xs z
     both-back {z} b =
         let lent : midOf k (length s - k) s ≡ drop k xs
         = ap (λ (l : List ℕ). midOf k (length l - k) l) (f .back) ∙ second k xs (f .part) cut-within (f .turn .same) in
@@ -87,50 +87,40 @@ module _ {k m₁ n₁ m₂ n₂ w : ℕ} {xs : List ℕ} (c : Parted k m₁ n₁
           a = f .part;
           b = b .part;
           turn₁ = f .turn;
-          turn₂ = subst (λ (l : List ℕ). ChunksTurned m₂ n₂ w l (b .part)) lent (b .turn);
+          turn₂ = subst (λ (l : List ℕ). Turn m₂ n₂ l (b .part)) lent (b .turn);
           back = back;
           same = ap length back ∙ length-append (f .part) (b .part) ∙ omega (arith, f .turn .same, b .turn .same, low-long, lent-long, c .all);
         }
 
 -- rows cut in two
-pub rows-cut : {m n w : ℕ} {xs : List ℕ} → Block m n w xs → 1 < m → Parted (m / 2 * n * w) (m / 2) n (m - m / 2) n w xs
-rows-cut {m} {n} {w} b h =
+pub rows-cut : {m n : ℕ} {xs : List ℕ} → Block m n xs → 1 < m → Parted (m / 2 * n) (m / 2) n (m - m / 2) n xs
+rows-cut {m} {n} b h =
     let e : m / 2 + (m - m / 2) ≡ m = omega arith in
     record {
       rows₁ = omega arith;
       columns₁ = b .columns;
       rows₂ = omega arith;
       columns₂ = b .columns;
-      words = b .words;
       first = refl;
-      all = b .fill ∙ ap (λ (k : ℕ). k * n * w) (sym e) ∙ ap (λ (k : ℕ). k * w) (add-mul (m / 2) (m - m / 2) n) ∙ add-mul (m / 2 * n) ((m - m / 2) * n) w;
+      all = b .fill ∙ ap (λ (k : ℕ). k * n) (sym e) ∙ add-mul (m / 2) (m - m / 2) n;
     }
 
 -- columns cut in two
-pub columns-cut : {m n w : ℕ} {xs : List ℕ} → Block m n w xs → 1 < n → Parted (m * (n / 2) * w) m (n / 2) m (n - n / 2) w xs
-columns-cut {m} {n} {w} b h =
+pub columns-cut : {m n : ℕ} {xs : List ℕ} → Block m n xs → 1 < n → Parted (m * (n / 2)) m (n / 2) m (n - n / 2) xs
+columns-cut {m} {n} b h =
     let e : n / 2 + (n - n / 2) ≡ n = omega arith in
     record {
       rows₁ = b .rows;
       columns₁ = omega arith;
       rows₂ = b .rows;
       columns₂ = omega arith;
-      words = b .words;
       first = refl;
-      all = b .fill ∙ ap (λ (k : ℕ). m * k * w) (sym e) ∙ ap (λ (k : ℕ). k * w) (mul-add m (n / 2) (n - n / 2)) ∙ add-mul (m * (n / 2)) (m * (n - n / 2)) w;
+      all = b .fill ∙ ap (λ (k : ℕ). m * k) (sym e) ∙ mul-add m (n / 2) (n - n / 2);
     }
 
 -- what is computed of a part of a block is no more than its words: of h of the rows, and of h of the columns
-pub rows-few : {m n w : ℕ} {xs : List ℕ} → Block m n w xs → (h : ℕ) → h ≤ m → (h * n ≤ length xs) × (h * n * w ≤ length xs) × (h * w ≤ length xs)
-rows-few {m} {n} {w} {xs} b h few =
-    let all : h * n * w ≤ length xs = rw (b .fill) (mul-le-mul-right w (mul-le-mul-right n few)) in
-    let a = le-mul-of-pos-right {m = w} (h * n) (b .words) in
-    let c = le-mul-of-pos-right {m = n} (h * w) (b .columns) in
-    (omega arith, all, omega arith)
+pub rows-few : {m n : ℕ} {xs : List ℕ} → Block m n xs → (h : ℕ) → h ≤ m → h * n ≤ length xs
+rows-few {m} {n} b h few = rw (b .fill) (mul-le-mul-right n few)
 
-pub columns-few : {m n w : ℕ} {xs : List ℕ} → Block m n w xs → (h : ℕ) → h ≤ n → (m * h ≤ length xs) × (m * h * w ≤ length xs) × (h * w ≤ length xs)
-columns-few {m} {n} {w} {xs} b h few =
-    let all : m * h * w ≤ length xs = rw (b .fill) (mul-le-mul-right w (mul-le-mul-left m few)) in
-    let a = le-mul-of-pos-right {m = w} (m * h) (b .words) in
-    let c = le-mul-of-pos-right {m = m} (h * w) (b .rows) in
-    (omega arith, all, omega arith)
+pub columns-few : {m n : ℕ} {xs : List ℕ} → Block m n xs → (h : ℕ) → h ≤ n → m * h ≤ length xs
+columns-few {m} b h few = rw (b .fill) (mul-le-mul-left m few)

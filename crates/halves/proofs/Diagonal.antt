@@ -6,13 +6,13 @@ use mathlib.Core.Logic.{⊎-elim}
 use Prim.Native.Nat.{ℕ, _+_, _*_, _/_, _%_, _≤_, _<_}
 use native.Mathlib.Omega.{arith}
 use native.Mathlib.Nat.{le-mul-of-pos-right, eq-zero-or-pos}
-use lib.ListN.{length, getD, set, length-set, List·getD-eq-default}
+use lib.ListN.{length, getD, set, length-set}
 use lib.Seq.{getD-set-same, getD-set-other}
 use lib.Arith.{digits-lt, digits-div, digits-mod}
 use Rattle.lists.proofs.Decide.{lt-or-ge}
 use Rattle.flat.specs.Turn.{Turn}
-use Rattle.flat.proofs.Turn.{from-literal}
 use Rattle.halves.specs.Private.{Crossed, swapped}
+use Rattle.halves.proofs.Turns.{filled-turn}
 
 module _ (xs : List ℕ) (x y : ℕ) (apart : x ≡ y → ⊥) (hx : x < length xs) (hy : y < length xs) where
   pub at-first : getD (swapped xs x y) x 0 ≡ getD xs y 0
@@ -134,7 +134,7 @@ module _ {n i : ℕ} {xs ys zs : List ℕ} (within : i < n) (d : Done n i xs ys)
 -- all rows and columns but the last, which has no word beyond the diagonal: the block is turned
 pub done-all : {n i : ℕ} {xs ys : List ℕ} → length xs ≡ n * n → n ≤ i + 1 → Done n i xs ys → Turn n n xs ys
 done-all {n} {i} {xs} {ys} long last d =
-    from-literal n n xs ys (d .same)
+    filled-turn n n xs ys long (d .same)
     (λ a b u v. ⊎-elim
     (λ (l : a < b). d .below a b l (omega arith) v)
     (λ (l : b ≤ a). ⊎-elim
@@ -142,4 +142,3 @@ done-all {n} {i} {xs} {ys} long last d =
     (λ (k : a ≤ b). let z : b ≡ a = omega arith in rw z (d .diagonal a u))
     (lt-or-ge b a))
     (lt-or-ge a b))
-    (λ k h. List·getD-eq-default ys 0 {n = k} (omega (arith, d .same)) ∙ sym (List·getD-eq-default xs 0 {n = k} (omega arith)))

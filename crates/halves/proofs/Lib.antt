@@ -11,20 +11,16 @@ mod Four
 -- one level of merge and of split
 mod Halving
 -- the exchange across the diagonal, word by word and row by row
-pub mod Diagonal
--- two equal stretches exchanged, one word more
-pub mod Exchanges
--- blocks of chunks by their words
-pub mod Chunks
+mod Diagonal
 -- a block cut in two, each part lent and turned
 mod Cuts
 -- parts turned and merged, or split and turned, are the block turned
 mod Turns
--- a buffer that passes the checks is a block, and the outcomes that the promises allow
-pub mod Lent
+-- a buffer that passes the checks is a block, and the outcomes that the promise allows
+mod Lent
 -- split undoes merge, and merge undoes split
 pub mod Undo
--- any two outcomes that a promise allows coincide
+-- any two outcomes that the promise allows coincide
 pub mod OneOutcome
 -- blocks of chunks turned where they lie, one after the other, are the adjacent swap
 pub mod Blocks

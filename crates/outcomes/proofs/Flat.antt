@@ -30,9 +30,6 @@ turn-back-once t = let (x, y, z) = passes.OneOutcome.turn-back-once (t .first) (
 pub turn-halves-once : Once halves.turn.Kinds.ps halves.turn.Kinds.r halves.turn.Reads.Post
 turn-halves-once t = let (x, y) = halves.OneOutcome.turn-once (t .first) (t .second) in (x, λ i. (y i, _))
 
-pub turn-chunks-once : Once halves.turn_chunks.Kinds.ps halves.turn_chunks.Kinds.r halves.turn_chunks.Reads.Post
-turn-chunks-once t = let (x, y) = halves.OneOutcome.turn-chunks-once (t .first) (t .second) in (x, λ i. (y i, _))
-
 pub strips-turn-once : Once strips.turn.Kinds.ps strips.turn.Kinds.r strips.turn.Reads.Post
 strips-turn-once t = let (x, y, z) = passes.OneOutcome.turn-once (t .first) (t .second) in (x, λ i. (y i, (z i, _)))
 

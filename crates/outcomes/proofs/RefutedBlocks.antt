@@ -23,7 +23,6 @@ use Rattle.refusals.specs.Scratch.{need, cleared}
 use Rattle.refusals.specs.Promise.{middle, SwapPromise}
 use Rattle.flat.specs.Turn.{sides, across}
 use Rattle.halves.specs.Promise as halves
-use Rattle.halves.specs.Promise.{chunked, firstTwo}
 use Rattle.passes.specs.Promises.{TurnPromise, TurnBackPromise, ClearPromise}
 use Rattle.axes.specs.declared.Answer.{Answer}
 use Rattle.axes.specs.Answers.{accepted, refused, refusedPlace}
@@ -50,11 +49,6 @@ swap outer m n chunk b s =
 abbrev pub turn-halves : ℕ → ℕ → List ℕ → Case (Slice ℕ)
 turn-halves m n b =
     replacing {checks = recursionChecks (sides m n) b} (laid-out (sides m n) across (0 ∷ []) b) b (halves.TurnPromise m n b)
-    (λ o p. record { number-is = p .number; words = p .words; kept = p .kept })
-
-abbrev pub turn-chunks : ℕ → ℕ → ℕ → List ℕ → Case (Slice ℕ)
-turn-chunks m n w b =
-    replacing {checks = recursionChecks (chunked m n w) b} (laid-out (chunked m n w) firstTwo (0 ∷ []) b) b (halves.TurnChunksPromise m n w b)
     (λ o p. record { number-is = p .number; words = p .words; kept = p .kept })
 
 abbrev pub clear : ℕ → List ℕ → Case (Slice ℕ)
@@ -183,12 +177,9 @@ pub blocks-refuted : Refuted blocks
 unfolding volume at pick placeOf places coords laid exchange follow named longest
 blocks-refuted = refuted blocks refl
 
--- the cases: 2 by 3 holding 0 to 5, right is 0 3 1 4 2 5; 2 by 3 chunks of two words
+-- the case: 2 by 3 holding 0 to 5, right is 0 3 1 4 2 5
 abbrev halved : Case (Slice ℕ)
 halved = turn-halves 2 3 (upto 6)
-
-abbrev chunked-two : Case (Slice ℕ)
-chunked-two = turn-chunks 2 3 2 (upto 12)
 
 abbrev pub slices : List (Row (Slice ℕ))
 slices =
@@ -205,16 +196,6 @@ slices =
     ∷ late "turn_halves/two-before-one" (turn-halves 4097 4096 []) 2 1
     ∷ late "turn_halves/three-before-two" (turn-halves 4096 257 []) 3 2
     ∷ late "turn_halves/thirteen-before-one" (turn-halves 0 3 (7 ∷ [])) 13 1
-    ∷ refuses "turn_chunks/refuses-always" chunked-two
-    ∷ wrong "turn_chunks/moves-nothing" chunked-two words (upto 12)
-    ∷ wrong "turn_chunks/second-word-left-out" chunked-two words (0 ∷ 1 ∷ 6 ∷ 3 ∷ 2 ∷ 5 ∷ 8 ∷ 7 ∷ 4 ∷ 9 ∷ 10 ∷ 11 ∷ [])
-    ∷ wrong "turn_chunks/words-of-the-chunk-reversed" chunked-two words (1 ∷ 0 ∷ 7 ∷ 6 ∷ 3 ∷ 2 ∷ 9 ∷ 8 ∷ 5 ∷ 4 ∷ 11 ∷ 10 ∷ [])
-    -- the words turned as a block of 2 by 6
-    ∷ wrong "turn_chunks/turned-as-words" chunked-two words (0 ∷ 6 ∷ 1 ∷ 7 ∷ 2 ∷ 8 ∷ 3 ∷ 9 ∷ 4 ∷ 10 ∷ 5 ∷ 11 ∷ [])
-    ∷ wrong "turn_chunks/refusal-touches-a-word" (turn-chunks 2 3 2 (0 ∷ 1 ∷ [])) words (1 ∷ 0 ∷ [])
-    ∷ gives "turn_chunks/no-word-accepted" (turn-chunks 2 3 0 []) 0
-    ∷ gives "turn_chunks/longer-buffer-accepted" (turn-chunks 2 3 2 (upto 13)) 0
-    ∷ late "turn_chunks/two-before-one" (turn-chunks 4097 4096 1 []) 2 1
     ∷ refuses "clear/refuses-always" (clear 3 (replicate 3 9))
     ∷ wrong "clear/clears-nothing" (clear 2 (replicate 3 9)) words (replicate 3 9)
     ∷ wrong "clear/clears-too-far" (clear 2 (replicate 3 9)) words (replicate 3 0)

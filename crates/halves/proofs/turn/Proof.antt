@@ -12,7 +12,7 @@ use Rattle.halves.proofs.turn.Statement.{statement}
 use Rattle.halves.proofs.turn.Tie as tie
 
 -- what the checks tell of the arguments where none holds
-checked : (x : tie.Start) → let a = x .args in firstOf (recursionChecks (sides (a .m) (a .n)) (a .buf .now)) ≡ 0 → Block (a .m) (a .n) 1 (a .buf .now)
+checked : (x : tie.Start) → let a = x .args in firstOf (recursionChecks (sides (a .m) (a .n)) (a .buf .now)) ≡ 0 → Block (a .m) (a .n) (a .buf .now)
 checked x = checked-block _ _ _
 
 returns-2 : tie.Need-returns-2

@@ -5,7 +5,7 @@ use mathlib.Core.List.{List}
 use mathlib.Core.Logic.{⊎-elim}
 use native.Mathlib.Omega.{arith}
 use borrow.Author.Needs.{needs}
-use Rattle.halves.specs.Private.{ChunksTurned}
+use Rattle.flat.specs.Turn.{Turn}
 use Rattle.halves.proofs.Cuts.{Parted, Front, Back, Both, rows-cut, cut-within, low-block, low-long, low-falls, cut-after, high-block, high-falls, both-back, rows-few, columns-few}
 use Rattle.halves.proofs.Turns.{square-block, square-turned, merge-runs, tall-turned, split-runs, split-parts, wide-turned}
 use Prim.Native.Nat.{ℕ, _-_, _*_, _/_, _<_, _≤_}
@@ -56,11 +56,11 @@ Tall P t = P (tall-calls t) (tall-at t) tall.Post
 
 module _ (t : ℕ) where
   -- the rows are cut
-  tall-parts : (x : Tall tall-lts.Else1 t) → let a = x .before .before .args in Parted (a .m / 2 * a .n * a .w) (a .m / 2) (a .n) (a .m - a .m / 2) (a .n) (a .w) (a .s .now)
+  tall-parts : (x : Tall tall-lts.Else1 t) → let a = x .before .before .args in Parted (a .m / 2 * a .n) (a .m / 2) (a .n) (a .m - a .m / 2) (a .n) (a .s .now)
   tall-parts x = rows-cut (x .before .before .pre .1 .0) (omega arith)
 
   -- the first part is back
-  tall-front : (x : Tall tall-lts.Joined2 t) → let a = x .before .before .before .args in Front (a .m / 2 * a .n * a .w) (a .m / 2) (a .n) (a .w) (a .s .now) (x .if2 .s)
+  tall-front : (x : Tall tall-lts.Joined2 t) → let a = x .before .before .before .args in Front (a .m / 2 * a .n) (a .m / 2) (a .n) (a .s .now) (x .if2 .s)
   tall-front x = ⊎-elim
       (λ w. record { part = w .2 .last .0; turn = w .2 .ensures; back = w .5 })
       (λ w. record { part = w .2 .last .0; turn = w .2 .ensures; back = w .5 })
@@ -68,15 +68,14 @@ module _ (t : ℕ) where
 
   -- both are
   tall-both : (x : Tall tall-lts.Joined3 t)
-      → let a = x .before .before .before .before .args in Both (a .m / 2 * a .n * a .w) (a .m / 2) (a .n) (a .m - a .m / 2) (a .n) (a .w) (a .s .now) (x .if3 .s)
+      → let a = x .before .before .before .before .args in Both (a .m / 2 * a .n) (a .m / 2) (a .n) (a .m - a .m / 2) (a .n) (a .s .now) (x .if3 .s)
   tall-both x = both-back (tall-parts (search)) (tall-front (search)) (⊎-elim
       (λ w. record { part = w .2 .last .0; turn = w .2 .ensures; back = w .5 })
       (λ w. record { part = w .2 .last .0; turn = w .2 .ensures; back = w .5 })
       (x .if3 .came))
 
   -- what is computed fits
-  tall-few : (x : Tall tall-lts.Else1 t) (h : ℕ) → let a = x .before .before .args in h ≤ a .m
-      → let z = length (a .s .now) in (h * a .n ≤ z) × (h * a .n * a .w ≤ z) × (h * a .w ≤ z)
+  tall-few : (x : Tall tall-lts.Else1 t) (h : ℕ) → let a = x .before .before .args in h ≤ a .m → h * a .n ≤ length (a .s .now)
   tall-few x h few = rows-few (x .before .before .pre .1 .0) h few
 
   tall-square-requires : Tall tall-lts.Need-square-requires t
@@ -101,14 +100,14 @@ Wide P t = P (wide-calls t) (wide-at t) wide.Post
 module _ (t : ℕ) where
   -- the block is split and its columns are cut
   wide-parts : (x : Wide wide-lts.After-split t)
-      → let a = x .before .before .before .before .args in Parted (a .m * (a .n / 2) * a .w) (a .m) (a .n / 2) (a .m) (a .n - a .n / 2) (a .w) (x .split .last .0)
+      → let a = x .before .before .before .before .args in Parted (a .m * (a .n / 2)) (a .m) (a .n / 2) (a .m) (a .n - a .n / 2) (x .split .last .0)
   wide-parts x = let e : Wide wide-lts.Start t = search in split-parts (e .pre .1 .0) (omega arith) (x .split .ensures)
 
   -- the first part is back
   wide-front : (x : Wide wide-lts.Joined2 t)
       → let s = x .before .before .before in
       let a = s .before .before .before .before .args in
-      Front (a .m * (a .n / 2) * a .w) (a .m) (a .n / 2) (a .w) (s .split .last .0) (x .if2 .s)
+      Front (a .m * (a .n / 2)) (a .m) (a .n / 2) (s .split .last .0) (x .if2 .s)
   wide-front x = ⊎-elim
       (λ w. record { part = w .2 .last .0; turn = w .2 .ensures; back = w .5 })
       (λ w. record { part = w .2 .last .0; turn = w .2 .ensures; back = w .5 })
@@ -121,8 +120,7 @@ module _ (t : ℕ) where
   wide-returns c = let q : Wide wide-lts.After-square t = search in square-turned (omega arith) (q .square .ensures)
 
   -- what is computed fits
-  wide-few : (x : Wide wide-lts.Else1 t) (h : ℕ) → let a = x .before .before .args in h ≤ a .n
-      → let z = length (a .s .now) in (a .m * h ≤ z) × (a .m * h * a .w ≤ z) × (h * a .w ≤ z)
+  wide-few : (x : Wide wide-lts.Else1 t) (h : ℕ) → let a = x .before .before .args in h ≤ a .n → a .m * h ≤ length (a .s .now)
   wide-few x h few = columns-few (x .before .before .pre .1 .0) h few
 
   wide-split-requires : Wide wide-lts.Need-split-requires t
@@ -132,7 +130,7 @@ module _ (t : ℕ) where
   wide-whole : {z : List ℕ} (x : Wide wide-lts.Joined2 t)
       → let s = x .before .before .before in
       let a = s .before .before .before .before .args in
-      Back (a .m * (a .n / 2) * a .w) (a .m) (a .n - a .n / 2) (a .w) (x .if2 .s) z → ChunksTurned (a .m) (a .n) (a .w) (a .s .now) z
+      Back (a .m * (a .n / 2)) (a .m) (a .n - a .n / 2) (x .if2 .s) z → Turn (a .m) (a .n) (a .s .now) z
   wide-whole x b =
       let s : Wide wide-lts.After-split t = search in
       let e : Wide wide-lts.Start t = search in
@@ -153,7 +151,6 @@ pub +tall+wide-spec : {M : Type 1} → statement M
     (tall-returns t)
     (search needs)
     (λ c. let e : Tall tall-lts.Else1 t = search in let a = e .before .before .args in omega (arith, tall-few t e (a .m / 2) (omega arith)))
-    (λ c. let e : Tall tall-lts.Else1 t = search in let a = e .before .before .args in omega (arith, tall-few t e (a .m / 2) (omega arith)))
     (λ c. cut-within (tall-parts t (search)))
     (λ c. low-long (tall-parts t (search)))
     (λ c κs. let p = tall-parts t (search) in (omega (arith, low-falls p), (low-block p, omega arith)))
@@ -176,8 +173,6 @@ pub +tall+wide-spec : {M : Type 1} → statement M
     let p = tall-parts t (search) in
     let f = tall-front t (search) in
     (omega (arith, high-falls p f), (high-block p f, omega arith)))
-    (λ c. let e : Tall tall-lts.Else1 t = search in let a = e .before .before .args in omega (arith, tall-few t e (a .m / 2) (omega arith)))
-    (λ c. let e : Tall tall-lts.Else1 t = search in let a = e .before .before .args in omega (arith, tall-few t e (a .m - a .m / 2) (omega arith)))
     (tall-merge-requires t)
     (λ c. tall-returns-2 t c .same)
     (tall-returns-2 t))
@@ -189,9 +184,6 @@ pub +tall+wide-spec : {M : Type 1} → statement M
     (wide-returns t)
     (search needs)
     (λ c. let e : Wide wide-lts.Else1 t = search in let a = e .before .before .args in omega (arith, wide-few t e (a .n / 2) (omega arith)))
-    (λ c. let e : Wide wide-lts.Else1 t = search in let a = e .before .before .args in omega (arith, wide-few t e (a .n / 2) (omega arith)))
-    (λ c. let e : Wide wide-lts.Else1 t = search in let a = e .before .before .args in omega (arith, wide-few t e (a .n / 2) (omega arith)))
-    (λ c. let e : Wide wide-lts.Else1 t = search in let a = e .before .before .args in omega (arith, wide-few t e (a .n - a .n / 2) (omega arith)))
     (wide-split-requires t)
     (λ c. cut-within (wide-parts t (search)))
     (λ c. low-long (wide-parts t (search)))
