@@ -10,12 +10,12 @@ pub mod Merges
 mod Four
 -- one level of merge and of split
 mod Halving
--- the exchange across the diagonal, word by word and row by row
-mod Diagonal
 -- a block cut in two, each part lent and turned
 mod Cuts
 -- parts turned and merged, or split and turned, are the block turned
 mod Turns
+-- the exchange across the diagonal, tile by tile and band by band
+mod Across
 -- a buffer that passes the checks is a block, and the outcomes that the promise allows
 mod Lent
 -- split undoes merge, and merge undoes split

@@ -1,3 +1,4 @@
 pub mod Merge
 pub mod Private
+pub mod PrivateTiles
 pub mod Promise

@@ -2,6 +2,7 @@
 mod recursion;
 mod rotation;
 mod runs;
+mod square;
 
 use recursion::tall;
 use recursion::wide;

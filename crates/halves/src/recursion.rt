@@ -2,39 +2,10 @@
 // columns.
 use crate::runs::merge;
 use crate::runs::split;
-ghost use mathlib.Core.Path.{_≡_};
-ghost use Prim.Native.Nat.{_*_, _<_, _≤_};
-ghost use lib.ListN.{length};
+use crate::square::square;
+ghost use Prim.Native.Nat.{_≤_};
 ghost use Rattle.flat.specs.Turn.{Turn};
-ghost use Rattle.halves.specs.Private.{Block, Crossed};
-
-// Exchanges row i of an n by n block with column i, beyond the diagonal.
-fn cross(s: &mut [u32], n: usize, i: usize)
-    requires { ⌜ (length (now s) ≡ n * n) × (i < n) ⌝ }
-    ensures { λ _. ⌜ Crossed n i n (now (s .entry)) (now (s .exit)) ⌝ }
-{
-    let mut j = i + 1;
-    while j < n {
-        let above = i * n + j;
-        let below = j * n + i;
-        let word = s[above];
-        s[above] = s[below];
-        s[below] = word;
-        j += 1;
-    }
-}
-
-// Exchanges an n by n block across its diagonal. The last row has no word beyond the diagonal.
-fn square(s: &mut [u32], n: usize)
-    requires { ⌜ length (now s) ≡ n * n ⌝ }
-    ensures { λ _. ⌜ Turn n n (now (s .entry)) (now (s .exit)) ⌝ }
-{
-    let mut i = 0;
-    while i + 1 < n {
-        cross(s, n, i);
-        i += 1;
-    }
-}
+ghost use Rattle.halves.specs.Private.{Block};
 
 // Turns a block of no fewer rows than columns. The rows are cut in two, each part is turned, then the parts are merged.
 pub(crate) fn tall(s: &mut [u32], m: usize, n: usize)

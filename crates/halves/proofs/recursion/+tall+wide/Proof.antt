@@ -18,7 +18,7 @@ use Rattle.halves.proofs.recursion.+tall+wide.Lts-tall as tall-lts
 use Rattle.halves.proofs.recursion.wide.Reads as wide
 use Rattle.halves.proofs.recursion.wide.Kinds as wide-kinds
 use Rattle.halves.proofs.recursion.+tall+wide.Lts-wide as wide-lts
-use Rattle.halves.proofs.recursion.square.Reads as square-reads
+use Rattle.halves.proofs.square.square.Reads as square-reads
 use Rattle.halves.proofs.runs.merge.Reads as merge-reads
 use Rattle.halves.proofs.runs.split.Reads as split-reads
 use Rattle.halves.proofs.recursion.+tall+wide.{statement}
