@@ -16,6 +16,8 @@ mod Cuts
 mod Turns
 -- the exchange across the diagonal, tile by tile and band by band
 mod Across
+-- the exchange across the diagonal, word by word
+mod Crossing
 -- a buffer that passes the checks is a block, and the outcomes that the promise allows
 mod Lent
 -- split undoes merge, and merge undoes split

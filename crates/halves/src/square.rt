@@ -10,6 +10,9 @@ ghost use Rattle.halves.specs.PrivateTiles.{Span, Tile, Lifted, Stored, 
 // The side of a tile.
 const SIDE: usize = 16;
 
+// A square of fewer rows is exchanged word by word: to zero the arrays would cost more than tiles save.
+const FEW: usize = 32;
+
 // How many of the n lines from line i on are in one tile.
 fn span(n: usize, i: usize) -> usize
     requires { ⌜ i < n ⌝ }
@@ -94,8 +97,8 @@ fn band(s: &mut [u32], one: &mut [u32], other: &mut [u32], n: usize, i: usize, h
     }
 }
 
-// Exchanges an n by n block across its diagonal.
-pub(crate) fn square(s: &mut [u32], n: usize)
+// Exchanges an n by n block across its diagonal, in tiles.
+fn by_tiles(s: &mut [u32], n: usize)
     requires { ⌜ length (now s) ≡ n * n ⌝ }
     ensures { λ _. ⌜ Turn n n (now (s .entry)) (now (s .exit)) ⌝ }
 {
@@ -107,4 +110,42 @@ pub(crate) fn square(s: &mut [u32], n: usize)
         band(s, &mut one, &mut other, n, i, h);
         i += h;
     }
+}
+
+// Exchanges row i of an n by n block with column i, from the diagonal on.
+fn cross(s: &mut [u32], n: usize, i: usize)
+    requires { ⌜ (length (now s) ≡ n * n) × (i < n) ⌝ }
+    ensures { λ _. ⌜ Across n i (i + 1) 0 n (now (s .entry)) (now (s .exit)) ⌝ }
+{
+    let mut j = i + 1;
+    while j < n {
+        let above = i * n + j;
+        let below = j * n + i;
+        let word = s[above];
+        s[above] = s[below];
+        s[below] = word;
+        j += 1;
+    }
+}
+
+// Exchanges an n by n block across its diagonal, word by word.
+fn by_words(s: &mut [u32], n: usize)
+    requires { ⌜ length (now s) ≡ n * n ⌝ }
+    ensures { λ _. ⌜ Turn n n (now (s .entry)) (now (s .exit)) ⌝ }
+{
+    for i in 0..n {
+        cross(s, n, i);
+    }
+}
+
+// Exchanges an n by n block across its diagonal.
+pub(crate) fn square(s: &mut [u32], n: usize)
+    requires { ⌜ length (now s) ≡ n * n ⌝ }
+    ensures { λ _. ⌜ Turn n n (now (s .entry)) (now (s .exit)) ⌝ }
+{
+    if n < FEW {
+        by_words(s, n);
+        return;
+    }
+    by_tiles(s, n);
 }

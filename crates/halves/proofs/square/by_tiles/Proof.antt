@@ -1,4 +1,4 @@
--- `square` meets its contract: after each turn of the loop the rows before i stand exchanged with their columns.
+-- `by_tiles` meets its contract: after each turn of the loop the rows before i stand exchanged with their columns.
 use mathlib.Core.Path.{_≡_, _∙_}
 use Prim.Native.Nat.{_-_, _≤_}
 use native.Mathlib.Omega.{arith}
@@ -6,8 +6,8 @@ use lib.ListN.{length}
 use borrow.Author.Needs.{needs}
 use Rattle.halves.specs.PrivateTiles.{Across}
 use Rattle.halves.proofs.Across.{side-few, across-none, rows-more, all-across}
-use Rattle.halves.proofs.square.square.Statement.{statement}
-use Rattle.halves.proofs.square.square.Tie as tie
+use Rattle.halves.proofs.square.by_tiles.Statement.{statement}
+use Rattle.halves.proofs.square.by_tiles.Tie as tie
 
 abbrev Inv-loop : tie.InvT-loop
 Inv-loop s₀ n one₀ other₀ i₀ s one other i = (i ≤ n) × Across n 0 i 0 n s₀ s × (length one ≡ 256) × (length other ≡ 256)
@@ -48,8 +48,8 @@ returns c =
     let s : Begin = search in
     all-across (s .pre) (omega arith) (l .loop .inv .1)
 
-pub square-spec : {M : Type 1} → statement M
-square-spec =
+pub by-tiles-spec : {M : Type 1} → statement M
+by-tiles-spec =
     tie.close
     (tie.spec
     Inv-loop
