@@ -2,10 +2,15 @@
 // columns.
 use crate::runs::merge;
 use crate::runs::split;
-use crate::square::square;
+use crate::square::by_tiles;
+use crate::square::by_words;
 ghost use Prim.Native.Nat.{_≤_};
 ghost use Rattle.flat.specs.Turn.{Turn};
 ghost use Rattle.halves.specs.Private.{Block};
+
+// A square of fewer rows is exchanged word by word: to zero the arrays of the tiles costs more than they save. It is asked before the call, so that a
+// small square has no frame with arrays.
+const FEW: usize = 32;
 
 // Turns a block of no fewer rows than columns. The rows are cut in two, each part is turned, then the parts are merged.
 pub(crate) fn tall(s: &mut [u32], m: usize, n: usize)
@@ -13,7 +18,11 @@ pub(crate) fn tall(s: &mut [u32], m: usize, n: usize)
     ensures { λ _. ⌜ Turn m n (now (s .entry)) (now (s .exit)) ⌝ }
 {
     if m == n {
-        square(s, n);
+        if n < FEW {
+            by_words(s, n);
+            return;
+        }
+        by_tiles(s, n);
         return;
     }
     let h = m / 2;
@@ -38,7 +47,11 @@ pub(crate) fn wide(s: &mut [u32], m: usize, n: usize)
     ensures { λ _. ⌜ Turn m n (now (s .entry)) (now (s .exit)) ⌝ }
 {
     if m == n {
-        square(s, n);
+        if n < FEW {
+            by_words(s, n);
+            return;
+        }
+        by_tiles(s, n);
         return;
     }
     let h = n / 2;

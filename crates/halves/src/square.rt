@@ -1,5 +1,5 @@
 // A square exchanged across its diagonal, in tiles of at most 16 by 16 words. Two tiles that mirror each other are read into arrays, row by row, and each is
-// stored turned in the place of the other; a tile on the diagonal is stored turned in its own.
+// stored turned in the place of the other; a tile on the diagonal is stored turned in its own. Small squares go word by word.
 ghost use mathlib.Core.Path.{_≡_};
 ghost use Prim.Native.Nat.{_+_, _*_, _<_, _≤_};
 ghost use lib.ListN.{length, getD};
@@ -9,9 +9,6 @@ ghost use Rattle.halves.specs.PrivateTiles.{Span, Tile, Lifted, Stored, 
 
 // The side of a tile.
 const SIDE: usize = 16;
-
-// A square of fewer rows is exchanged word by word: to zero the arrays would cost more than tiles save.
-const FEW: usize = 32;
 
 // How many of the n lines from line i on are in one tile.
 fn span(n: usize, i: usize) -> usize
@@ -98,7 +95,7 @@ fn band(s: &mut [u32], one: &mut [u32], other: &mut [u32], n: usize, i: usize, h
 }
 
 // Exchanges an n by n block across its diagonal, in tiles.
-fn by_tiles(s: &mut [u32], n: usize)
+pub(crate) fn by_tiles(s: &mut [u32], n: usize)
     requires { ⌜ length (now s) ≡ n * n ⌝ }
     ensures { λ _. ⌜ Turn n n (now (s .entry)) (now (s .exit)) ⌝ }
 {
@@ -129,23 +126,11 @@ fn cross(s: &mut [u32], n: usize, i: usize)
 }
 
 // Exchanges an n by n block across its diagonal, word by word.
-fn by_words(s: &mut [u32], n: usize)
+pub(crate) fn by_words(s: &mut [u32], n: usize)
     requires { ⌜ length (now s) ≡ n * n ⌝ }
     ensures { λ _. ⌜ Turn n n (now (s .entry)) (now (s .exit)) ⌝ }
 {
     for i in 0..n {
         cross(s, n, i);
     }
-}
-
-// Exchanges an n by n block across its diagonal.
-pub(crate) fn square(s: &mut [u32], n: usize)
-    requires { ⌜ length (now s) ≡ n * n ⌝ }
-    ensures { λ _. ⌜ Turn n n (now (s .entry)) (now (s .exit)) ⌝ }
-{
-    if n < FEW {
-        by_words(s, n);
-        return;
-    }
-    by_tiles(s, n);
 }

@@ -18,7 +18,8 @@ use Rattle.halves.proofs.recursion.+tall+wide.Lts-tall as tall-lts
 use Rattle.halves.proofs.recursion.wide.Reads as wide
 use Rattle.halves.proofs.recursion.wide.Kinds as wide-kinds
 use Rattle.halves.proofs.recursion.+tall+wide.Lts-wide as wide-lts
-use Rattle.halves.proofs.square.square.Reads as square-reads
+use Rattle.halves.proofs.square.by_words.Reads as words-reads
+use Rattle.halves.proofs.square.by_tiles.Reads as tiles-reads
 use Rattle.halves.proofs.runs.merge.Reads as merge-reads
 use Rattle.halves.proofs.runs.split.Reads as split-reads
 use Rattle.halves.proofs.recursion.+tall+wide.{statement}
@@ -44,11 +45,11 @@ wide-below t = and 1 wide-kinds.ps (falls 1 wide-kinds.ps _<_ μ-wide t) wide.Pr
 
 -- what the callees of wide ask and what they promise
 abbrev wide-calls : ℕ → wide-lts.Claims
-wide-calls t = (square-reads.Asked, square-reads.Learnt, split-reads.Asked, split-reads.Learnt, wide-below t, wide.Post, tall-below t, tall.Post)
+wide-calls t = (words-reads.Asked, words-reads.Learnt, tiles-reads.Asked, tiles-reads.Learnt, split-reads.Asked, split-reads.Learnt, wide-below t, wide.Post, tall-below t, tall.Post)
 
 -- what the callees of tall ask and what they promise
 abbrev tall-calls : ℕ → tall-lts.Claims
-tall-calls t = (square-reads.Asked, square-reads.Learnt, tall-below t, tall.Post, wide-below t, wide.Post, merge-reads.Asked, merge-reads.Learnt)
+tall-calls t = (words-reads.Asked, words-reads.Learnt, tiles-reads.Asked, tiles-reads.Learnt, tall-below t, tall.Post, wide-below t, wide.Post, merge-reads.Asked, merge-reads.Learnt)
 
 -- a place of tall, or a need, at a call of measure t
 abbrev Tall : (tall-lts.Claims → In 1 tall-kinds.ps → Out 1 tall-kinds.ps tall-kinds.r → Type 0) → ℕ → Type 0
@@ -60,35 +61,41 @@ module _ (t : ℕ) where
   tall-parts x = rows-cut (x .before .before .pre .1 .0) (omega arith)
 
   -- the first part is back
-  tall-front : (x : Tall tall-lts.Joined2 t) → let a = x .before .before .before .args in Front (a .m / 2 * a .n) (a .m / 2) (a .n) (a .s .now) (x .if2 .s)
+  tall-front : (x : Tall tall-lts.Joined3 t) → let a = x .before .before .before .args in Front (a .m / 2 * a .n) (a .m / 2) (a .n) (a .s .now) (x .if3 .s)
   tall-front x = ⊎-elim
       (λ w. record { part = w .2 .last .0; turn = w .2 .ensures; back = w .5 })
       (λ w. record { part = w .2 .last .0; turn = w .2 .ensures; back = w .5 })
-      (x .if2 .came)
+      (x .if3 .came)
 
   -- both are
-  tall-both : (x : Tall tall-lts.Joined3 t)
-      → let a = x .before .before .before .before .args in Both (a .m / 2 * a .n) (a .m / 2) (a .n) (a .m - a .m / 2) (a .n) (a .s .now) (x .if3 .s)
+  tall-both : (x : Tall tall-lts.Joined4 t)
+      → let a = x .before .before .before .before .args in Both (a .m / 2 * a .n) (a .m / 2) (a .n) (a .m - a .m / 2) (a .n) (a .s .now) (x .if4 .s)
   tall-both x = both-back (tall-parts (search)) (tall-front (search)) (⊎-elim
       (λ w. record { part = w .2 .last .0; turn = w .2 .ensures; back = w .5 })
       (λ w. record { part = w .2 .last .0; turn = w .2 .ensures; back = w .5 })
-      (x .if3 .came))
+      (x .if4 .came))
 
   -- what is computed fits
   tall-few : (x : Tall tall-lts.Else1 t) (h : ℕ) → let a = x .before .before .args in h ≤ a .m → h * a .n ≤ length (a .s .now)
   tall-few x h few = rows-few (x .before .before .pre .1 .0) h few
 
-  tall-square-requires : Tall tall-lts.Need-square-requires t
-  tall-square-requires c κs = let x : Tall tall-lts.Start t = search in square-block (x .pre .1 .0) (omega arith)
+  tall-by-words-requires : Tall tall-lts.Need-by-words-requires t
+  tall-by-words-requires c κs = let x : Tall tall-lts.Start t = search in square-block (x .pre .1 .0) (omega arith)
 
   tall-returns : Tall tall-lts.Need-returns t
-  tall-returns c = let q : Tall tall-lts.After-square t = search in square-turned (omega arith) (q .square .ensures)
+  tall-returns c = let q : Tall tall-lts.After-by-words t = search in square-turned (omega arith) (q .by-words .ensures)
+
+  tall-by-tiles-requires : Tall tall-lts.Need-by-tiles-requires t
+  tall-by-tiles-requires c κs = let x : Tall tall-lts.Start t = search in square-block (x .pre .1 .0) (omega arith)
+
+  tall-returns-2 : Tall tall-lts.Need-returns-2 t
+  tall-returns-2 c = let q : Tall tall-lts.After-by-tiles t = search in square-turned (omega arith) (q .by-tiles .ensures)
 
   tall-merge-requires : Tall tall-lts.Need-merge-requires t
   tall-merge-requires c κs = let x : Tall tall-lts.Start t = search in merge-runs (x .pre .1 .0) (omega arith) (tall-both (search))
 
-  tall-returns-2 : Tall tall-lts.Need-returns-2 t
-  tall-returns-2 c =
+  tall-returns-3 : Tall tall-lts.Need-returns-3 t
+  tall-returns-3 c =
       let m : Tall tall-lts.After-merge t = search in
       let x : Tall tall-lts.Start t = search in
       tall-turned (x .pre .1 .0) (omega arith) (tall-both (search)) (m .merge .ensures)
@@ -104,20 +111,26 @@ module _ (t : ℕ) where
   wide-parts x = let e : Wide wide-lts.Start t = search in split-parts (e .pre .1 .0) (omega arith) (x .split .ensures)
 
   -- the first part is back
-  wide-front : (x : Wide wide-lts.Joined2 t)
+  wide-front : (x : Wide wide-lts.Joined3 t)
       → let s = x .before .before .before in
       let a = s .before .before .before .before .args in
-      Front (a .m * (a .n / 2)) (a .m) (a .n / 2) (s .split .last .0) (x .if2 .s)
+      Front (a .m * (a .n / 2)) (a .m) (a .n / 2) (s .split .last .0) (x .if3 .s)
   wide-front x = ⊎-elim
       (λ w. record { part = w .2 .last .0; turn = w .2 .ensures; back = w .5 })
       (λ w. record { part = w .2 .last .0; turn = w .2 .ensures; back = w .5 })
-      (x .if2 .came)
+      (x .if3 .came)
 
-  wide-square-requires : Wide wide-lts.Need-square-requires t
-  wide-square-requires c κs = let x : Wide wide-lts.Start t = search in square-block (x .pre .1 .0) (omega arith)
+  wide-by-words-requires : Wide wide-lts.Need-by-words-requires t
+  wide-by-words-requires c κs = let x : Wide wide-lts.Start t = search in square-block (x .pre .1 .0) (omega arith)
 
   wide-returns : Wide wide-lts.Need-returns t
-  wide-returns c = let q : Wide wide-lts.After-square t = search in square-turned (omega arith) (q .square .ensures)
+  wide-returns c = let q : Wide wide-lts.After-by-words t = search in square-turned (omega arith) (q .by-words .ensures)
+
+  wide-by-tiles-requires : Wide wide-lts.Need-by-tiles-requires t
+  wide-by-tiles-requires c κs = let x : Wide wide-lts.Start t = search in square-block (x .pre .1 .0) (omega arith)
+
+  wide-returns-2 : Wide wide-lts.Need-returns-2 t
+  wide-returns-2 c = let q : Wide wide-lts.After-by-tiles t = search in square-turned (omega arith) (q .by-tiles .ensures)
 
   -- what is computed fits
   wide-few : (x : Wide wide-lts.Else1 t) (h : ℕ) → let a = x .before .before .args in h ≤ a .n → a .m * h ≤ length (a .s .now)
@@ -127,28 +140,31 @@ module _ (t : ℕ) where
   wide-split-requires c κs = let x : Wide wide-lts.Start t = search in split-runs (x .pre .1 .0) (omega arith)
 
   -- the second is back too
-  wide-whole : {z : List ℕ} (x : Wide wide-lts.Joined2 t)
+  wide-whole : {z : List ℕ} (x : Wide wide-lts.Joined3 t)
       → let s = x .before .before .before in
       let a = s .before .before .before .before .args in
-      Back (a .m * (a .n / 2)) (a .m) (a .n - a .n / 2) (x .if2 .s) z → Turn (a .m) (a .n) (a .s .now) z
+      Back (a .m * (a .n / 2)) (a .m) (a .n - a .n / 2) (x .if3 .s) z → Turn (a .m) (a .n) (a .s .now) z
   wide-whole x b =
       let s : Wide wide-lts.After-split t = search in
       let e : Wide wide-lts.Start t = search in
       wide-turned (e .pre .1 .0) (omega arith) (s .split .ensures) (both-back (wide-parts s) (wide-front x) b)
 
-  wide-returns-2 : Wide wide-lts.Need-returns-2 t
-  wide-returns-2 c = let w : Wide wide-lts.After-wide2 t = search in wide-whole (search) (record { part = w .wide2 .last .0; turn = w .wide2 .ensures; back = refl })
-
   wide-returns-3 : Wide wide-lts.Need-returns-3 t
-  wide-returns-3 c = let w : Wide wide-lts.After-tall2 t = search in wide-whole (search) (record { part = w .tall2 .last .0; turn = w .tall2 .ensures; back = refl })
+  wide-returns-3 c = let w : Wide wide-lts.After-wide2 t = search in wide-whole (search) (record { part = w .wide2 .last .0; turn = w .wide2 .ensures; back = refl })
+
+  wide-returns-4 : Wide wide-lts.Need-returns-4 t
+  wide-returns-4 c = let w : Wide wide-lts.After-tall2 t = search in wide-whole (search) (record { part = w .tall2 .last .0; turn = w .tall2 .ensures; back = refl })
 
 pub +tall+wide-spec : {M : Type 1} → statement M
 +tall+wide-spec = close μ-tall μ-wide (λ t. tall-lts.spec (tall-calls t)
     (tall-at t)
     tall.Post
-    (tall-square-requires t)
+    (tall-by-words-requires t)
     (search needs)
     (tall-returns t)
+    (tall-by-tiles-requires t)
+    (search needs)
+    (tall-returns-2 t)
     (search needs)
     (λ c. let e : Tall tall-lts.Else1 t = search in let a = e .before .before .args in omega (arith, tall-few t e (a .m / 2) (omega arith)))
     (λ c. cut-within (tall-parts t (search)))
@@ -174,14 +190,17 @@ pub +tall+wide-spec : {M : Type 1} → statement M
     let f = tall-front t (search) in
     (omega (arith, high-falls p f), (high-block p f, omega arith)))
     (tall-merge-requires t)
-    (λ c. tall-returns-2 t c .same)
-    (tall-returns-2 t))
+    (λ c. tall-returns-3 t c .same)
+    (tall-returns-3 t))
     λ t. wide-lts.spec (wide-calls t)
     (wide-at t)
     wide.Post
-    (wide-square-requires t)
+    (wide-by-words-requires t)
     (search needs)
     (wide-returns t)
+    (wide-by-tiles-requires t)
+    (search needs)
+    (wide-returns-2 t)
     (search needs)
     (λ c. let e : Wide wide-lts.Else1 t = search in let a = e .before .before .args in omega (arith, wide-few t e (a .n / 2) (omega arith)))
     (wide-split-requires t)
@@ -207,7 +226,7 @@ pub +tall+wide-spec : {M : Type 1} → statement M
     let p = wide-parts t (search) in
     let f = wide-front t (search) in
     (omega (arith, high-falls p f), (high-block p f, omega arith)))
-    (λ c. wide-returns-2 t c .same)
-    (wide-returns-2 t)
     (λ c. wide-returns-3 t c .same)
     (wide-returns-3 t)
+    (λ c. wide-returns-4 t c .same)
+    (wide-returns-4 t)
