@@ -193,7 +193,9 @@ fn chunks(t: &mut Bench, r: &mut Random) {
     let slices = [63, 64, 65, 79, 80, 81, 82, 159, 160, 161, 239, 240, 241, 400];
     for chunk in (1..=40).chain(slices).step_by(if t.short { 5 } else { 1 }) {
         for shape in [[2, 3, 7, chunk], [1, 9, 9, chunk], [1, 17, 30, chunk], [1, 66, 5, chunk], [1, 5, 97, chunk], [1, 70, 67, chunk], [1, 83, 130, chunk]] {
-            try_swap(t, r, shape, 1);
+            if volume(&shape) <= 1 << 20 {
+                try_swap(t, r, shape, 1);
+            }
         }
     }
     // as many places as have marks, and more: 65,536 and 131,072
