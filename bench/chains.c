@@ -306,7 +306,7 @@ static void report(const char *title) {
         }
         printf("%16.2f\n", ratio(t));
     }
-    printf("\nThe most times the copy: %.2f where chunks have 16 words or more (goal 2), %.2f from 4 to 15 (goal 4); 64x16x16x16 swap 2: %.2f (goal 2.5)\n",
+    printf("\nThe most times the copy: %.2f where chunks have 16 words or more (goal 1.2 on x86-64), %.2f from 4 to 15 (goal 1.7); 64x16x16x16 swap 2: %.2f (goal 1.6)\n",
            worst(16, MOST_WORDS), worst(4, 15), ratio(2));
 }
 
