@@ -24,7 +24,7 @@
  *
  * At each call: In is what it reads, Out what it leaves, Answers which number comes back: 0, or the
  * first of those listed that holds. 8 is free: no call gives it. Which call is faster when:
- * docs/BENCH.txt.
+ * docs/SPEED.md.
  */
 #ifndef ZIBSNARDA_H
 #define ZIBSNARDA_H
@@ -358,9 +358,8 @@ uint32_t zib_tick(uint32_t *buffer, size_t buffer_words, uint32_t *scratch, size
  * A stage is a line's finished words into scratch, the same words from there back, or, as the last
  * one, the clearing of max(m, n) words; its stores are its words in rising place, then the progress
  * word. A stopped process leaves what a budget leaves as long as a stage's words reach the file
- * before its progress word, and that before the next stage's words: see "A process that is killed"
- * in README. Where the power may be cut, an msync of the whole file comes before the first call of
- * every start.
+ * before its progress word, and that before the next stage's words: see docs/KILLED.md. Where the
+ * power may be cut, an msync of the whole file comes before the first call of every start.
  * Other sides than those of the first start destroy the block, and the call can tell only where the
  * progress word is past their end: keep m and n beside it and compare them. At 23 check the sides
  * first; setting the word to 0 comes last, and destroys a turn that was under way.
