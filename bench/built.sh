@@ -1,3 +1,4 @@
+# shellcheck shell=sh
 # The library built for a measurement. Sourced by the scripts that measure.
 . share/build.sh
 

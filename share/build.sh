@@ -1,3 +1,4 @@
+# shellcheck shell=sh
 # What is proved and compiled for those who install or run: the library and the program `turn`, for a kind of machine. Sourced from the
 # repository's root.
 #

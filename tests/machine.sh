@@ -1,3 +1,4 @@
+# shellcheck shell=sh
 # What this machine lacks to build and run code for a kind of machine, installed by apt-get where it can be. Sourced by the scripts.
 
 machine=$(uname -m)
