@@ -1,5 +1,5 @@
 // Four axes: chains, direct requests and plans; what is asked of five axes too is over the number of axes.
-use crate::bench::Bench;
+use crate::cases::Cases;
 use crate::driver::{sizes, words, Answer, Request, CHAIN, CHAIN5, PLAN, PLAN5, REQUEST, REQUEST5};
 use crate::random::Random;
 use crate::reference::{block_checks, by_release, first, laid, longest, named, need, number_of, orders, plan, reordered, volume, zeroed};
@@ -79,14 +79,14 @@ pub fn request_case<const N: usize>(lengths: [u64; N], release: u64, asked: u64,
     (q, e)
 }
 
-pub fn try_chain<const N: usize>(t: &mut Bench, lengths: [u64; N], chain: &[u64], buffer: &[u32], scratch: &[u32]) {
+pub fn try_chain<const N: usize>(t: &mut Cases, lengths: [u64; N], chain: &[u64], buffer: &[u32], scratch: &[u32]) {
     let (q, e) = chain_case(lengths, chain, buffer, scratch);
     t.expect_both(&q, &e, || {
         format!("chain {:?} on {:?}, {} words, scratch {}", chain, lengths, buffer.len(), scratch.len())
     });
 }
 
-pub fn try_release<const N: usize>(t: &mut Bench, lengths: [u64; N], release: u64, asked: u64, buffer: &[u32], scratch: &[u32]) {
+pub fn try_release<const N: usize>(t: &mut Cases, lengths: [u64; N], release: u64, asked: u64, buffer: &[u32], scratch: &[u32]) {
     let (q, e) = request_case(lengths, release, asked, buffer, scratch);
     t.expect_both(&q, &e, || {
         format!("release {}, order {} of {:?}, {} words, scratch {}", release, asked, lengths, buffer.len(), scratch.len())
@@ -94,7 +94,7 @@ pub fn try_release<const N: usize>(t: &mut Bench, lengths: [u64; N], release: u6
 }
 
 // A number in both releases.
-pub fn try_request<const N: usize>(t: &mut Bench, lengths: [u64; N], asked: u64, buffer: &[u32], scratch: &[u32]) {
+pub fn try_request<const N: usize>(t: &mut Cases, lengths: [u64; N], asked: u64, buffer: &[u32], scratch: &[u32]) {
     for release in [1, 2] {
         try_release(t, lengths, release, asked, buffer, scratch);
     }
@@ -121,7 +121,7 @@ pub fn random_shape<const N: usize>(r: &mut Random, side: u64) -> [u64; N] {
 }
 
 // Plans for every number at and around the bound, against brute force, in ten places.
-pub fn plans<const N: usize>(t: &mut Bench) {
+pub fn plans<const N: usize>(t: &mut Cases) {
     let all = orders::<N>();
     let count = all.len() as u64;
     let beyond = [count, count + 1, 255, 256, 1 << 16, 1 << 32, u64::MAX];
@@ -142,7 +142,7 @@ pub fn small_shapes<const N: usize>(side: u64) -> Vec<[u64; N]> {
 }
 
 // Every order of each shape, by request in both releases and by its plan's chain.
-pub fn every_order<const N: usize>(t: &mut Bench, r: &mut Random, shapes: Vec<[u64; N]>) {
+pub fn every_order<const N: usize>(t: &mut Cases, r: &mut Random, shapes: Vec<[u64; N]>) {
     for lengths in shapes {
         let spare = r.below(3);
         let (buffer, scratch) = lent(r, lengths, spare);
@@ -156,7 +156,7 @@ pub fn every_order<const N: usize>(t: &mut Bench, r: &mut Random, shapes: Vec<[u
 
 // One swap with every chunk length that is moved in a way of its own (single words, a few, many, more than an axis has), on two axes whose lengths
 // share a factor, share none, double to each other or are 1: exhaustive on small ones, then larger ones.
-fn chunks(t: &mut Bench, r: &mut Random) {
+fn chunks(t: &mut Cases, r: &mut Random) {
     let side = if t.short { 5 } else { 9 };
     let lengths: &[u64] = if t.short { &[2, 3, 4, 7, 8, 16] } else { &[1, 2, 3, 4, 5, 7, 8, 9, 15, 16, 17, 33] };
     for &chunk in lengths {
@@ -212,7 +212,7 @@ fn chunks(t: &mut Bench, r: &mut Random) {
 }
 
 // One swap, with scratch of exactly what it needs and two words more.
-fn try_swap(t: &mut Bench, r: &mut Random, lengths: Lengths, k: u64) {
+fn try_swap(t: &mut Cases, r: &mut Random, lengths: Lengths, k: u64) {
     let buffer = r.words(volume(&lengths) as usize);
     for spare in [0, 2] {
         let scratch = r.words((need(lengths, &[k]) + spare) as usize);
@@ -220,7 +220,7 @@ fn try_swap(t: &mut Bench, r: &mut Random, lengths: Lengths, k: u64) {
     }
 }
 
-pub fn random_chains<const N: usize>(t: &mut Bench, r: &mut Random) {
+pub fn random_chains<const N: usize>(t: &mut Cases, r: &mut Random) {
     for _ in 0..if t.short { 100 } else { 2000 } {
         let lengths: [u64; N] = random_shape(r, 13 - N as u64);
         let spare = r.below(4);
@@ -233,7 +233,7 @@ pub fn random_chains<const N: usize>(t: &mut Bench, r: &mut Random) {
 }
 
 // One chain after another is their joining, and a chain run backwards brings every word home.
-pub fn joined<const N: usize>(t: &mut Bench, r: &mut Random) {
+pub fn joined<const N: usize>(t: &mut Cases, r: &mut Random) {
     for _ in 0..if t.short { 50 } else { 500 } {
         let lengths: [u64; N] = random_shape(r, 12 - N as u64);
         let lengths_of = [r.below(17), r.below(17)];
@@ -244,7 +244,7 @@ pub fn joined<const N: usize>(t: &mut Bench, r: &mut Random) {
         // exactly what the joined chain needs is enough for each
         let buffer = r.words(volume(&lengths) as usize);
         let scratch = r.words(need(lengths, &both) as usize);
-        let run = |t: &mut Bench, lengths: &[u64], chain: &[u64], lent: Vec<crate::driver::Buffer>| {
+        let run = |t: &mut Cases, lengths: &[u64], chain: &[u64], lent: Vec<crate::driver::Buffer>| {
             let mut buffers = lent[..2].to_vec();
             buffers.push(sizes(chain).read_only());
             t.driver.ask(0, &Request { call: if N == 4 { CHAIN } else { CHAIN5 }, numbers: lengths.to_vec(), buffers })
@@ -271,7 +271,7 @@ pub fn joined<const N: usize>(t: &mut Bench, r: &mut Random) {
 }
 
 // Request 3: scratch one word short of the need, exact and longer, for random chains and for every order.
-fn needs(t: &mut Bench, r: &mut Random) {
+fn needs(t: &mut Cases, r: &mut Random) {
     for k in 0..if t.short { 60 } else { 600 } {
         let lengths = if k % 2 == 0 { random_shape(r, 9) } else { [1 + r.below(2), 1 + r.below(9), 1 + r.below(2), 1 + r.below(9)] };
         let buffer = r.words(volume(&lengths) as usize);
@@ -328,7 +328,7 @@ fn needs(t: &mut Bench, r: &mut Random) {
 }
 
 // Every set of the checks 1, 2, 3, 13, 5, 6, 4, and of 1, 2, 3, 13, 14, 7, 4: each alone, each pair, and more.
-fn check_sets(t: &mut Bench, r: &mut Random) {
+fn check_sets(t: &mut Cases, r: &mut Random) {
     for set in 0..128 {
         let holds = |k: u32| set & (1 << k) != 0;
         let shapes: &[Lengths] = match (holds(0), holds(1)) {
@@ -363,7 +363,7 @@ fn check_sets(t: &mut Bench, r: &mut Random) {
 }
 
 // Buffers and scratch short by one, exact and longer; chains of 0, 31, 32, 33; one bad swap at every place.
-fn bounds(t: &mut Bench, r: &mut Random) {
+fn bounds(t: &mut Cases, r: &mut Random) {
     for &lengths in &[[1, 1, 1, 1], [2, 3, 4, 5], [1, 1, 1, 4096], [4096, 1, 1, 1], [4096, 1, 1, 1 + 1]] {
         let (block, side) = (volume(&lengths) as usize, longest(&lengths) as usize);
         for &b in &[0, block - 1, block, block + 1] {
@@ -401,7 +401,7 @@ fn bounds(t: &mut Bench, r: &mut Random) {
 }
 
 // The whole limit, and one past it, over four axes.
-fn largest(t: &mut Bench, r: &mut Random) {
+fn largest(t: &mut Cases, r: &mut Random) {
     let buffer = r.words(1_048_576);
     let scratch = r.words(4096);
     for &lengths in &[[1024, 4, 16, 16], [32, 32, 32, 32], [4096, 1, 1, 256], [1024, 1, 1025, 1], [32, 32, 32, 33]] {
@@ -413,7 +413,7 @@ fn largest(t: &mut Bench, r: &mut Random) {
 }
 
 // The benches of document 01 about chains and plans, with their values written out.
-fn benches(t: &mut Bench, r: &mut Random) {
+fn benches(t: &mut Cases, r: &mut Random) {
     let plans: [(u64, &[u64]); 5] = [(0, &[]), (9, &[0, 1, 2]), (18, &[2, 1, 0]), (16, &[1, 0, 2, 1]), (23, &[0, 1, 0, 2, 1, 0])];
     for &(order, chain) in &plans {
         t.verdict(plan(orders::<4>()[order as usize]) == chain, || format!("the reference plans order {} otherwise", order));
@@ -439,7 +439,7 @@ fn benches(t: &mut Bench, r: &mut Random) {
 }
 
 // Document 02, item 6: a whole pool buffer of 64 frames and 16 cameras, lent to a chain and to a request with last week's frame count.
-fn pool_buffer(t: &mut Bench, r: &mut Random) {
+fn pool_buffer(t: &mut Cases, r: &mut Random) {
     let pool = r.words(64 * 16);
     let scratch = r.words(70);
     for &(frames, number) in &[(60, 13), (63, 13), (64, 0), (65, 3), (1, 13)] {
@@ -454,7 +454,7 @@ fn pool_buffer(t: &mut Bench, r: &mut Random) {
 }
 
 // Document 02, item 5: a number in release 2 says where each axis goes. Orders that are their own inverse hide the difference; 9 and 18 do not.
-fn releases(t: &mut Bench, r: &mut Random) {
+fn releases(t: &mut Cases, r: &mut Random) {
     let lengths = [2, 3, 4, 5];
     let (buffer, scratch) = lent(r, lengths, 2);
     let written: [(u64, u64, Lengths, u64); 8] = [
@@ -495,7 +495,7 @@ fn releases(t: &mut Bench, r: &mut Random) {
     t.group("releases: both of all 24 orders, 0, 3 and huge ones, 14 against 7, 3 and 4");
 }
 
-pub fn all(t: &mut Bench, seed: u64) {
+pub fn all(t: &mut Cases, seed: u64) {
     let mut r = Random::new(seed);
     benches(t, &mut r);
     releases(t, &mut r);

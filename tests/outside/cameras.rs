@@ -1,5 +1,5 @@
 // Document 02, item 9: a camera's column removed from a frames by cameras block, and one added.
-use crate::bench::Bench;
+use crate::cases::Cases;
 use crate::driver::{words, Answer, Request, ADD_CAMERA, REMOVE_CAMERA};
 use crate::random::Random;
 use crate::reference::{bad_length, first, volume, MOST_WORDS};
@@ -22,7 +22,7 @@ fn added(buffer: &[u32], frames: usize, cameras: usize, k: usize, column: &[u32]
     [&grown[..], &buffer[used..]].concat()
 }
 
-fn try_remove(t: &mut Bench, frames: u64, cameras: u64, k: u64, buffer: &[u32]) {
+fn try_remove(t: &mut Cases, frames: u64, cameras: u64, k: u64, buffer: &[u32]) {
     let number = first(&[
         (1, bad_length(&[frames, cameras]) || cameras == 1),
         (2, volume(&[frames, cameras]) > MOST_WORDS),
@@ -35,7 +35,7 @@ fn try_remove(t: &mut Bench, frames: u64, cameras: u64, k: u64, buffer: &[u32]) 
     t.expect_both(&q, &e, || format!("remove column {} of {} by {}, {} words", k, frames, cameras, buffer.len()));
 }
 
-fn try_add(t: &mut Bench, frames: u64, cameras: u64, k: u64, column: &[u32], buffer: &[u32]) {
+fn try_add(t: &mut Cases, frames: u64, cameras: u64, k: u64, column: &[u32], buffer: &[u32]) {
     let before = volume(&[frames, cameras]);
     let after = volume(&[frames, cameras.saturating_add(1)]);
     let number = first(&[
@@ -53,7 +53,7 @@ fn try_add(t: &mut Bench, frames: u64, cameras: u64, k: u64, column: &[u32], buf
     t.expect_both(&q, &e, || format!("add column {} to {} by {}, {} words, {} in the column", k, frames, cameras, buffer.len(), column.len()));
 }
 
-pub fn all(t: &mut Bench, seed: u64) {
+pub fn all(t: &mut Cases, seed: u64) {
     let mut r = Random::new(seed);
     let side = if t.short { 4 } else { 9 };
     for frames in 1..=side {

@@ -1,5 +1,5 @@
 // Document 02, item 11: lists of the cycles of a turn, right ones and damaged ones, judged and run.
-use crate::bench::Bench;
+use crate::cases::Cases;
 use crate::driver::{words, Answer, Request, AT_END, JUDGE_CYCLES, RUN_CYCLES};
 use crate::random::Random;
 use crate::reference::{bad_length, first, turned, volume, MOST_WORDS};
@@ -36,7 +36,7 @@ fn difference(given: &[u32], right: &[u32]) -> Option<u64> {
     (0..pairs).find(|&k| pair(given, k) != pair(right, k)).map(|k| k as u64)
 }
 
-fn judge(t: &mut Bench, m: u64, n: u64, list: &[u32], right: &[u32], both: bool, what: &str) {
+fn judge(t: &mut Cases, m: u64, n: u64, list: &[u32], right: &[u32], both: bool, what: &str) {
     let place = difference(list, right);
     let number = first(&[(1, bad_length(&[m, n])), (2, volume(&[m, n]) > MOST_WORDS), (22, place.is_some())]);
     let lent = words(list).read_only();
@@ -51,7 +51,7 @@ fn judge(t: &mut Bench, m: u64, n: u64, list: &[u32], right: &[u32], both: bool,
 }
 
 // The list run on a buffer of that many words: the block that is turned by copying, or every word as it was.
-fn run(t: &mut Bench, r: &mut Random, m: u64, n: u64, list: &[u32], right: &[u32], room: usize, what: &str) {
+fn run(t: &mut Cases, r: &mut Random, m: u64, n: u64, list: &[u32], right: &[u32], room: usize, what: &str) {
     let place = difference(list, right);
     let before = r.words(room);
     let number = first(&[
@@ -118,7 +118,7 @@ fn rearranged(list: &[u32], m: u64, n: u64) -> Vec<(&'static str, Vec<u32>)> {
     ]
 }
 
-fn shape(t: &mut Bench, m: u64, n: u64, places: &mut dyn FnMut(usize) -> Vec<usize>) {
+fn shape(t: &mut Cases, m: u64, n: u64, places: &mut dyn FnMut(usize) -> Vec<usize>) {
     let to = goes(m, n);
     let list = right(&to);
     let offsets: Vec<u32> = (0..(m * n) as u32).collect();
@@ -135,7 +135,7 @@ fn shape(t: &mut Bench, m: u64, n: u64, places: &mut dyn FnMut(usize) -> Vec<usi
     }
 }
 
-pub fn all(t: &mut Bench, seed: u64) {
+pub fn all(t: &mut Cases, seed: u64) {
     let mut r = Random::new(seed);
     let small = if t.short { 4 } else { 7 };
     for m in 1..=small {

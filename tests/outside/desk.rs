@@ -1,5 +1,5 @@
 // Document 02, item 10: the join desk, with integers wide enough for every sum.
-use crate::bench::Bench;
+use crate::cases::Cases;
 use crate::driver::{readings, Answer, Request, AT_END, CHOOSE, CHOOSE_NUMBER, JOIN, OFFSET_DELAY, TO_FRAMES};
 use crate::random::Random;
 use crate::reference::{bad_length, first};
@@ -31,7 +31,7 @@ fn offset(four: &[i64]) -> i128 {
     half
 }
 
-fn measure(t: &mut Bench, run: &[i64]) {
+fn measure(t: &mut Cases, run: &[i64]) {
     let number = first(&[(26, run.len() != 4), (18, far(run))]);
     let (o, d) = if number == 0 { (offset(run), delay(run)) } else { (0, 0) };
     let q = Request { call: OFFSET_DELAY, numbers: vec![], buffers: vec![readings(run)] };
@@ -54,7 +54,7 @@ fn nearest(offset: i64, ticks: u64) -> i128 {
     }
 }
 
-fn frames(t: &mut Bench, offset: i64, ticks: u64) {
+fn frames(t: &mut Cases, offset: i64, ticks: u64) {
     let number = first(&[(21, ticks == 0 || ticks > 1_000_000), (18, beyond(SHIFT, offset))]);
     let f = if number == 0 { nearest(offset, ticks) } else { 0 };
     let q = Request { call: TO_FRAMES, numbers: vec![offset as u64, ticks], buffers: vec![] };
@@ -78,7 +78,7 @@ fn common(shifts: &[i64], frames: u64) -> Option<(i128, i128)> {
     }
 }
 
-fn join(t: &mut Bench, shifts: &[i64], frames: u64) {
+fn join(t: &mut Cases, shifts: &[i64], frames: u64) {
     let counts = bad_length(&[shifts.len() as u64, frames]);
     let too_far = shifts.iter().any(|&s| beyond(SHIFT, s));
     let stretch = if counts || too_far { None } else { common(shifts, frames) };
@@ -90,7 +90,7 @@ fn join(t: &mut Bench, shifts: &[i64], frames: u64) {
 }
 
 // Frame by frame: a frame is common where every camera has it.
-fn join_by_frames(t: &mut Bench, shifts: &[i64], frames: u64) {
+fn join_by_frames(t: &mut Cases, shifts: &[i64], frames: u64) {
     let has = |f: i64| shifts.iter().all(|&s| s <= f && f < s + frames as i64);
     let all: Vec<i64> = (-40..40).filter(|&f| has(f)).collect();
     let expected = all.first().map(|&f| (f as i128, f as i128 + all.len() as i128));
@@ -112,7 +112,7 @@ fn chosen(runs: [&[i64]; 2]) -> Option<(usize, usize)> {
     all.first().map(|&(_, path, j)| (path, j))
 }
 
-fn choose(t: &mut Bench, one: &[i64], two: &[i64]) {
+fn choose(t: &mut Cases, one: &[i64], two: &[i64]) {
     let ragged = one.len() % 4 != 0 || two.len() % 4 != 0;
     let choice = if ragged || far(one) || far(two) { None } else { chosen([one, two]) };
     let number = first(&[(26, ragged), (18, far(one) || far(two)), (19, choice.is_none())]);
@@ -146,7 +146,7 @@ fn lists(values: &[i64], length: usize) -> Vec<Vec<i64>> {
     (0..length).fold(vec![vec![]], |all, _| all.iter().flat_map(|l| values.iter().map(move |&v| [&l[..], &[v]].concat())).collect())
 }
 
-fn measures(t: &mut Bench, r: &mut Random) {
+fn measures(t: &mut Cases, r: &mut Random) {
     let near: Vec<i64> = if t.short { vec![-1, 0, 1] } else { vec![-3, -2, -1, 0, 1, 2, 3] };
     for run in lists(&near, 4) {
         measure(t, &run);
@@ -174,7 +174,7 @@ fn measures(t: &mut Bench, r: &mut Random) {
     t.group("offset and delay refused: every length to 9, every place of a far reading");
 }
 
-fn to_frames(t: &mut Bench, r: &mut Random) {
+fn to_frames(t: &mut Cases, r: &mut Random) {
     let (span, most) = if t.short { (12, 5) } else { (60, 24) };
     for ticks in 1..=most {
         for offset in -span..=span {
@@ -203,7 +203,7 @@ fn to_frames(t: &mut Bench, r: &mut Random) {
     t.group("frames refused: ticks at every bound, offsets at every bound");
 }
 
-fn joins(t: &mut Bench, r: &mut Random) {
+fn joins(t: &mut Cases, r: &mut Random) {
     let near: Vec<i64> = if t.short { vec![-2, 0, 1] } else { vec![-3, -2, -1, 0, 1, 2, 3] };
     for cameras in 1..=3 {
         for shifts in lists(&near, cameras) {
@@ -239,7 +239,7 @@ fn joins(t: &mut Bench, r: &mut Random) {
     t.group("joins: shifts at 2 to the 61st, counts at every bound, refusals in order");
 }
 
-fn choices(t: &mut Bench, r: &mut Random) {
+fn choices(t: &mut Cases, r: &mut Random) {
     let delays: Vec<i64> = if t.short { vec![-1, 0, 1] } else { vec![-2, -1, 0, 1, 2] };
     for (a, b) in [(0, 0), (0, 1), (1, 0), (1, 1), (0, 2), (2, 0), (1, 2), (2, 1), (2, 2)] {
         for one in lists(&delays, a) {
@@ -288,7 +288,7 @@ fn choices(t: &mut Bench, r: &mut Random) {
     t.group(&format!("choices refused: every length to {}, far readings in either run, refusals in order", most));
 }
 
-pub fn all(t: &mut Bench, seed: u64) {
+pub fn all(t: &mut Cases, seed: u64) {
     let mut r = Random::new(seed);
     measures(t, &mut r);
     to_frames(t, &mut r);

@@ -1,6 +1,6 @@
 // Document 02, item 13: five axes, and four-axis calls with a fifth length that they do not read.
 use crate::axes::{answer, chain_case, every_order, joined, lent, plans, random_chain_of, random_chains, random_shape, request_case, small_shapes, try_chain, try_release, try_request};
-use crate::bench::Bench;
+use crate::cases::Cases;
 use crate::driver::Request;
 use crate::random::Random;
 use crate::reference::{by_release, longest, need, number_of, orders, plan, volume};
@@ -8,7 +8,7 @@ use crate::reference::{by_release, longest, need, number_of, orders, plan, volum
 type Lengths = [u64; 5];
 
 // The reference itself on values written out: dictionary order, plans of ten swaps at most, the first 24 orders those of four, one up, behind axis 0.
-fn listed(t: &mut Bench) {
+fn listed(t: &mut Cases) {
     let all = orders::<5>();
     t.verdict(all.len() == 120, || format!("{} orders of five axes", all.len()));
     let written: [(usize, [usize; 5]); 6] =
@@ -26,7 +26,7 @@ fn listed(t: &mut Bench) {
 }
 
 // Both releases: the words of the inverse, every axis where its number sends it, the same need.
-fn releases(t: &mut Bench, r: &mut Random) {
+fn releases(t: &mut Cases, r: &mut Random) {
     let lengths: Lengths = [2, 3, 1, 5, 4];
     let (buffer, scratch) = lent(r, lengths, 2);
     let e = request_case(lengths, 1, 33, &buffer, &scratch).1;
@@ -52,7 +52,7 @@ fn releases(t: &mut Bench, r: &mut Random) {
 }
 
 // Scratch one word short of the need, exact and longer.
-fn needs(t: &mut Bench, r: &mut Random) {
+fn needs(t: &mut Cases, r: &mut Random) {
     for k in 0..if t.short { 40 } else { 400 } {
         let lengths: Lengths = random_shape(r, 6);
         let buffer = r.words(volume(&lengths) as usize);
@@ -69,7 +69,7 @@ fn needs(t: &mut Bench, r: &mut Random) {
 }
 
 // Every set of the checks 1, 2, 3, 13, 5, 6, 4, and of 1, 2, 3, 13, 14, 7, 4.
-fn check_sets(t: &mut Bench, r: &mut Random) {
+fn check_sets(t: &mut Cases, r: &mut Random) {
     for set in 0..128 {
         let holds = |k: u32| set & (1 << k) != 0;
         let shapes: &[Lengths] = match (holds(0), holds(1)) {
@@ -102,7 +102,7 @@ fn check_sets(t: &mut Bench, r: &mut Random) {
 }
 
 // Sides at their bounds at every place, swaps at theirs, chains of 31 to 33, the largest block.
-fn bounds(t: &mut Bench, r: &mut Random) {
+fn bounds(t: &mut Cases, r: &mut Random) {
     for &side in &[0, 1, 4096, 4097, 1 << 32, u64::MAX] {
         for place in 0..5 {
             let mut lengths = [1; 5];
@@ -135,7 +135,7 @@ fn bounds(t: &mut Bench, r: &mut Random) {
 }
 
 // A four-axis call does not read the fifth length, whatever it holds, and answers 0 there: the same answer and the same words each time.
-fn fifth_of_four(t: &mut Bench, r: &mut Random) {
+fn fifth_of_four(t: &mut Cases, r: &mut Random) {
     for k in 0..if t.short { 20 } else { 200 } {
         let lengths: [u64; 4] = random_shape(r, 6);
         let (buffer, scratch) = lent(r, lengths, 1);
@@ -162,7 +162,7 @@ fn fifth_of_four(t: &mut Bench, r: &mut Random) {
     t.group("a fifth length of 0, 7, 2^64 - 1 and others in four-axis calls");
 }
 
-pub fn all(t: &mut Bench, seed: u64) {
+pub fn all(t: &mut Cases, seed: u64) {
     let mut r = Random::new(seed);
     listed(t);
     fifth_of_four(t, &mut r);

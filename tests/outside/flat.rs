@@ -1,5 +1,5 @@
 // The flat turn and its reverse, by strips and by passes, and the flat turn by recursion.
-use crate::bench::Bench;
+use crate::cases::Cases;
 use crate::driver::{words, Answer, Request, TURN, TURN_BACK, TURN_BACK_PASSES, TURN_HALVES, TURN_PASSES};
 use crate::random::Random;
 use crate::reference::{block_checks, cleared, first, scratch_checks, turned, turned_back};
@@ -42,7 +42,7 @@ fn case(call: u64, m: u64, n: u64, buffer: &[u32], scratch: &[u32]) -> (Request,
     (request, Answer { numbers: vec![number], buffers: left })
 }
 
-fn try_call(t: &mut Bench, call: u64, m: u64, n: u64, buffer: &[u32], scratch: &[u32]) {
+fn try_call(t: &mut Cases, call: u64, m: u64, n: u64, buffer: &[u32], scratch: &[u32]) {
     let (q, e) = case(call, m, n, buffer, scratch);
     t.expect_both(&q, &e, || {
         format!("{} {} by {}, {} words, scratch {}", name(call), m, n, buffer.len(), scratch.len())
@@ -50,7 +50,7 @@ fn try_call(t: &mut Bench, call: u64, m: u64, n: u64, buffer: &[u32], scratch: &
 }
 
 // Every shape up to a side, with exact scratch and with longer.
-fn small_shapes(t: &mut Bench, r: &mut Random) {
+fn small_shapes(t: &mut Cases, r: &mut Random) {
     let side = if t.short { 12 } else { 40 };
     for m in 1..=side {
         for n in 1..=side {
@@ -67,7 +67,7 @@ fn small_shapes(t: &mut Bench, r: &mut Random) {
 }
 
 // Shapes at the edges of what is accepted, and those of the benchmark.
-fn large_shapes(t: &mut Bench, r: &mut Random) {
+fn large_shapes(t: &mut Cases, r: &mut Random) {
     let all = [
         (64, 15), (64, 16), (15, 64), (1, 4096), (4096, 1), (4096, 16), (4095, 3), (3, 4095), (256, 256),
         (4096, 256), (256, 4096), (4095, 256), (255, 4096), (1000, 1048), (1000, 1047), (1048, 1000), (1024, 1024), (1000, 1000), (997, 1009),
@@ -85,7 +85,7 @@ fn large_shapes(t: &mut Bench, r: &mut Random) {
 
 // Both ways of the strips about every bound that they have: a block that fits the tile of 512 words or not, a line of 64 words, cuts of 32 to 64 lines, none,
 // one and several lines left over, lines of 1,024 words that wait.
-fn strip_bounds(t: &mut Bench, r: &mut Random) {
+fn strip_bounds(t: &mut Cases, r: &mut Random) {
     let near = [2, 3, 7, 8, 9, 15, 16, 17, 31, 32, 33, 62, 63, 64, 65, 66, 79, 80, 81, 82, 95, 96, 97, 127, 128, 129];
     let far = [511, 512, 513, 1022, 1023, 1024, 1025, 2047, 2049, 4095, 4096];
     let sides = |m: u64, n: u64| [(m, n), (n, m)];
@@ -106,7 +106,7 @@ fn strip_bounds(t: &mut Bench, r: &mut Random) {
 }
 
 // Random shapes, each with its own spare scratch.
-fn random_shapes(t: &mut Bench, r: &mut Random) {
+fn random_shapes(t: &mut Cases, r: &mut Random) {
     for _ in 0..if t.short { 20 } else { 300 } {
         let m = r.within(1, 400);
         let n = r.within(1, 400);
@@ -119,7 +119,7 @@ fn random_shapes(t: &mut Bench, r: &mut Random) {
 }
 
 // A turn and its reverse, and both ways of turning, on what the library itself left.
-fn round_trips(t: &mut Bench, r: &mut Random) {
+fn round_trips(t: &mut Cases, r: &mut Random) {
     for _ in 0..if t.short { 20 } else { 200 } {
         let (m, n) = (r.within(1, 60), r.within(1, 60));
         let buffer = r.words((m * n) as usize);
@@ -139,7 +139,7 @@ fn round_trips(t: &mut Bench, r: &mut Random) {
 }
 
 // Sizes at every bound, beside buffers and scratch that are short by one, exact, and longer by one.
-fn bounds(t: &mut Bench, r: &mut Random) {
+fn bounds(t: &mut Cases, r: &mut Random) {
     let sides = [0, 1, 2, 3, 256, 257, 1024, 1025, 4095, 4096, 4097, 1 << 20, 1 << 32, (1 << 32) + 1, 1 << 63, u64::MAX];
     for &m in &sides {
         for &n in &sides {
@@ -170,7 +170,7 @@ fn bounds(t: &mut Bench, r: &mut Random) {
 }
 
 // Every set of checks that can hold together: each alone, each pair, and more.
-fn check_sets(t: &mut Bench, r: &mut Random) {
+fn check_sets(t: &mut Cases, r: &mut Random) {
     for set in 0..32 {
         let holds = |k: u32| set & (1 << k) != 0;
         // 4,097 or 0 is a bad side; beside it 4,096 makes the product too large
@@ -198,7 +198,7 @@ fn check_sets(t: &mut Bench, r: &mut Random) {
 }
 
 // The flat benches of document 01, with the words written out.
-fn benches(t: &mut Bench) {
+fn benches(t: &mut Cases) {
     let rows: [(u64, u64, u64, &[u32], &[u32]); 9] = [
         (TURN, 1, 1, &[7], &[7]),
         (TURN, 1, 4, &[0, 1, 2, 3], &[0, 1, 2, 3]),
@@ -246,7 +246,7 @@ fn benches(t: &mut Bench) {
 
 // Document 02, item 6: a whole pool buffer of 64 frames and 16 cameras, lent with last week's frame count. It went through; now it gives 13
 // and not a word has moved. A frame count of 64 is the pool's own, one of 65 finds the buffer short.
-fn pool_buffer(t: &mut Bench, r: &mut Random) {
+fn pool_buffer(t: &mut Cases, r: &mut Random) {
     let pool = r.words(64 * 16);
     let scratch = r.words(70);
     for &(frames, number) in &[(60, 13), (63, 13), (64, 0), (65, 3), (1, 13)] {
@@ -259,7 +259,7 @@ fn pool_buffer(t: &mut Bench, r: &mut Random) {
     t.group("a pool buffer with another frame count");
 }
 
-pub fn all(t: &mut Bench, seed: u64) {
+pub fn all(t: &mut Cases, seed: u64) {
     let mut r = Random::new(seed);
     benches(t);
     pool_buffer(t, &mut r);

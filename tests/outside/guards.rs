@@ -1,8 +1,8 @@
 // The driver's guards bite: each forbidden touch kills it. Without this the other groups would show less.
-use crate::bench::Bench;
+use crate::cases::Cases;
 use crate::driver::{words, Request, AT_END, AT_START, READ_PAST_END, WRITE_BEFORE_START, WRITE_PAST_END, WRITE_TO_LENT};
 
-pub fn all(t: &mut Bench) {
+pub fn all(t: &mut Cases) {
     let touches = [
         (WRITE_PAST_END, AT_END, true, "a write past the end"),
         (READ_PAST_END, AT_END, true, "a read past the end"),

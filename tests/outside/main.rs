@@ -1,8 +1,8 @@
 // Runs the library's calls against an independent program that copies, and compares every word.
 // Usage: outside [--short] [--group NAME] [--seed NUMBER] DRIVER-COMMAND...
 mod axes;
-mod bench;
 mod cameras;
+mod cases;
 mod cycles;
 mod desk;
 mod driver;
@@ -21,7 +21,7 @@ mod tiles;
 
 const SEED: u64 = 20_240_601;
 
-type Group = (&'static str, fn(&mut bench::Bench, u64));
+type Group = (&'static str, fn(&mut cases::Cases, u64));
 
 /// The groups in the order in which they run, each with the seed that its place gives.
 const GROUPS: [Group; 12] = [
@@ -58,7 +58,7 @@ fn main() {
     let (short, group, seed) = options(&mut command);
     let known = |name: &String| GROUPS.iter().any(|g| g.0 == name);
     assert!(group.as_ref().map_or(true, known), "the groups are {}", GROUPS.map(|g| g.0).join(", "));
-    let mut t = bench::Bench::new(driver::Driver::new(&command), short);
+    let mut t = cases::Cases::new(driver::Driver::new(&command), short);
     guards::all(&mut t);
     for (place, (name, all)) in (0..).zip(GROUPS) {
         if group.as_deref().map_or(true, |wanted| wanted == name) {

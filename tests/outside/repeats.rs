@@ -1,10 +1,10 @@
 // Document 02, item 14: how often a turn is repeated until every block of that shape is home.
-use crate::bench::Bench;
+use crate::cases::Cases;
 use crate::driver::{Answer, Request, AT_END, REPEATS};
 use crate::random::Random;
 use crate::reference::{bad_length, first, turned, volume, MOST_WORDS};
 
-fn expect(t: &mut Bench, m: u64, n: u64, count: u64) {
+fn expect(t: &mut Cases, m: u64, n: u64, count: u64) {
     let number = first(&[(1, bad_length(&[m, n])), (2, volume(&[m, n]) > MOST_WORDS)]);
     let q = Request { call: REPEATS, numbers: vec![m, n], buffers: vec![] };
     let e = Answer { numbers: vec![number, if number == 0 { count } else { 0 }], buffers: vec![] };
@@ -70,7 +70,7 @@ fn power(m: u64, mut h: u64, modulus: u64) -> u64 {
     result
 }
 
-pub fn all(t: &mut Bench, seed: u64) {
+pub fn all(t: &mut Cases, seed: u64) {
     let side = if t.short { 12 } else { 40 };
     for m in 1..=side {
         for n in 1..=side {

@@ -1,5 +1,5 @@
 // Document 02, item 12: a turn in a mapped file that is stopped after any store. What must stand in the file is worked out store by store.
-use crate::bench::Bench;
+use crate::cases::Cases;
 use crate::driver::{words, Answer, Request, RESUME};
 use crate::random::Random;
 use crate::reference::{bad_length, cleared, first, scratch_checks, turned};
@@ -77,7 +77,7 @@ fn number(m: u64, n: u64, file: &File) -> u64 {
     first(&checks)
 }
 
-fn try_resume(t: &mut Bench, m: u64, n: u64, budget: u64, file: &File) -> File {
+fn try_resume(t: &mut Cases, m: u64, n: u64, budget: u64, file: &File) -> File {
     let number = number(m, n, file);
     let after = if number == 0 { stored(m as usize, n as usize, budget, file).0 } else { file.clone() };
     t.expect_both(&request(m, n, budget, file), &answer(number, &after), || {
@@ -101,7 +101,7 @@ fn finished(m: u64, n: u64, from: &File) -> File {
 }
 
 // Stopped after every store of every shape up to a side, and then gone on with to the end: the words of an uncut turn.
-fn every_budget(t: &mut Bench, r: &mut Random) {
+fn every_budget(t: &mut Cases, r: &mut Random) {
     let side = if t.short { 4 } else { 8 };
     for m in 1..=side {
         for n in 1..=side {
@@ -119,7 +119,7 @@ fn every_budget(t: &mut Bench, r: &mut Random) {
 }
 
 // Runs of budgets on what the library itself left, restarts that are stopped too, the file compared after each; then one that is enough.
-fn random_runs(t: &mut Bench, r: &mut Random) {
+fn random_runs(t: &mut Cases, r: &mut Random) {
     for k in 0..if t.short { 20 } else { 300 } {
         let (m, n) = match k {
             0 => (64, 16),
@@ -148,7 +148,7 @@ fn random_runs(t: &mut Bench, r: &mut Random) {
 }
 
 // From any stage on, whatever block and scratch hold; and every set of checks that can hold together.
-fn bounds(t: &mut Bench, r: &mut Random) {
+fn bounds(t: &mut Cases, r: &mut Random) {
     for _ in 0..if t.short { 200 } else { 2000 } {
         let (m, n) = (r.within(1, 20), r.within(1, 20));
         let mut file = fresh(r, m, n);
@@ -188,7 +188,7 @@ fn bounds(t: &mut Bench, r: &mut Random) {
 }
 
 // The largest blocks: a budget of 10,000,000 finishes, and one store less than all leaves the last one out.
-fn largest(t: &mut Bench, r: &mut Random) {
+fn largest(t: &mut Cases, r: &mut Random) {
     for (m, n) in if t.short { vec![(256, 4096)] } else { vec![(256, 4096), (4096, 256), (1024, 1024), (1000, 1047), (4096, 1)] } {
         let start = fresh(r, m, n);
         t.expect(0, &request(m, n, PLENTY, &start), &answer(0, &finished(m, n, &start)), || format!("{} by {} in one call", m, n));
@@ -201,7 +201,7 @@ fn largest(t: &mut Bench, r: &mut Random) {
     t.group("the mapped turn: the largest blocks in one call, and all stores but the last");
 }
 
-pub fn all(t: &mut Bench, seed: u64) {
+pub fn all(t: &mut Cases, seed: u64) {
     let mut r = Random::new(seed);
     every_budget(t, &mut r);
     random_runs(t, &mut r);

@@ -1,5 +1,5 @@
 // Document 02, items 1 and 5: result sheets come back, those that name a release and those that name none. The reader of result sheets on right ones and on damaged ones.
-use crate::bench::Bench;
+use crate::cases::Cases;
 use crate::driver::{bytes, words, Answer, Request, AT_END, READ_RESULT};
 use crate::random::Random;
 use crate::reference::volume;
@@ -29,13 +29,13 @@ fn reading(text: &[u8], buffer: &[u32], outcome: &Result<Outcome, Refusal>) -> (
     (q, Answer { numbers, buffers: vec![lent, words(&left)] })
 }
 
-pub fn try_read(t: &mut Bench, text: &[u8], buffer: &[u32]) {
+pub fn try_read(t: &mut Cases, text: &[u8], buffer: &[u32]) {
     let (q, e) = reading(text, buffer, &read_result(text, buffer.len()));
     t.expect_both(&q, &e, || format!("reading the result {:?}, {} words", String::from_utf8_lossy(text), buffer.len()));
 }
 
 // What the writer writes in this call, read back into a buffer that has two words more than the block.
-pub fn reads_back(t: &mut Bench, writing: &Request, lengths: Lengths, release: u64, order: u64, block: &[u32]) {
+pub fn reads_back(t: &mut Cases, writing: &Request, lengths: Lengths, release: u64, order: u64, block: &[u32]) {
     let written = match t.driver.ask(AT_END, writing) {
         Ok(a) => a,
         Err(why) => return t.verdict(false, || format!("writing again: {}", why)),
@@ -56,7 +56,7 @@ fn printed(o: &Outcome) -> Vec<u8> {
     result(o.lengths, Some(o.release).filter(|&k| k != 0), o.order, &o.words)
 }
 
-fn right_results(t: &mut Bench, r: &mut Random) {
+fn right_results(t: &mut Cases, r: &mut Random) {
     for k in 0..if t.short { 50 } else { 600 } {
         let o = random_result(r, [2, 4, 6, 40][k % 4]);
         let text = printed(&o);
@@ -69,7 +69,7 @@ fn right_results(t: &mut Bench, r: &mut Random) {
     t.group("right result sheets read, with room and one word short of it");
 }
 
-fn damaged_results(t: &mut Bench, r: &mut Random) {
+fn damaged_results(t: &mut Cases, r: &mut Random) {
     let mut refused = 0;
     let count = if t.short { 500 } else { 12_000 };
     for _ in 0..count {
@@ -209,7 +209,7 @@ fn cases() -> Vec<(String, Result<u64, Refusal>)> {
     cases
 }
 
-fn written_out(t: &mut Bench, r: &mut Random) {
+fn written_out(t: &mut Cases, r: &mut Random) {
     for (text, verdict) in &cases() {
         let told = read_result(text.as_bytes(), 1000).map(|s| 100 * s.release + s.order);
         t.verdict(told == *verdict, || format!("the reference answers {:?} for {:?}", told, text));
@@ -225,7 +225,7 @@ fn written_out(t: &mut Bench, r: &mut Random) {
 }
 
 // Every single byte of a result sheet lost, doubled or replaced, and every start of it.
-fn each_byte(t: &mut Bench, r: &mut Random) {
+fn each_byte(t: &mut Cases, r: &mut Random) {
     let rows = "row\t1\t4294967295\nrow\t20\t5\nrow\t0\t6\n";
     for line in ["order\t10\n", "order\t2\t19\n"] {
         damaged_bytes(t, r, format!("shape\t1\t1\t3\t2\n{}{}", line, rows).as_bytes());
@@ -233,7 +233,7 @@ fn each_byte(t: &mut Bench, r: &mut Random) {
     t.group("one byte of a result sheet lost, doubled or replaced, and each start of it");
 }
 
-fn damaged_bytes(t: &mut Bench, r: &mut Random, text: &[u8]) {
+fn damaged_bytes(t: &mut Cases, r: &mut Random, text: &[u8]) {
     for at in 0..text.len() {
         let mut lost = text.to_vec();
         lost.remove(at);
@@ -251,7 +251,7 @@ fn damaged_bytes(t: &mut Bench, r: &mut Random, text: &[u8]) {
 }
 
 // The sheets of `turn` are no result sheets; the longest result sheets are read.
-fn others(t: &mut Bench, r: &mut Random) {
+fn others(t: &mut Cases, r: &mut Random) {
     for _ in 0..if t.short { 10 } else { 100 } {
         let text = sheet(&random_sheet(r, 4));
         t.verdict(read_result(&text, 1024).is_err(), || "the reference takes a sheet for a result sheet".to_string());
@@ -268,7 +268,7 @@ fn others(t: &mut Bench, r: &mut Random) {
     t.group("sheets with a chain, and the longest result sheets");
 }
 
-pub fn all(t: &mut Bench, seed: u64) {
+pub fn all(t: &mut Cases, seed: u64) {
     let mut r = Random::new(seed);
     written_out(t, &mut r);
     each_byte(t, &mut r);

@@ -1,5 +1,5 @@
 // The sheet reader, the sheet writer and the whole job, on right sheets and on damaged ones.
-use crate::bench::Bench;
+use crate::cases::Cases;
 use crate::driver::{bytes, sizes, words, Answer, Request, CHAIN, JOB, READ_SHEET, WRITE_RELEASE, WRITE_SHEET};
 use crate::random::Random;
 use crate::reference::{longest, volume};
@@ -8,7 +8,7 @@ use crate::text::{job, read, result, sheet, write, Sheet, MOST_BYTES};
 
 type Lengths = [u64; 4];
 
-fn try_read(t: &mut Bench, text: &[u8], buffer: &[u32]) {
+fn try_read(t: &mut Cases, text: &[u8], buffer: &[u32]) {
     let outcome = read(text, buffer.len());
     let mut left = buffer.to_vec();
     let mut numbers = vec![0; 39];
@@ -31,7 +31,7 @@ fn try_read(t: &mut Bench, text: &[u8], buffer: &[u32]) {
 }
 
 // By the writer that names a release, or by the one that names none.
-fn try_write_by(t: &mut Bench, lengths: Lengths, release: Option<u64>, order: u64, block: &[u32], out: &[u8]) {
+fn try_write_by(t: &mut Cases, lengths: Lengths, release: Option<u64>, order: u64, block: &[u32], out: &[u8]) {
     let mut left = out.to_vec();
     let outcome = write(lengths, release, order, block, out.len());
     let numbers = match &outcome {
@@ -57,7 +57,7 @@ fn try_write_by(t: &mut Bench, lengths: Lengths, release: Option<u64>, order: u6
 }
 
 // By the writer that names none, and by the other with 1, 2 and a release that there is not.
-fn try_write(t: &mut Bench, lengths: Lengths, order: u64, block: &[u32], out: &[u8]) {
+fn try_write(t: &mut Cases, lengths: Lengths, order: u64, block: &[u32], out: &[u8]) {
     let no_release = [0, 3, 256, 1 << 32, u64::MAX][(order % 5) as usize];
     for release in [None, Some(1), Some(2), Some(no_release)] {
         try_write_by(t, lengths, release, order, block, out);
@@ -86,7 +86,7 @@ pub fn random_sheet(r: &mut Random, side: u64) -> Sheet {
     }
 }
 
-fn right_sheets(t: &mut Bench, r: &mut Random) {
+fn right_sheets(t: &mut Cases, r: &mut Random) {
     for k in 0..if t.short { 50 } else { 600 } {
         let side = [2, 4, 6, 40][k % 4];
         let s = random_sheet(r, side);
@@ -163,7 +163,7 @@ fn lines_changed(r: &mut Random, text: &mut Vec<u8>) {
     *text = lines.concat();
 }
 
-fn damaged_sheets(t: &mut Bench, r: &mut Random) {
+fn damaged_sheets(t: &mut Cases, r: &mut Random) {
     let mut refused = 0;
     let count = if t.short { 500 } else { 12_000 };
     for _ in 0..count {
@@ -180,7 +180,7 @@ fn damaged_sheets(t: &mut Bench, r: &mut Random) {
 }
 
 // Sheets that document 01 or its plain reading decides, written out.
-fn written_out(t: &mut Bench, r: &mut Random) {
+fn written_out(t: &mut Cases, r: &mut Random) {
     let two_rows = "row\t1\t2\t3\nrow\t4\t5\t6\n";
     let with_chain = |chain: &str| format!("shape\t1\t1\t2\t3\n{}{}", chain, two_rows);
     let swaps = |count: usize, value: &str| format!("chain{}\n", format!("\t{}", value).repeat(count));
@@ -239,7 +239,7 @@ fn written_out(t: &mut Bench, r: &mut Random) {
 }
 
 // The longest right sheet: 1,024 rows of one word of ten digits each, with 32 swaps.
-fn longest_sheets(t: &mut Bench, r: &mut Random) {
+fn longest_sheets(t: &mut Cases, r: &mut Random) {
     for &lengths in &[[1024, 1, 1, 1], [1, 1024, 1, 1], [1, 1, 1024, 1], [1, 1, 1, 1024], [4, 4, 8, 8], [1, 1, 4096, 1]] {
         let words = vec![u32::MAX; 1024];
         let s = Sheet { lengths, chain: vec![2; 32], words: words.clone() };
@@ -249,7 +249,7 @@ fn longest_sheets(t: &mut Bench, r: &mut Random) {
     t.group("the longest sheets");
 }
 
-fn writes(t: &mut Bench, r: &mut Random) {
+fn writes(t: &mut Cases, r: &mut Random) {
     for k in 0..if t.short { 40 } else { 600 } {
         let s = random_sheet(r, [2, 4, 6, 40][k % 4]);
         let order = r.below(24);
@@ -286,7 +286,7 @@ fn writes(t: &mut Bench, r: &mut Random) {
     t.group("writer refusals: each check alone, each pair and every larger set");
 }
 
-fn try_job(t: &mut Bench, r: &mut Random, text: &[u8]) {
+fn try_job(t: &mut Cases, r: &mut Random, text: &[u8]) {
     let (buffer, scratch, out) = (r.words(1024), r.words(1024), r.bytes(MOST_BYTES));
     let (told, words_left, scratch_left) = job(text, &buffer, &scratch);
     let mut left = out.clone();
@@ -305,7 +305,7 @@ fn try_job(t: &mut Bench, r: &mut Random, text: &[u8]) {
 }
 
 // The whole job in one call, on right sheets and on damaged ones.
-fn whole_jobs(t: &mut Bench, r: &mut Random) {
+fn whole_jobs(t: &mut Cases, r: &mut Random) {
     let example = b"shape\t1\t1\t2\t3\nchain\t2\nrow\t1\t2\t3\nrow\t4\t5\t6\n";
     let printed = b"shape\t1\t1\t3\t2\norder\t1\nrow\t1\t4\nrow\t2\t5\nrow\t3\t6\n";
     let told = job(example, &[0; 1024], &[0; 1024]).0;
@@ -324,7 +324,7 @@ fn whole_jobs(t: &mut Bench, r: &mut Random) {
 }
 
 // A sheet read, run through its chain and written, call after call, gives what the whole job gives.
-fn jobs_by_calls(t: &mut Bench, r: &mut Random) {
+fn jobs_by_calls(t: &mut Cases, r: &mut Random) {
     for _ in 0..if t.short { 30 } else { 300 } {
         let text = sheet(&random_sheet(r, 6));
         let told = job(&text, &[0; 1024], &[0; 1024]).0;
@@ -335,7 +335,7 @@ fn jobs_by_calls(t: &mut Bench, r: &mut Random) {
     t.group("whole jobs by three calls; each result sheet is read back");
 }
 
-fn by_calls(t: &mut Bench, text: &[u8]) -> Result<Vec<u8>, String> {
+fn by_calls(t: &mut Cases, text: &[u8]) -> Result<Vec<u8>, String> {
     let buffers = vec![bytes(text).read_only(), words(&[0; 1024])];
     let sheet = t.driver.ask(0, &Request { call: READ_SHEET, numbers: vec![], buffers })?;
     let (lengths, swaps) = (&sheet.numbers[2..6], &sheet.numbers[6..6 + sheet.numbers[38] as usize]);
@@ -351,7 +351,7 @@ fn by_calls(t: &mut Bench, text: &[u8]) -> Result<Vec<u8>, String> {
     Ok(written.buffers[1].bytes[..written.numbers[1] as usize].to_vec())
 }
 
-pub fn all(t: &mut Bench, seed: u64) {
+pub fn all(t: &mut Cases, seed: u64) {
     let mut r = Random::new(seed);
     written_out(t, &mut r);
     right_sheets(t, &mut r);

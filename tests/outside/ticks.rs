@@ -1,5 +1,5 @@
 // Document 02, item 4: a turn that moves one line a call, the lines done in a record that the player lends.
-use crate::bench::Bench;
+use crate::cases::Cases;
 use crate::driver::{words, Answer, Request, LINES, TICK};
 use crate::random::Random;
 use crate::reference::{bad_length, cleared, first, scratch_checks, turned, volume, MOST_WORDS};
@@ -65,13 +65,13 @@ fn case(m: u64, n: u64, done: u64, buffer: &[u32], scratch: &[u32]) -> (Request,
     (q, e)
 }
 
-fn try_tick(t: &mut Bench, m: u64, n: u64, done: u64, buffer: &[u32], scratch: &[u32]) {
+fn try_tick(t: &mut Cases, m: u64, n: u64, done: u64, buffer: &[u32], scratch: &[u32]) {
     let (q, e) = case(m, n, done, buffer, scratch);
     t.expect_both(&q, &e, || format!("tick of {} by {} at {}, {} words, scratch {}", m, n, done, buffer.len(), scratch.len()));
 }
 
 // Every line of every shape up to a side, none left, and one past the count.
-fn every_line(t: &mut Bench, r: &mut Random) {
+fn every_line(t: &mut Cases, r: &mut Random) {
     let side = if t.short { 6 } else { 24 };
     for m in 1..=side {
         for n in 1..=side {
@@ -87,7 +87,7 @@ fn every_line(t: &mut Bench, r: &mut Random) {
 }
 
 // Whole runs on what the library itself left, refused calls of any sides in between, other scratch at each call; a call after the last line changes nothing.
-fn whole_runs(t: &mut Bench, r: &mut Random) {
+fn whole_runs(t: &mut Cases, r: &mut Random) {
     for k in 0..if t.short { 12 } else { 120 } {
         let (m, n) = if k == 0 { (64, 16) } else { (r.within(1, 30), r.within(1, 30)) };
         let start = r.words((m * n) as usize);
@@ -115,7 +115,7 @@ fn whole_runs(t: &mut Bench, r: &mut Random) {
 }
 
 // Every set of checks that can hold together, records of any value, and the count of lines at every bound.
-fn bounds(t: &mut Bench, r: &mut Random) {
+fn bounds(t: &mut Cases, r: &mut Random) {
     for set in 0..64 {
         let holds = |k: u32| set & (1 << k) != 0;
         let shapes: &[(u64, u64)] = match (holds(0), holds(1)) {
@@ -152,7 +152,7 @@ fn bounds(t: &mut Bench, r: &mut Random) {
     t.group("one line a tick: refusals alone and together, any record, the count of lines");
 }
 
-pub fn all(t: &mut Bench, seed: u64) {
+pub fn all(t: &mut Cases, seed: u64) {
     let mut r = Random::new(seed);
     every_line(t, &mut r);
     whole_runs(t, &mut r);

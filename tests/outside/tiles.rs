@@ -1,5 +1,5 @@
 // Document 02, item 7: a block stored as tiles, and tiles as a block.
-use crate::bench::Bench;
+use crate::cases::Cases;
 use crate::driver::{words, Answer, Request, FROM_TILES, TO_TILES};
 use crate::random::Random;
 use crate::reference::{bad_length, first, volume, MOST_WORDS};
@@ -33,7 +33,7 @@ fn bad_side(d: u64) -> bool {
 }
 
 // A call and the outcome that document 02 fixes for it; the words that it leaves.
-fn try_call(t: &mut Bench, call: u64, sides: [u64; 4], buffer: &[u32], scratch: &[u32]) -> Vec<u32> {
+fn try_call(t: &mut Cases, call: u64, sides: [u64; 4], buffer: &[u32], scratch: &[u32]) -> Vec<u32> {
     let [m, n, r, s] = sides;
     let need = volume(&[r, n]);
     let number = first(&[
@@ -59,7 +59,7 @@ fn try_call(t: &mut Bench, call: u64, sides: [u64; 4], buffer: &[u32], scratch: 
 }
 
 // There and back, back and there.
-fn try_both(t: &mut Bench, random: &mut Random, m: u64, n: u64, r: u64, s: u64) {
+fn try_both(t: &mut Cases, random: &mut Random, m: u64, n: u64, r: u64, s: u64) {
     let buffer = random.words((m * n) as usize);
     let tail = random.below(4);
     let scratch = random.words((r * n + tail) as usize);
@@ -71,7 +71,7 @@ fn try_both(t: &mut Bench, random: &mut Random, m: u64, n: u64, r: u64, s: u64) 
     }
 }
 
-pub fn all(t: &mut Bench, seed: u64) {
+pub fn all(t: &mut Cases, seed: u64) {
     let mut random = Random::new(seed);
     let (side, tile) = if t.short { (5, 4) } else { (14, 9) };
     for m in 1..=side {

@@ -51,7 +51,7 @@ module _ (m n r s : ℕ) (b sc ys : List ℕ) where
       (seen-right (λ zs. Tiled m n r s zs b) ys (λ _. tiled m n r s ys b) (λ e zs p q. from-tiles-once m n r s {s₀ = sc} (accepted e p refl) (accepted e q refl) .1))
       (bandNeed n r) b sc (FromTilesPromise m n r s b sc) (λ o p. p)
 
--- the case is README's drawing, 3 by 5 holding 0 to 14 in tiles of 2 by 2, with eleven words of scratch, of which ten are needed
+-- the case is the drawing of docs/CALLS.md, 3 by 5 holding 0 to 14 in tiles of 2 by 2, with eleven words of scratch, of which ten are needed
 abbrev drawn : List ℕ
 drawn = 0 ∷ 1 ∷ 5 ∷ 6 ∷ 2 ∷ 3 ∷ 7 ∷ 8 ∷ 4 ∷ 9 ∷ 10 ∷ 11 ∷ 12 ∷ 13 ∷ 14 ∷ []
 

@@ -17,7 +17,7 @@ pub record Row : Type 0 where
 abbrev pub row : ℕ → ℕ → ℕ → ℕ → List ℕ → Row
 row m n r s l = record { m = m; n = n; r = r; s = s; says = l }
 
--- the table: README's drawing; tiles of one row; tiles that leave nothing over; tiles taller than the block; tiles wider than it; tiles of one
+-- the table: the drawing of docs/CALLS.md; tiles of one row; tiles that leave nothing over; tiles taller than the block; tiles wider than it; tiles of one
 -- column; one word
 abbrev pub benches : List Row
 benches =

@@ -1,7 +1,7 @@
 // Counts cases and compares the driver's answers with what they should be.
 use crate::driver::{Answer, Driver, Request, AT_END, AT_START};
 
-pub struct Bench {
+pub struct Cases {
     pub driver: Driver,
     pub short: bool,
     pub passed: u64,
@@ -9,9 +9,9 @@ pub struct Bench {
     group: u64,
 }
 
-impl Bench {
-    pub fn new(driver: Driver, short: bool) -> Bench {
-        Bench { driver, short, passed: 0, failed: 0, group: 0 }
+impl Cases {
+    pub fn new(driver: Driver, short: bool) -> Cases {
+        Cases { driver, short, passed: 0, failed: 0, group: 0 }
     }
 
     pub fn verdict(&mut self, ok: bool, label: impl Fn() -> String) {
