@@ -43,7 +43,7 @@ module _ {g : Grid} {xs : List ℕ} (f : Fits g xs) where
 
   -- a grid that fits in words fits in as many
   pub fits-also : {ys : List ℕ} → length ys ≡ length xs → Fits g ys
-  fits-also e = record { follows = f .follows; inside = rw e (f .inside); slice = f .slice; short = f .short }
+  fits-also e = record { follows = f .follows; inside = rw e (f .inside); slice = f .slice }
 
 -- a place before the middle, and its mirrored one
 module _ (count first : ℕ) (some : first < mirror count first) where

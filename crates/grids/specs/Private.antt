@@ -41,12 +41,16 @@ pub record Follows (g : Grid) : Type 0 where
   pub small : Small (g .n) (g .m)
   pub inverse : Reciprocal (g .m) (g .inverse)
 
--- and its chunks lie in the words, with a slice of at most 80 words in each
+-- and its chunks lie in the words, with a slice in each
 pub record Fits (g : Grid) (xs : List ℕ) : Type 0 where
   pub follows : Follows g
   pub inside : g .n * g .m * g .chunk ≤ length xs
   pub slice : g .lo + g .count ≤ g .chunk
+
+-- there is room for two slices to wait, at 0 and at 80
+pub record Room (g : Grid) (kept : List ℕ) : Type 0 where
   pub short : g .count ≤ 80
+  pub long : length kept ≡ 160
 
 -- a place is marked where its source is
 abbrev pub Level : (ℕ → ℕ) → ℕ → List ℕ → Type 0

@@ -10,7 +10,7 @@ ghost use Rattle.orbits.specs.Private.{Reciprocal};
 ghost use Rattle.moves.specs.Stretch.{Stretch};
 ghost use Rattle.grids.specs.Grids.{GridTurned};
 ghost use Rattle.grids.specs.Promises.{Turnable};
-ghost use Rattle.grids.specs.Private.{mirror, fold, half, pairs, bitAt, Follows, Fits, MarkedToo, Level, Waiting, BothHold, Toured, Sliced};
+ghost use Rattle.grids.specs.Private.{mirror, fold, half, pairs, bitAt, Follows, Fits, Room, MarkedToo, Level, Waiting, BothHold, Toured, Sliced};
 
 // A block of m rows and n columns of chunks, the inverse of m that a step multiplies by, and which words of each chunk are moved.
 pub(crate) struct Grid {
@@ -59,7 +59,7 @@ fn carry(buf: &mut [u32], g: Grid, p: usize, x: usize)
 
 // The slice of place p waits at `to`.
 fn keep(kept: &mut [u32], to: usize, buf: &[u32], g: Grid, p: usize)
-    requires { ⌜ Fits g (now buf) × (p < g .n * g .m) × (to + 80 ≤ length (now kept)) ⌝ }
+    requires { ⌜ Fits g (now buf) × (p < g .n * g .m) × (to + g .count ≤ length (now kept)) ⌝ }
     ensures { λ _. ⌜ Stretch to (g .count) (λ u. getD (now (buf .entry)) (p * g .chunk + g .lo + u) 0) (now (kept .entry)) (now (kept .exit)) ⌝ }
 {
     moves::copy(kept, to, buf, p * g.chunk + g.lo, g.count);
@@ -67,7 +67,7 @@ fn keep(kept: &mut [u32], to: usize, buf: &[u32], g: Grid, p: usize)
 
 // Place p receives the slice that waits at `from`.
 fn put(buf: &mut [u32], g: Grid, p: usize, kept: &[u32], from: usize)
-    requires { ⌜ Fits g (now buf) × (p < g .n * g .m) × (from + 80 ≤ length (now kept)) ⌝ }
+    requires { ⌜ Fits g (now buf) × (p < g .n * g .m) × (from + g .count ≤ length (now kept)) ⌝ }
     ensures { λ _. ⌜ Stretch (p * g .chunk + g .lo) (g .count) (λ u. getD (now (kept .entry)) (from + u) 0) (now (buf .entry)) (now (buf .exit)) ⌝ }
 {
     moves::copy(buf, p * g.chunk + g.lo, kept, from, g.count);
@@ -91,7 +91,7 @@ fn folded(g: Grid, p: usize) -> usize
 
 // The slices of place p and of its mirrored one wait.
 fn keep_both(kept: &mut [u32], buf: &[u32], g: Grid, p: usize)
-    requires { ⌜ Fits g (now buf) × (p < g .n * g .m) × (length (now kept) ≡ 160) ⌝ }
+    requires { ⌜ Fits g (now buf) × (p < g .n * g .m) × Room g (now kept) ⌝ }
     ensures { λ _. ⌜ Waiting (g .n * g .m) (g .chunk) (g .lo) (g .count) p (now (buf .entry)) (now (kept .exit)) ⌝ }
 {
     keep(kept, 0, buf, g, p);
@@ -121,7 +121,7 @@ fn advance(buf: &mut [u32], marks: &mut [u32], g: Grid, p: usize, x: usize)
 
 // Place p receives the slice that waits at `from`, 0 or 80, and its mirrored place the other one.
 fn put_both(buf: &mut [u32], g: Grid, p: usize, kept: &[u32], from: usize)
-    requires { ⌜ Fits g (now buf) × (p < g .n * g .m) × (length (now kept) ≡ 160) × (from ≤ 80) × (p ≡ mirror (g .n * g .m) p → ⊥) ⌝ }
+    requires { ⌜ Fits g (now buf) × (p < g .n * g .m) × Room g (now kept) × (from ≤ 80) × (p ≡ mirror (g .n * g .m) p → ⊥) ⌝ }
     ensures { λ _. ⌜ BothHold (g .n * g .m) (g .chunk) (g .lo) (g .count) p (λ u. getD (now (kept .entry)) (from + u) 0) (λ u. getD (now (kept .entry)) (80 - from + u) 0) (now (buf .entry)) (now (buf .exit)) ⌝ }
 {
     put(buf, g, p, kept, from);
@@ -142,7 +142,7 @@ fn waits(x: usize, first: usize) -> usize
 // marked. The slices of `first` and of its mirrored place wait; p and its mirrored place are free. The cycle may come to the place that mirrors
 // `first`: then it is its own mirrored one and done by half, and what waits goes crosswise.
 fn follow(buf: &mut [u32], marks: &mut [u32], kept: &mut [u32], g: Grid, first: usize)
-    requires { ⌜ Fits g (now buf) × (g .n * g .m ≤ 64 * length (now marks)) × (length (now kept) ≡ 160) ⌝ }
+    requires { ⌜ Fits g (now buf) × (g .n * g .m ≤ 64 * length (now marks)) × Room g (now kept) ⌝ }
     requires { ⌜ Level (pairs (g .n) (g .m)) (half (g .n * g .m)) (now marks) × (first < mirror (g .n * g .m) first) × (bitAt (now marks) first ≡ false) ⌝ }
     ensures { λ _. ⌜ Toured (g .n) (g .m) (g .chunk) (g .lo) (g .count) first (now (buf .entry)) (now (marks .entry)) (now (buf .exit)) (now (marks .exit)) ⌝ }
 {
@@ -160,7 +160,7 @@ fn follow(buf: &mut [u32], marks: &mut [u32], kept: &mut [u32], g: Grid, first: 
 
 // Turns the block, one slice of each chunk. The first chunk, the last one and, of an odd number, the one in the middle stay.
 fn slice(buf: &mut [u32], marks: &mut [u32], kept: &mut [u32], g: Grid)
-    requires { ⌜ Fits g (now buf) × (g .n * g .m ≤ 64 * length (now marks)) × (length (now kept) ≡ 160) ⌝ }
+    requires { ⌜ Fits g (now buf) × (g .n * g .m ≤ 64 * length (now marks)) × Room g (now kept) ⌝ }
     ensures { λ _. ⌜ Sliced (g .n) (g .m) (g .chunk) (g .lo) (g .count) (now (buf .entry)) (now (buf .exit)) ⌝ }
 {
     let places = g.n * g.m;

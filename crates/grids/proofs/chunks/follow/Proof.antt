@@ -1,7 +1,7 @@
 -- `chunks::follow` meets its contract. The loop keeps that place p and its mirrored one are free and x is the source of p; the measure is how many pairs
 -- are not marked.
 use mathlib.Core.Path.{_≡_}
-use Prim.Native.Nat.{_*_}
+use Prim.Native.Nat.{_*_, _≤_}
 use native.Mathlib.Omega.{arith}
 use lib.ListN.{length}
 use borrow.Author.Needs.{needs}
@@ -12,7 +12,7 @@ use Rattle.grids.proofs.chunks.follow.Statement.{statement}
 use Rattle.grids.proofs.chunks.follow.Tie as tie
 
 abbrev Inv-loop : tie.InvT-loop
-Inv-loop buf₀ marks₀ kept g first p₀ x₀ buf marks p x = Following g first p x buf₀ marks₀ buf marks × (length kept ≡ 160)
+Inv-loop buf₀ marks₀ kept g first p₀ x₀ buf marks p x = Following g first p x buf₀ marks₀ buf marks × (g .count ≤ 80) × (length kept ≡ 160)
 
 abbrev μ-loop : tie.MeasureT-loop
 μ-loop buf₀ marks₀ kept g first p₀ x₀ buf marks p x = free (half (g .n * g .m)) (bitAt marks)
@@ -28,7 +28,7 @@ loop-holds c =
     let k : tie.After-mark Inv-loop μ-loop = search in
     let f : tie.After-source Inv-loop μ-loop = search in
     let s : Begin = search in
-    (following (s .pre .0 .0) (omega (arith, k .mark .ensures .same, s .pre .0 .1)) (s .pre .1 .0) (s .pre .1 .1) (s .pre .1 .2) (k .mark .ensures) (f .source .ensures), omega (arith, s .pre .0 .2))
+    (following (s .pre .0 .0) (omega (arith, k .mark .ensures .same, s .pre .0 .1)) (s .pre .1 .0) (s .pre .1 .1) (s .pre .1 .2) (k .mark .ensures) (f .source .ensures), s .pre .0 .2 .short, omega (arith, s .pre .0 .2 .long))
 
 advance-requires : tie.Need-advance-requires Inv-loop μ-loop
 advance-requires c κs =
@@ -50,7 +50,7 @@ loop-again c =
     let y : tie.After-advance Inv-loop μ-loop = search in
     let f : tie.After-folded Inv-loop μ-loop = search in
     let l : Loop = search in
-    (following-on (l .loop .inv .0) (f .folded .ensures) (search) (y .advance .ensures .0) (y .advance .ensures .1) (g .source2 .ensures), l .loop .inv .1)
+    (following-on (l .loop .inv .0) (f .folded .ensures) (search) (y .advance .ensures .0) (y .advance .ensures .1) (g .source2 .ensures), l .loop .inv .1, l .loop .inv .2)
 
 put-both-requires : tie.Need-put-both-requires Inv-loop μ-loop
 put-both-requires c κs =
@@ -58,7 +58,7 @@ put-both-requires c κs =
     let f : tie.After-folded Inv-loop μ-loop = search in
     let l : Loop = search in
     let i = l .loop .inv .0 in
-    (i .fits, i .low, l .loop .inv .1, w .waits .ensures .0, last-apart i (f .folded .ensures) (search))
+    (i .fits, i .low, record { short = l .loop .inv .1; long = l .loop .inv .2 }, w .waits .ensures .0, last-apart i (f .folded .ensures) (search))
 
 returns : tie.Need-returns Inv-loop μ-loop
 returns c =

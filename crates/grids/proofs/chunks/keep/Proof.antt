@@ -16,4 +16,4 @@ keep-spec =
     (λ c.
     let m : tie.After-copy = search in
     let s : tie.Start = search in
-    m .copy .ensures .inside (omega (arith, s .pre .0 .short, s .pre .2), slice-inside (s .pre .0) (s .pre .1))))
+    m .copy .ensures .inside (s .pre .2, slice-inside (s .pre .0) (s .pre .1))))

@@ -16,4 +16,4 @@ put-spec =
     (λ c.
     let m : tie.After-copy = search in
     let s : tie.Start = search in
-    m .copy .ensures .inside (slice-inside (s .pre .0) (s .pre .1), omega (arith, s .pre .0 .short, s .pre .2))))
+    m .copy .ensures .inside (slice-inside (s .pre .0) (s .pre .1), s .pre .2)))

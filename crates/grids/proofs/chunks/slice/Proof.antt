@@ -51,7 +51,7 @@ follow-requires c κs =
     let l : Loop = search in
     let s : Begin = search in
     let i = l .loop .inv in
-    ((fits-also (s .pre .0) (i .0 .same), omega (arith, i .2, s .pre .1), i .3 ∙ s .pre .2), (i .1, omega (arith, i .4), sym (k .marked .ensures) ∙ e .if1 .left))
+    ((fits-also (s .pre .0) (i .0 .same), omega (arith, i .2, s .pre .1), record { short = s .pre .2 .short; long = i .3 ∙ s .pre .2 .long }), (i .1, omega (arith, i .4), sym (k .marked .ensures) ∙ e .if1 .left))
 
 loop-again-2 : tie.Need-loop-again-2 Inv-loop μ-loop
 loop-again-2 c =

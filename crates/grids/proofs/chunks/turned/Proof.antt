@@ -33,10 +33,9 @@ slice-requires c κs =
         follows = record { small = grid-small (s .pre); inverse = v .inverse-of .ensures };
         inside = omega (arith, i .0 .same, grid-inside (s .pre));
         slice = omega arith;
-        short = omega (arith, w .slice-width .ensures .1);
       },
       omega (arith, i .2, grid-marked (s .pre)),
-      i .3,
+      record { short = omega (arith, w .slice-width .ensures .1); long = i .3 },
     )
 
 loop-again : tie.Need-loop-again Inv-loop μ-loop
