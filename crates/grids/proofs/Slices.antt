@@ -11,10 +11,10 @@ use lib.ListN.{length, getD}
 use Rattle.lists.proofs.Decide.{eq-or-ne, lt-or-ge}
 use Rattle.orbits.specs.Cycles.{takes}
 use Rattle.orbits.proofs.Takes.{takes-permutes}
-use Rattle.moves.specs.Stretch.{Stretch}
+use Rattle.moves.specs.Stretch.{Stretch, Outside, Traded}
 use Rattle.moves.specs.Promises.{Apart}
 use Rattle.grids.specs.declared.chunks.Grid.{Grid}
-use Rattle.grids.specs.Private.{mirror, fold, half, pairs, bitAt, MarkedToo, Fits, Level, Beside, Waiting, BothHold, Settled, Toured}
+use Rattle.grids.specs.Private.{mirror, fold, half, pairs, bitAt, MarkedToo, Fits, Level, Beside, Waiting, BothHold, BothTraded, Settled, Toured}
 use Rattle.grids.proofs.Bits.{both}
 use Rattle.grids.proofs.Mirror.{takes-mirror, fold-mirror, pair-goes, one-pair, pairs-permute}
 use Rattle.grids.proofs.Chasing.{free, Chasing, marked-now, still-free, chase-begins, chase-on, on-free, fewer-free, chase-ends}
@@ -44,6 +44,16 @@ module _ {g : Grid} {xs : List ℕ} (f : Fits g xs) where
   -- a grid that fits in words fits in as many
   pub fits-also : {ys : List ℕ} → length ys ≡ length xs → Fits g ys
   fits-also e = record { follows = f .follows; inside = rw e (f .inside); slice = f .slice }
+
+-- mirrored places
+mirror-low : (count p : ℕ) → p < count → mirror count p < count
+mirror-low count p h = omega arith
+
+mirror-back : (count p x : ℕ) → p < count → x ≡ mirror count p → mirror count x ≡ p
+mirror-back count p x h e = omega arith
+
+pub mirror-apart : (count p x q y : ℕ) → p < count → x < count → q ≡ mirror count p → y ≡ mirror count x → (p ≡ x → ⊥) → q ≡ y → ⊥
+mirror-apart count p x q y hp hx isq isy ne e = ne (sym (mirror-back count p q hp isq) ∙ ap (mirror count) e ∙ mirror-back count x y hx isy)
 
 -- a place before the middle, and its mirrored one
 module _ (count first : ℕ) (some : first < mirror count first) where
@@ -109,22 +119,37 @@ pub record Chased (n m w lo count pair : ℕ) (xs marks ys : List ℕ) : Type 0 
   pub others : (k : ℕ) → Beside (n * m) w lo count k → getD ys k 0 ≡ getD xs k 0
 
 module _ (n m w lo count : ℕ) (slice : lo + count ≤ w) where
+  -- the slice of another place, and what is outside the slices, lies outside that of place p
+  other-outside : (p q u : ℕ) → u < count → (q ≡ p → ⊥) → Outside (p * w + lo) count (q * w + lo + u)
+  other-outside p q u k ne = ⊎-elim
+      (λ (h : q < p). inl (omega (arith, next-chunk w h)))
+      (λ (h : p ≤ q). inr (omega (arith, next-chunk w {p = p} {q = q} (omega arith))))
+      (lt-or-ge q p)
+
+  beside-outside : (p : ℕ) → p < n * m → (k : ℕ) → Beside (n * m) w lo count k → Outside (p * w + lo) count k
+  beside-outside p low k beside = ⊎-elim
+      (λ (h : k < p * w + lo). inl h)
+      (λ (h : p * w + lo ≤ k). ⊎-elim
+      (λ (l : k < p * w + lo + count). absurd (beside p (k - (p * w + lo)) low (omega arith) (omega arith)))
+      (λ (l : p * w + lo + count ≤ k). inr l)
+      (lt-or-ge k (p * w + lo + count)))
+      (lt-or-ge k (p * w + lo))
+
   -- a slice stored at place p leaves those of other places, and what is outside the slices
   module _ {p : ℕ} {value : ℕ → ℕ} {ys zs : List ℕ} (s : Stretch (p * w + lo) count value ys zs) where
     pub other-slice : (q u : ℕ) → u < count → (q ≡ p → ⊥) → getD zs (q * w + lo + u) 0 ≡ getD ys (q * w + lo + u) 0
-    other-slice q u k ne = ⊎-elim
-        (λ (h : q < p). s .below (q * w + lo + u) (omega (arith, next-chunk w h)))
-        (λ (h : p ≤ q). s .above (q * w + lo + u) (omega (arith, next-chunk w {p = p} {q = q} (omega arith))))
-        (lt-or-ge q p)
+    other-slice q u k ne = ⊎-elim (s .below (q * w + lo + u)) (s .above (q * w + lo + u)) (other-outside p q u k ne)
 
     outside : p < n * m → (k : ℕ) → Beside (n * m) w lo count k → getD zs k 0 ≡ getD ys k 0
-    outside low k beside = ⊎-elim
-        (λ (h : k < p * w + lo). s .below k h)
-        (λ (h : p * w + lo ≤ k). ⊎-elim
-        (λ (l : k < p * w + lo + count). absurd (beside p (k - (p * w + lo)) low (omega arith) (omega arith)))
-        (λ (l : p * w + lo + count ≤ k). s .above k l)
-        (lt-or-ge k (p * w + lo + count)))
-        (lt-or-ge k (p * w + lo))
+    outside low k beside = ⊎-elim (s .below k) (s .above k) (beside-outside p low k beside)
+
+  -- so do slices that two places trade
+  module _ {p x : ℕ} {ys zs : List ℕ} (t : Traded (p * w + lo) (x * w + lo) count ys zs) where
+    pub other-traded : (q u : ℕ) → u < count → (q ≡ p → ⊥) → (q ≡ x → ⊥) → getD zs (q * w + lo + u) 0 ≡ getD ys (q * w + lo + u) 0
+    other-traded q u k a b = t .others (q * w + lo + u) (other-outside p q u k a) (other-outside x q u k b)
+
+    outside-traded : p < n * m → x < n * m → (k : ℕ) → Beside (n * m) w lo count k → getD zs k 0 ≡ getD ys k 0
+    outside-traded low low′ k b = t .others k (beside-outside p low k b) (beside-outside x low′ k b)
 
   -- a slice stored at place p and then one at its mirrored place
   pub both-hold : {p q : ℕ} {value late mirrored : ℕ → ℕ} {xs ys zs : List ℕ} → p < n * m → (p ≡ mirror (n * m) p → ⊥) → q ≡ mirror (n * m) p
@@ -137,6 +162,34 @@ module _ (n m w lo count : ℕ) (slice : lo + count ≤ w) where
     stand = λ y u k a b. other-slice t y u k (λ e. b (e ∙ is)) ∙ other-slice s y u k a;
     others = λ k b. outside t (omega arith) k b ∙ outside s low k b;
   }
+
+  -- slices that a place and its mirrored one trade
+  pub hold-crossed : {p q : ℕ} {ys zs : List ℕ} → p < n * m → (p ≡ mirror (n * m) p → ⊥) → q ≡ mirror (n * m) p → Traded (p * w + lo) (q * w + lo) count ys zs
+      → BothHold (n * m) w lo count p (λ u. getD ys (mirror (n * m) p * w + lo + u) 0) (λ u. getD ys (p * w + lo + u) 0) ys zs
+  hold-crossed {p} {q} {ys} {zs} low ne is t = record {
+    same = t .same;
+    here = λ u k. t .there u k ∙ ap (λ (z : ℕ). getD ys (z * w + lo + u) 0) is;
+    there = λ u k. ap (λ (z : ℕ). getD zs (z * w + lo + u) 0) (sym is) ∙ t .back u k;
+    stand = λ y u k a b. other-traded t y u k a (λ e. b (e ∙ is));
+    others = λ k b. outside-traded t low (omega arith) k b;
+  }
+
+  -- slices that places p and x trade, and then their mirrored places
+  pub both-traded : {p x q y : ℕ} {xs ys zs : List ℕ} → p < n * m → x < n * m → (p ≡ x → ⊥) → (p ≡ mirror (n * m) p → ⊥) → (x ≡ mirror (n * m) x → ⊥)
+      → (mirror (n * m) x ≡ p → ⊥) → q ≡ mirror (n * m) p → y ≡ mirror (n * m) x → Traded (p * w + lo) (x * w + lo) count xs ys
+      → Traded (q * w + lo) (y * w + lo) count ys zs → BothTraded (n * m) w lo count p x xs zs
+  both-traded {p} {x} {q} {y} {xs} {ys} {zs} lowp lowx px pq xy yp isq isy s t = record {
+    same = t .same ∙ s .same;
+    here = λ u k. other-traded t p u k (λ e. pq (e ∙ isq)) (λ e. yp (sym (e ∙ isy))) ∙ s .there u k;
+    there = λ u k. name zs u (sym isq) ∙ t .there u k ∙ other-traded s y u k (λ e. yp (sym isy ∙ e)) (λ e. xy (sym e ∙ isy)) ∙ name xs u isy;
+    back = λ u k. other-traded t x u k (λ e. yp (mirror-back (n * m) p x lowp (e ∙ isq))) (λ e. xy (e ∙ isy)) ∙ s .back u k;
+    back-there = λ u k. name zs u (sym isy) ∙ t .back u k ∙ other-traded s q u k (λ e. pq (sym e ∙ isq)) (λ e. yp (mirror-back (n * m) p x lowp (sym e ∙ isq))) ∙ name xs u isq;
+    stand = λ z u k a b c d. other-traded t z u k (λ e. b (e ∙ isq)) (λ e. d (e ∙ isy)) ∙ other-traded s z u k a c;
+    others = λ k b. outside-traded t (rw isq (mirror-low (n * m) p lowp)) (rw isy (mirror-low (n * m) x lowx)) k b ∙ outside-traded s lowp lowx k b;
+  }
+    where
+      name : (l : List ℕ) (u : ℕ) {i j : ℕ} → i ≡ j → getD l (i * w + lo + u) 0 ≡ getD l (j * w + lo + u) 0
+      name l u e = ap (λ (z : ℕ). getD l (z * w + lo + u) 0) e
 
 module _ (n m w lo count : ℕ) where
   chased-none : {first : ℕ} {xs before marks ys : List ℕ} → first < mirror (n * m) first → Settled n m w lo count xs before ys → MarkedToo first before marks

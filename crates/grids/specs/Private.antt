@@ -73,6 +73,23 @@ pub record BothHold (places w lo count p : ℕ) (value mirrored : ℕ → ℕ) (
   pub stand : (q u : ℕ) → u < count → (q ≡ p → ⊥) → (q ≡ mirror places p → ⊥) → getD zs (q * w + lo + u) 0 ≡ getD ys (q * w + lo + u) 0
   pub others : (k : ℕ) → Beside places w lo count k → getD zs k 0 ≡ getD ys k 0
 
+-- places p and x have traded their slices, and so have their mirrored places; every other word stands
+pub record BothTraded (places w lo count p x : ℕ) (ys zs : List ℕ) : Type 0 where
+  pub same : length zs ≡ length ys
+  pub here : (u : ℕ) → u < count → getD zs (p * w + lo + u) 0 ≡ getD ys (x * w + lo + u) 0
+  pub there : (u : ℕ) → u < count → getD zs (mirror places p * w + lo + u) 0 ≡ getD ys (mirror places x * w + lo + u) 0
+  pub back : (u : ℕ) → u < count → getD zs (x * w + lo + u) 0 ≡ getD ys (p * w + lo + u) 0
+  pub back-there : (u : ℕ) → u < count → getD zs (mirror places x * w + lo + u) 0 ≡ getD ys (mirror places p * w + lo + u) 0
+  pub stand : (q u : ℕ) → u < count → (q ≡ p → ⊥) → (q ≡ mirror places p → ⊥) → (q ≡ x → ⊥) → (q ≡ mirror places x → ⊥)
+      → getD zs (q * w + lo + u) 0 ≡ getD ys (q * w + lo + u) 0
+  pub others : (k : ℕ) → Beside places w lo count k → getD zs k 0 ≡ getD ys k 0
+
+-- place p and its mirrored one have traded their slices where x is not the first place, else nothing has changed
+pub record Crossed (places w lo count p x first : ℕ) (ys zs : List ℕ) : Type 0 where
+  pub straight : x ≡ first → zs ≡ ys
+  pub across : (x ≡ first → ⊥)
+      → BothHold places w lo count p (λ u. getD ys (mirror places p * w + lo + u) 0) (λ u. getD ys (p * w + lo + u) 0) ys zs
+
 -- in its slice a place of a marked pair has the words that its source had, one of a pair that is not marked has its own; words outside the slices stand
 pub record Settled (n m w lo count : ℕ) (xs marks ys : List ℕ) : Type 0 where
   pub same : length ys ≡ length xs

@@ -7,10 +7,10 @@ ghost use Prim.Native.Nat.{_+_, _*_, _-_, _<_, _≤_, min};
 ghost use lib.ListN.{length, getD};
 ghost use Rattle.orbits.specs.Cycles.{takes};
 ghost use Rattle.orbits.specs.Private.{Reciprocal};
-ghost use Rattle.moves.specs.Stretch.{Stretch};
+ghost use Rattle.moves.specs.Stretch.{Stretch, Traded};
 ghost use Rattle.grids.specs.Grids.{GridTurned};
 ghost use Rattle.grids.specs.Promises.{Turnable};
-ghost use Rattle.grids.specs.Private.{mirror, fold, half, pairs, bitAt, Follows, Fits, Room, MarkedToo, Level, Waiting, BothHold, Toured, Sliced};
+ghost use Rattle.grids.specs.Private.{mirror, fold, half, pairs, bitAt, Follows, Fits, Room, MarkedToo, Level, Waiting, BothHold, BothTraded, Crossed, Toured, Sliced};
 
 // A block of m rows and n columns of chunks, the inverse of m that a step multiplies by, and which words of each chunk are moved.
 pub(crate) struct Grid {
@@ -172,6 +172,35 @@ fn slice(buf: &mut [u32], marks: &mut [u32], kept: &mut [u32], g: Grid)
         }
         follow(buf, marks, kept, g, p);
     }
+}
+
+// Places p and x trade their slices.
+fn trade(buf: &mut [u32], g: Grid, p: usize, x: usize)
+    requires { ⌜ Fits g (now buf) × (p < g .n * g .m) × (x < g .n * g .m) × (p ≡ x → ⊥) ⌝ }
+    ensures { λ _. ⌜ Traded (p * g .chunk + g .lo) (x * g .chunk + g .lo) (g .count) (now (buf .entry)) (now (buf .exit)) ⌝ }
+{
+    moves::trade(buf, p * g.chunk + g.lo, x * g.chunk + g.lo, g.count);
+}
+
+// Places p and x trade their slices, and their mirrored places trade theirs.
+fn trade_both(buf: &mut [u32], g: Grid, p: usize, x: usize)
+    requires { ⌜ Fits g (now buf) × (p < g .n * g .m) × (x < g .n * g .m) × (x ≡ mirror (g .n * g .m) x → ⊥) ⌝ }
+    requires { ⌜ (p ≡ x → ⊥) × (p ≡ mirror (g .n * g .m) p → ⊥) × (mirror (g .n * g .m) x ≡ p → ⊥) ⌝ }
+    ensures { λ _. ⌜ BothTraded (g .n * g .m) (g .chunk) (g .lo) (g .count) p x (now (buf .entry)) (now (buf .exit)) ⌝ }
+{
+    trade(buf, g, p, x);
+    trade(buf, g, mirrored(g, p), mirrored(g, x));
+}
+
+// Place p and its mirrored one trade their slices, unless x is the first place.
+fn cross(buf: &mut [u32], g: Grid, p: usize, x: usize, first: usize)
+    requires { ⌜ Fits g (now buf) × (p < g .n * g .m) × (p ≡ mirror (g .n * g .m) p → ⊥) ⌝ }
+    ensures { λ _. ⌜ Crossed (g .n * g .m) (g .chunk) (g .lo) (g .count) p x first (now (buf .entry)) (now (buf .exit)) ⌝ }
+{
+    if x == first {
+        return;
+    }
+    trade(buf, g, p, mirrored(g, p));
 }
 
 // How many words a slice has: chunks are cut evenly, into slices of at most 80 words.
