@@ -6,6 +6,8 @@ pub mod Mirror
 pub mod Chasing
 -- the slices of the chunks meanwhile
 pub mod Slices
+-- the same by trades
+pub mod Trades
 -- cycle after cycle, and slice after slice: the block is turned
 pub mod Turned
 -- any two outcomes coincide

@@ -26,7 +26,7 @@ next-chunk w {p} {q} h =
     omega (arith, add-mul p 1 w, one-mul w)
 
 -- the source of a place is a place
-next-place : (n m : ℕ) {p x : ℕ} → x ≡ takes n m p → p < n * m → x < n * m
+pub next-place : (n m : ℕ) {p x : ℕ} → x ≡ takes n m p → p < n * m → x < n * m
 next-place n m {p} e h = omega (arith, takes-permutes n m .within p h)
 
 -- the slice of a place lies in the words, apart from that of another place
@@ -46,7 +46,7 @@ module _ {g : Grid} {xs : List ℕ} (f : Fits g xs) where
   fits-also e = record { follows = f .follows; inside = rw e (f .inside); slice = f .slice }
 
 -- mirrored places
-mirror-low : (count p : ℕ) → p < count → mirror count p < count
+pub mirror-low : (count p : ℕ) → p < count → mirror count p < count
 mirror-low count p h = omega arith
 
 mirror-back : (count p x : ℕ) → p < count → x ≡ mirror count p → mirror count x ≡ p
@@ -85,11 +85,11 @@ module _ (n m : ℕ) where
       omega (arith, takes-permutes n m .within p h)
 
   -- the next pair
-  pair-next : {p x : ℕ} → x ≡ takes n m p → p < n * m → fold (n * m) x ≡ pairs n m (fold (n * m) p)
+  pub pair-next : {p x : ℕ} → x ≡ takes n m p → p < n * m → fold (n * m) x ≡ pairs n m (fold (n * m) p)
   pair-next {p} e h = ap (fold (n * m)) e ∙ pair-goes n m p h
 
   -- two places of different pairs
-  apart : (p q : ℕ) → p < n * m → (fold (n * m) q ≡ fold (n * m) p → ⊥) → (q ≡ p → ⊥) × (q ≡ mirror (n * m) p → ⊥)
+  pub apart : (p q : ℕ) → p < n * m → (fold (n * m) q ≡ fold (n * m) p → ⊥) → (q ≡ p → ⊥) × (q ≡ mirror (n * m) p → ⊥)
   apart p q h ne = (λ e. ne (ap (fold (n * m)) e), λ e. ne (ap (fold (n * m)) e ∙ fold-mirror n m p h))
 
   follow-begins : {first : ℕ} {before marks : List ℕ} → Level (pairs n m) (half (n * m)) before → first < mirror (n * m) first → bitAt before first ≡ false
@@ -117,6 +117,13 @@ pub record Chased (n m w lo count pair : ℕ) (xs marks ys : List ℕ) : Type 0 
       → getD ys (q * w + lo + u) 0 ≡ getD xs (takes n m q * w + lo + u) 0
   pub stand : (q u : ℕ) → q < n * m → u < count → bitAt marks (fold (n * m) q) ≡ false → getD ys (q * w + lo + u) 0 ≡ getD xs (q * w + lo + u) 0
   pub others : (k : ℕ) → Beside (n * m) w lo count k → getD ys k 0 ≡ getD xs k 0
+
+-- two slices are those of the first place and of its mirrored one, crosswise where x is not the first place
+pub record Brought (places w lo count first x : ℕ) (value mirrored : ℕ → ℕ) (ys : List ℕ) : Type 0 where
+  pub here : x ≡ first → (u : ℕ) → u < count → value u ≡ getD ys (first * w + lo + u) 0
+  pub there : x ≡ first → (u : ℕ) → u < count → mirrored u ≡ getD ys (mirror places first * w + lo + u) 0
+  pub across : (x ≡ first → ⊥) → (u : ℕ) → u < count → value u ≡ getD ys (mirror places first * w + lo + u) 0
+  pub across-there : (x ≡ first → ⊥) → (u : ℕ) → u < count → mirrored u ≡ getD ys (first * w + lo + u) 0
 
 module _ (n m w lo count : ℕ) (slice : lo + count ≤ w) where
   -- the slice of another place, and what is outside the slices, lies outside that of place p
@@ -252,14 +259,25 @@ module _ (n m w lo count : ℕ) where
       ∙ ap (λ (z : ℕ). getD xs (z * w + lo + u) 0) (ap (mirror (n * m)) e ∙ sym (takes-mirror n m p low)))
       mark
 
+  -- two slices that waited
+  waiting-brings : {first x from : ℕ} {ys kept : List ℕ} → Waiting (n * m) w lo count first ys kept
+      → (from ≤ 80) × (x ≡ first → from ≡ 0) × ((x ≡ first → ⊥) → from ≡ 80)
+      → Brought (n * m) w lo count first x (λ u. getD kept (from + u) 0) (λ u. getD kept (80 - from + u) 0) ys
+  waiting-brings {kept = kept} held at = record {
+    here = λ z u k. ap (λ (y : ℕ). getD kept (y + u) 0) (at .1 z) ∙ held .here u k;
+    there = λ z u k. ap (λ (y : ℕ). getD kept (80 - y + u) 0) (at .1 z) ∙ held .there u k;
+    across = λ ne u k. ap (λ (y : ℕ). getD kept (y + u) 0) (at .2 ne) ∙ held .there u k;
+    across-there = λ ne u k. ap (λ (y : ℕ). getD kept (80 - y + u) 0) (at .2 ne) ∙ held .here u k;
+  }
+
   -- the cycle is followed from its first place home, or to the place that mirrors it
-  toured : {first p x from : ℕ} {ys zs ws marks begun marked kept : List ℕ} → first < mirror (n * m) first → bitAt marks first ≡ false → MarkedToo first marks begun
-      → Waiting (n * m) w lo count first ys kept
+  toured : {first p x : ℕ} {ys zs ws marks begun marked : List ℕ} {value mirrored : ℕ → ℕ} → first < mirror (n * m) first → bitAt marks first ≡ false → MarkedToo first marks begun
+      → Brought (n * m) w lo count first x value mirrored ys
       → Chasing (pairs-permute n m) first (fold (n * m) p) begun marked → p < n * m → x ≡ takes n m p → fold (n * m) x ≡ first
-      → (from ≤ 80) × (x ≡ first → from ≡ 0) × ((x ≡ first → ⊥) → from ≡ 80) → length zs ≡ length ys
+      → length zs ≡ length ys
       → ((xs : List ℕ) → Chased n m w lo count (fold (n * m) first) xs begun ys → Chased n m w lo count (fold (n * m) p) xs marked zs)
-      → BothHold (n * m) w lo count p (λ u. getD kept (from + u) 0) (λ u. getD kept (80 - from + u) 0) zs ws → Toured n m w lo count first ys marks ws marked
-  toured {first} {p} {x} {from} {ys} {zs} {ws} {marks} {begun} {marked} {kept} some free mark held c low e home at long chased s = record {
+      → BothHold (n * m) w lo count p value mirrored zs ws → Toured n m w lo count first ys marks ws marked
+  toured {first} {p} {x} {ys} {zs} {ws} {marks} some free mark brought c low e home long chased s = record {
     settled = λ xs a.
         let b = chased xs (chased-none some a mark) in
         let stands : (u : ℕ) → u < count → getD ys (first * w + lo + u) 0 ≡ getD xs (first * w + lo + u) 0 = λ u k. a .stand first u (first-low (n * m) first some) k own in
@@ -267,16 +285,14 @@ module _ (n m w lo count : ℕ) where
         λ u k. a .stand (mirror (n * m) first) u (last-low (n * m) first some) k own′ in
         ⊎-elim
         (λ (z : x ≡ first).
-        let is = at .1 z in
         chased-all b low (c .here) s
-        (λ u k. ap (λ (y : ℕ). getD kept (y + u) 0) is ∙ held .here u k ∙ stands u k ∙ whole xs u (sym z ∙ e))
-        (λ u k. ap (λ (y : ℕ). getD kept (80 - y + u) 0) is ∙ held .there u k ∙ stands′ u k ∙ whole xs u (ap (mirror (n * m)) (sym z ∙ e) ∙ sym (takes-mirror n m p low))))
+        (λ u k. brought .here z u k ∙ stands u k ∙ whole xs u (sym z ∙ e))
+        (λ u k. brought .there z u k ∙ stands′ u k ∙ whole xs u (ap (mirror (n * m)) (sym z ∙ e) ∙ sym (takes-mirror n m p low))))
         (λ (ne : x ≡ first → ⊥).
-        let is = at .2 ne in
         let across = other-one (n * m) first some x (next-place n m e low) home ne in
         chased-all b low (c .here) s
-        (λ u k. ap (λ (y : ℕ). getD kept (y + u) 0) is ∙ held .there u k ∙ stands′ u k ∙ whole xs u (across ∙ e))
-        (λ u k. ap (λ (y : ℕ). getD kept (80 - y + u) 0) is ∙ held .here u k ∙ stands u k ∙ whole xs u (there-back (n * m) first some ∙ ap (mirror (n * m)) (across ∙ e) ∙ sym (takes-mirror n m p low))))
+        (λ u k. brought .across ne u k ∙ stands′ u k ∙ whole xs u (across ∙ e))
+        (λ u k. brought .across-there ne u k ∙ stands u k ∙ whole xs u (there-back (n * m) first some ∙ ap (mirror (n * m)) (across ∙ e) ∙ sym (takes-mirror n m p low))))
         (eq-or-ne x first);
     same = s .same ∙ long;
     same-marks = c .same ∙ mark .same;
@@ -330,31 +346,46 @@ module _ {g : Grid} {first : ℕ} where
       pub next-apart : (p ≡ x → ⊥) × (p ≡ mirror (g .n * g .m) p → ⊥) × (mirror (g .n * g .m) x ≡ p → ⊥)
       next-apart = free-apart (g .n) (g .m) (f .chase) (f .low) (f .is) (λ e. away (folded ∙ e))
 
-      module _ {vs after : List ℕ}
-          (s : BothHold (g .n * g .m) (g .chunk) (g .lo) (g .count) p (λ u. getD zs (x * g .chunk + g .lo + u) 0) (λ u. getD zs (mirror (g .n * g .m) x * g .chunk + g .lo + u) 0) zs vs)
-          (mark : MarkedToo (fold (g .n * g .m) x) marked after) where
+      -- nor in the middle
+      pub next-twin : x ≡ mirror (g .n * g .m) x → ⊥
+      next-twin z = next-apart .0 (takes-permutes (g .n) (g .m) .apart p x (f .low) (next-low f) (sym (f .is) ∙ sym (middle-stays (g .n) (g .m) x (next-low f) z)))
+
+      module _ {after : List ℕ} (mark : MarkedToo (fold (g .n * g .m) x) marked after) where
         pub fewer : free (half (g .n * g .m)) (bitAt after) < free (half (g .n * g .m)) (bitAt marked)
         fewer = fewer-free (pairs-permute (g .n) (g .m)) (f .chase) (pair-next (g .n) (g .m) (f .is) (f .low)) (λ e. away (folded ∙ e)) mark
 
-        pub following-on : {y : ℕ} → y ≡ takes (g .n) (g .m) x → Following g first x y ys marks vs after
-        following-on is = record {
-          fits = fits-also (f .fits) (s .same);
+        pub following-by : {y : ℕ} {vs : List ℕ} → length vs ≡ length zs
+            → ((xs : List ℕ) → Chased (g .n) (g .m) (g .chunk) (g .lo) (g .count) (fold (g .n * g .m) p) xs marked zs
+            → Chased (g .n) (g .m) (g .chunk) (g .lo) (g .count) (fold (g .n * g .m) x) xs after vs)
+            → y ≡ takes (g .n) (g .m) x → Following g first x y ys marks vs after
+        following-by same step is = record {
+          fits = fits-also (f .fits) same;
           bits = omega (arith, f .bits, mark .same);
           some = f .some;
           chase = chase-on (pairs-permute (g .n) (g .m)) (f .chase) (pair-next (g .n) (g .m) (f .is) (f .low)) (λ e. away (folded ∙ e)) mark;
           low = next-low f;
           is = is;
-          long = s .same ∙ f .long;
-          chased = λ xs a. chased-on _ _ _ _ _ (f .chase) (f .low) (f .is) (λ e. away (folded ∙ e)) (f .chased xs a) s mark;
+          long = same ∙ f .long;
+          chased = λ xs a. step xs (f .chased xs a);
         }
+
+        pub following-on : {y : ℕ} {vs : List ℕ}
+            → BothHold (g .n * g .m) (g .chunk) (g .lo) (g .count) p (λ u. getD zs (x * g .chunk + g .lo + u) 0) (λ u. getD zs (mirror (g .n * g .m) x * g .chunk + g .lo + u) 0) zs vs
+            → y ≡ takes (g .n) (g .m) x → Following g first x y ys marks vs after
+        following-on s = following-by (s .same) (λ xs a. chased-on _ _ _ _ _ (f .chase) (f .low) (f .is) (λ e. away (folded ∙ e)) a s mark)
 
     -- home
     module _ (home : r ≡ first) where
       pub last-apart : p ≡ mirror (g .n * g .m) p → ⊥
       last-apart = end-apart (g .n) (g .m) (f .some) (f .low) (f .is) (sym folded ∙ home)
 
+      pub followed-by : {before vs : List ℕ} {value mirrored : ℕ → ℕ} → bitAt before first ≡ false → MarkedToo first before marks
+          → Brought (g .n * g .m) (g .chunk) (g .lo) (g .count) first x value mirrored ys → BothHold (g .n * g .m) (g .chunk) (g .lo) (g .count) p value mirrored zs vs
+          → Toured (g .n) (g .m) (g .chunk) (g .lo) (g .count) first ys before vs marked
+      followed-by free mark brought s = toured _ _ _ _ _ (f .some) free mark brought (f .chase) (f .low) (f .is) (sym folded ∙ home) (f .long) (f .chased) s
+
       pub followed : {from : ℕ} {before vs kept : List ℕ} → bitAt before first ≡ false → MarkedToo first before marks → Waiting (g .n * g .m) (g .chunk) (g .lo) (g .count) first ys kept
           → (from ≤ 80) × (x ≡ first → from ≡ 0) × ((x ≡ first → ⊥) → from ≡ 80)
           → BothHold (g .n * g .m) (g .chunk) (g .lo) (g .count) p (λ u. getD kept (from + u) 0) (λ u. getD kept (80 - from + u) 0) zs vs
           → Toured (g .n) (g .m) (g .chunk) (g .lo) (g .count) first ys before vs marked
-      followed free mark held at s = toured _ _ _ _ _ (f .some) free mark held (f .chase) (f .low) (f .is) (sym folded ∙ home) at (f .long) (f .chased) s
+      followed free mark held at s = followed-by free mark (waiting-brings (g .n) (g .m) _ _ _ held at) s

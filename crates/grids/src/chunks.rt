@@ -192,6 +192,17 @@ fn trade_both(buf: &mut [u32], g: Grid, p: usize, x: usize)
     trade(buf, g, mirrored(g, p), mirrored(g, x));
 }
 
+// The same, and the pair of x is marked.
+fn trade_on(buf: &mut [u32], marks: &mut [u32], g: Grid, p: usize, x: usize)
+    requires { ⌜ Fits g (now buf) × (p < g .n * g .m) × (x < g .n * g .m) × (x ≡ mirror (g .n * g .m) x → ⊥) × (g .n * g .m ≤ 64 * length (now marks)) ⌝ }
+    requires { ⌜ (p ≡ x → ⊥) × (p ≡ mirror (g .n * g .m) p → ⊥) × (mirror (g .n * g .m) x ≡ p → ⊥) ⌝ }
+    ensures { λ _. ⌜ BothTraded (g .n * g .m) (g .chunk) (g .lo) (g .count) p x (now (buf .entry)) (now (buf .exit)) ⌝ }
+    ensures { λ _. ⌜ MarkedToo (fold (g .n * g .m) x) (now (marks .entry)) (now (marks .exit)) ⌝ }
+{
+    trade_both(buf, g, p, x);
+    marks::mark(marks, folded(g, x));
+}
+
 // Place p and its mirrored one trade their slices, unless x is the first place.
 fn cross(buf: &mut [u32], g: Grid, p: usize, x: usize, first: usize)
     requires { ⌜ Fits g (now buf) × (p < g .n * g .m) × (p ≡ mirror (g .n * g .m) p → ⊥) ⌝ }
@@ -201,6 +212,23 @@ fn cross(buf: &mut [u32], g: Grid, p: usize, x: usize, first: usize)
         return;
     }
     trade(buf, g, p, mirrored(g, p));
+}
+
+// The same as `follow` by trades, so that nothing waits: p and its mirrored place hold what `first` and its mirrored place held.
+fn tour(buf: &mut [u32], marks: &mut [u32], g: Grid, first: usize)
+    requires { ⌜ Fits g (now buf) × (g .n * g .m ≤ 64 * length (now marks)) ⌝ }
+    requires { ⌜ Level (pairs (g .n) (g .m)) (half (g .n * g .m)) (now marks) × (first < mirror (g .n * g .m) first) × (bitAt (now marks) first ≡ false) ⌝ }
+    ensures { λ _. ⌜ Toured (g .n) (g .m) (g .chunk) (g .lo) (g .count) first (now (buf .entry)) (now (marks .entry)) (now (buf .exit)) (now (marks .exit)) ⌝ }
+{
+    let mut p = first;
+    let mut x = source(g, p);
+    marks::mark(marks, first);
+    while folded(g, x) != first {
+        trade_on(buf, marks, g, p, x);
+        p = x;
+        x = source(g, p);
+    }
+    cross(buf, g, p, x, first);
 }
 
 // How many words a slice has: chunks are cut evenly, into slices of at most 80 words.

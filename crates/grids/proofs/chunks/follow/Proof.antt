@@ -42,7 +42,7 @@ loop-less c =
     let y : tie.After-advance Inv-loop μ-loop = search in
     let f : tie.After-folded Inv-loop μ-loop = search in
     let l : Loop = search in
-    fewer (l .loop .inv .0) (f .folded .ensures) (search) (y .advance .ensures .0) (y .advance .ensures .1)
+    fewer (l .loop .inv .0) (f .folded .ensures) (search) (y .advance .ensures .1)
 
 loop-again : tie.Need-loop-again Inv-loop μ-loop
 loop-again c =
@@ -50,7 +50,7 @@ loop-again c =
     let y : tie.After-advance Inv-loop μ-loop = search in
     let f : tie.After-folded Inv-loop μ-loop = search in
     let l : Loop = search in
-    (following-on (l .loop .inv .0) (f .folded .ensures) (search) (y .advance .ensures .0) (y .advance .ensures .1) (g .source2 .ensures), l .loop .inv .1, l .loop .inv .2)
+    (following-on (l .loop .inv .0) (f .folded .ensures) (search) (y .advance .ensures .1) (y .advance .ensures .0) (g .source2 .ensures), l .loop .inv .1, l .loop .inv .2)
 
 put-both-requires : tie.Need-put-both-requires Inv-loop μ-loop
 put-both-requires c κs =
