@@ -1,7 +1,6 @@
--- Cycle after cycle, and slice after slice. Before a slice no pair is marked; at its end all are but that of the first place and the last, and the middle,
+-- Cycle after cycle. At first no pair is marked; at the end all are but that of the first place and the last, and the middle,
 -- whose source they are themselves.
--- So each place has the slice of its source; once all slices have gone it has the whole chunk, and that is the layout whose first two axes are
--- exchanged.
+-- So each place has the slice of its source; a slice as long as a chunk is the chunk, and that is the layout whose first two axes are exchanged.
 use mathlib.Core.Path.{_≡_, refl, sym, ap, ap₂, _∙_}
 use mathlib.Core.Bool.{true, false}
 use mathlib.Core.List.{List, [], _∷_}
@@ -93,31 +92,6 @@ module _ (n m : ℕ) where
 
       slice : (q u : ℕ) → q < n * m → u < count → getD ys (q * w + lo + u) 0 ≡ getD xs (takes n m q * w + lo + u) 0
       slice q u h k = decided (bitAt marks (fold (n * m) q)) (λ t. s .gone q u h k t) (λ e. s .stand q u h k e ∙ ap (λ (z : ℕ). getD xs (z * w + lo + u) 0) (sym (own q h e)))
-
-  pub sliced-none : {w : ℕ} {xs : List ℕ} → Sliced n m w 0 0 xs xs
-  sliced-none = record { same = refl; gone = λ p u h k. absurd (omega arith); others = λ k h. refl }
-
-  -- word u of one chunk is no word v of another
-  other-word : (w p q u v : ℕ) → u < w → v < w → (u ≡ v → ⊥) → p * w + u ≡ q * w + v → ⊥
-  other-word w p q u v hu hv ne e = ne (sym (digits-mod p hu) ∙ ap (λ (z : ℕ). z % w) e ∙ digits-mod q hv)
-
-  -- one slice more
-  pub sliced-more : {w lo count hi : ℕ} {xs ys zs : List ℕ} → lo + count ≡ hi → hi ≤ w → Sliced n m w 0 lo xs ys → Sliced n m w lo count ys zs → Sliced n m w 0 hi xs zs
-  sliced-more {w} {lo} {count} {hi} {xs} {ys} {zs} all inside a b = record {
-    same = b .same ∙ a .same;
-    gone = λ p u h k. ⊎-elim
-        (λ (l : u < lo). b .others (p * w + 0 + u) (λ q v low short e. other-word w p q u (lo + v) (omega arith) (omega arith) (λ z. omega arith) (omega arith)) ∙ a .gone p u h l)
-        (λ (l : lo ≤ u).
-        let from = takes n m p in
-        place zs {q = p * w + lo + (u - lo)} (omega arith)
-        ∙ b .gone p (u - lo) h (omega arith)
-        ∙ a .others (from * w + lo + (u - lo)) (λ q v low short e. other-word w from q u v (omega arith) (omega arith) (λ z. omega arith) (omega arith))
-        ∙ place xs (omega arith))
-        (lt-or-ge u lo);
-    others = λ k beside.
-        b .others k (λ p u h l e. beside p (lo + u) h (omega arith) (omega arith))
-        ∙ a .others k (λ p u h l e. beside p u h (omega arith) e);
-  }
 
   -- each place has the chunk of its source: the block is turned
   pub sliced-all : {w hi : ℕ} {xs ys : List ℕ} → 0 < m → hi ≡ w → Sliced n m w 0 hi xs ys → GridTurned m n w xs ys

@@ -158,22 +158,6 @@ fn follow(buf: &mut [u32], marks: &mut [u32], kept: &mut [u32], g: Grid, first: 
     put_both(buf, g, p, kept, waits(x, first));
 }
 
-// Turns the block, one slice of each chunk. The first chunk, the last one and, of an odd number, the one in the middle stay.
-fn slice(buf: &mut [u32], marks: &mut [u32], kept: &mut [u32], g: Grid)
-    requires { ⌜ Fits g (now buf) × (g .n * g .m ≤ 64 * length (now marks)) × Room g (now kept) ⌝ }
-    ensures { λ _. ⌜ Sliced (g .n) (g .m) (g .chunk) (g .lo) (g .count) (now (buf .entry)) (now (buf .exit)) ⌝ }
-{
-    let places = g.n * g.m;
-    let middle = places / 2;
-    moves::zero(marks, 0, (places + 63) / 64);
-    for p in 1..middle {
-        if marks::marked(marks, p) {
-            continue;
-        }
-        follow(buf, marks, kept, g, p);
-    }
-}
-
 // Places p and x trade their slices.
 fn trade(buf: &mut [u32], g: Grid, p: usize, x: usize)
     requires { ⌜ Fits g (now buf) × (p < g .n * g .m) × (x < g .n * g .m) × (p ≡ x → ⊥) ⌝ }
@@ -231,16 +215,36 @@ fn tour(buf: &mut [u32], marks: &mut [u32], g: Grid, first: usize)
     cross(buf, g, p, x, first);
 }
 
-// How many words a slice has: chunks are cut evenly, into slices of at most 80 words.
-fn slice_width(chunk: usize) -> usize
-    requires { ⌜ 0 < chunk ⌝ }
-    ensures { λ r. ⌜ (0 < r) × (r ≤ 80) ⌝ }
+// The cycle of `first` and the mirrored one are gone along: slices of more than 80 words trade places, shorter ones wait.
+fn cycle(buf: &mut [u32], marks: &mut [u32], kept: &mut [u32], g: Grid, first: usize)
+    requires { ⌜ Fits g (now buf) × (g .n * g .m ≤ 64 * length (now marks)) × (length (now kept) ≡ 160) ⌝ }
+    requires { ⌜ Level (pairs (g .n) (g .m)) (half (g .n * g .m)) (now marks) × (first < mirror (g .n * g .m) first) × (bitAt (now marks) first ≡ false) ⌝ }
+    ensures { λ _. ⌜ Toured (g .n) (g .m) (g .chunk) (g .lo) (g .count) first (now (buf .entry)) (now (marks .entry)) (now (buf .exit)) (now (marks .exit)) ⌝ }
 {
-    let slices = (chunk - 1) / 80 + 1;
-    (chunk - 1) / slices + 1
+    if 80 < g.count {
+        tour(buf, marks, g, first);
+        return;
+    }
+    follow(buf, marks, kept, g, first);
 }
 
-// Turns the block, slice after slice. All chunks stay where a side is 1.
+// Turns the block, one slice of each chunk. The first chunk, the last one and, of an odd number, the one in the middle stay.
+fn slice(buf: &mut [u32], marks: &mut [u32], kept: &mut [u32], g: Grid)
+    requires { ⌜ Fits g (now buf) × (g .n * g .m ≤ 64 * length (now marks)) × (length (now kept) ≡ 160) ⌝ }
+    ensures { λ _. ⌜ Sliced (g .n) (g .m) (g .chunk) (g .lo) (g .count) (now (buf .entry)) (now (buf .exit)) ⌝ }
+{
+    let places = g.n * g.m;
+    let middle = places / 2;
+    moves::zero(marks, 0, (places + 63) / 64);
+    for p in 1..middle {
+        if marks::marked(marks, p) {
+            continue;
+        }
+        cycle(buf, marks, kept, g, p);
+    }
+}
+
+// Turns the block. All chunks stay where a side is 1.
 pub(crate) fn turned(buf: &mut [u32], marks: &mut [u32], m: usize, n: usize, chunk: usize)
     requires { ⌜ Turnable m n chunk (now buf) (now marks) ⌝ }
     ensures { λ _. ⌜ GridTurned m n chunk (now (buf .entry)) (now (buf .exit)) × (length (now (marks .exit)) ≡ length (now (marks .entry))) ⌝ }
@@ -252,21 +256,14 @@ pub(crate) fn turned(buf: &mut [u32], marks: &mut [u32], m: usize, n: usize, chu
         return;
     }
     let inverse = inverse_of(m);
-    let width = slice_width(chunk);
     let mut kept = [0; 160];
-    let mut lo = 0;
-    // Divides: twice for a slice of all chunks, which bounds it.
-    while lo < chunk {
-        let count = lesser(width, chunk - lo);
-        let g = Grid {
-            m,
-            n,
-            inverse,
-            chunk,
-            lo,
-            count,
-        };
-        slice(buf, marks, &mut kept, g);
-        lo += count;
-    }
+    let g = Grid {
+        m,
+        n,
+        inverse,
+        chunk,
+        lo: 0,
+        count: chunk,
+    };
+    slice(buf, marks, &mut kept, g);
 }

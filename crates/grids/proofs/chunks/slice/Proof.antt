@@ -44,21 +44,21 @@ loop-again c =
     let i = l .loop .inv in
     (i .0, i .1, i .2, i .3, omega arith, asked-more _ _ (i .5) (search via))
 
-follow-requires : tie.Need-follow-requires Inv-loop μ-loop
-follow-requires c κs =
+cycle-requires : tie.Need-cycle-requires Inv-loop μ-loop
+cycle-requires c κs =
     let e : tie.Else1 Inv-loop μ-loop = search in
     let k : tie.After-marked Inv-loop μ-loop = search in
     let l : Loop = search in
     let s : Begin = search in
     let i = l .loop .inv in
-    ((fits-also (s .pre .0) (i .0 .same), omega (arith, i .2, s .pre .1), record { short = s .pre .2 .short; long = i .3 ∙ s .pre .2 .long }), (i .1, omega (arith, i .4), sym (k .marked .ensures) ∙ e .if1 .left))
+    ((fits-also (s .pre .0) (i .0 .same), omega (arith, i .2, s .pre .1), i .3 ∙ s .pre .2), (i .1, omega (arith, i .4), sym (k .marked .ensures) ∙ e .if1 .left))
 
 loop-again-2 : tie.Need-loop-again-2 Inv-loop μ-loop
 loop-again-2 c =
-    let f : tie.After-follow Inv-loop μ-loop = search in
+    let f : tie.After-cycle Inv-loop μ-loop = search in
     let l : Loop = search in
     let i = l .loop .inv in
-    let t = f .follow .ensures in
+    let t = f .cycle .ensures in
     (t .settled _ (i .0), t .level, t .same-marks ∙ i .2, omega (arith, i .3), omega arith, asked-more _ _ (λ k a b. t .kept k (i .5 k a b)) (t .here))
 
 returns : tie.Need-returns Inv-loop μ-loop
@@ -82,7 +82,7 @@ slice-spec =
     (search needs)
     (search needs)
     loop-again
-    follow-requires
+    cycle-requires
     (search needs)
     (search needs)
     loop-again-2
