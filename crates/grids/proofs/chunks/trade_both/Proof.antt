@@ -23,7 +23,7 @@ returns c =
     both-traded _ _ _ _ _ (s .pre .0 .0 .slice) (s .pre .0 .1) (s .pre .0 .2) (s .pre .1 .0) (s .pre .1 .1) (s .pre .0 .3) (s .pre .1 .2) (q .mirrored .ensures) (y .mirrored2 .ensures) (b .trade .ensures) (d .trade2 .ensures)
 
 pub trade-both-spec : {M : Type 1} → statement M
-trade-both-spec = tie.close 
+trade-both-spec = tie.close
     (tie.spec
     (λ c κs. let s : tie.Start = search in (s .pre .0 .0, s .pre .0 .1, s .pre .0 .2, s .pre .1 .0))
     (search needs)
