@@ -89,6 +89,14 @@ fn folded(g: Grid, p: usize) -> usize
     lesser(p, mirrored(g, p))
 }
 
+// Marks the pair of place x.
+fn mark_pair(marks: &mut [u32], g: Grid, x: usize)
+    requires { ⌜ Follows g × (x < g .n * g .m) × (g .n * g .m ≤ 64 * length (now marks)) ⌝ }
+    ensures { λ _. ⌜ MarkedToo (fold (g .n * g .m) x) (now (marks .entry)) (now (marks .exit)) ⌝ }
+{
+    marks::mark(marks, folded(g, x));
+}
+
 // The slices of place p and of its mirrored one wait.
 fn keep_both(kept: &mut [u32], buf: &[u32], g: Grid, p: usize)
     requires { ⌜ Fits g (now buf) × (p < g .n * g .m) × Room g (now kept) ⌝ }
@@ -116,7 +124,7 @@ fn advance(buf: &mut [u32], marks: &mut [u32], g: Grid, p: usize, x: usize)
     ensures { λ _. ⌜ MarkedToo (fold (g .n * g .m) x) (now (marks .entry)) (now (marks .exit)) ⌝ }
 {
     carry_both(buf, g, p, x);
-    marks::mark(marks, folded(g, x));
+    mark_pair(marks, g, x);
 }
 
 // Place p receives the slice that waits at `from`, 0 or 80, and its mirrored place the other one.
@@ -184,7 +192,7 @@ fn trade_on(buf: &mut [u32], marks: &mut [u32], g: Grid, p: usize, x: usize)
     ensures { λ _. ⌜ MarkedToo (fold (g .n * g .m) x) (now (marks .entry)) (now (marks .exit)) ⌝ }
 {
     trade_both(buf, g, p, x);
-    marks::mark(marks, folded(g, x));
+    mark_pair(marks, g, x);
 }
 
 // Place p and its mirrored one trade their slices, unless x is the first place.

@@ -1,23 +1,20 @@
 -- `chunks::trade_on` meets its contract: the slices are traded and the pair is marked.
-use native.Mathlib.Omega.{arith}
 use borrow.Author.Needs.{needs}
 use Rattle.grids.proofs.chunks.trade_on.Statement.{statement}
 use Rattle.grids.proofs.chunks.trade_on.Tie as tie
 
 returns : tie.Need-returns
 returns c =
-    let k : tie.After-mark = search in
-    let f : tie.After-folded = search in
+    let k : tie.After-mark-pair = search in
     let y : tie.After-trade-both = search in
-    (y .trade-both .ensures, rw (← f .folded .ensures) (k .mark .ensures))
+    (y .trade-both .ensures, k .mark-pair .ensures)
 
 pub trade-on-spec : {M : Type 1} → statement M
 trade-on-spec =
     tie.close
     (tie.spec
     (λ c κs. let s : tie.Start = search in ((s .pre .0 .0, s .pre .0 .1, s .pre .0 .2, s .pre .0 .3), s .pre .1))
-    (search needs)
-    (λ c κs. let f : tie.After-folded = search in let s : tie.Start = search in omega (arith, f .folded .ensures, s .pre .0 .2, s .pre .0 .4))
+    (λ c κs. let s : tie.Start = search in (s .pre .0 .0 .follows, s .pre .0 .2, s .pre .0 .4))
     (search needs)
     (search needs)
     returns)
