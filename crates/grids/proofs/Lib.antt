@@ -4,11 +4,11 @@ pub mod Bits
 pub mod Mirror
 -- a cycle followed from its first place on: what the marks tell
 pub mod Chasing
--- the slices of the chunks meanwhile
-pub mod Slices
+-- the chunks meanwhile
+pub mod Places
 -- the same by trades
 pub mod Trades
--- cycle after cycle, and slice after slice: the block is turned
+-- cycle after cycle: the block is turned
 pub mod Turned
 -- any two outcomes coincide
 pub mod OneOutcome

@@ -1,6 +1,6 @@
 -- Cycle after cycle. At first no pair is marked; at the end all are but that of the first place and the last, and the middle,
 -- whose source they are themselves.
--- So each place has the slice of its source; a slice as long as a chunk is the chunk, and that is the layout whose first two axes are exchanged.
+-- So each place has the chunk of its source, and that is the layout whose first two axes are exchanged.
 use mathlib.Core.Path.{_≡_, refl, sym, ap, ap₂, _∙_}
 use mathlib.Core.Bool.{true, false}
 use mathlib.Core.List.{List, [], _∷_}
@@ -20,10 +20,10 @@ use Rattle.orbits.proofs.Takes.{takes-split, takes-last}
 use Rattle.moves.specs.Stretch.{Stretch}
 use Rattle.grids.specs.Grids.{GridTurned}
 use Rattle.grids.specs.Promises.{Turnable}
-use Rattle.grids.specs.Private.{mirror, fold, half, pairs, bitAt, Level, Settled, Sliced}
+use Rattle.grids.specs.Private.{mirror, fold, half, pairs, bitAt, Level, Settled, Arrived}
 use Rattle.grids.proofs.Bits.{both, bit-none}
 use Rattle.grids.proofs.Mirror.{pairs-permute}
-use Rattle.grids.proofs.Slices.{middle-stays}
+use Rattle.grids.proofs.Places.{middle-stays}
 
 -- the same word by two names of its offset
 place : (l : List ℕ) {p q : ℕ} → p ≡ q → getD l p 0 ≡ getD l q 0
@@ -60,7 +60,7 @@ module _ (n m : ℕ) where
   pub level-none : (marks : List ℕ) → ((q : ℕ) → q < half (n * m) → bitAt marks q ≡ false) → Level (pairs n m) (half (n * m)) marks
   level-none marks free p h = free (pairs n m p) (pairs-permute n m .within p h) ∙ sym (free p h)
 
-  pub settled-none : {w lo count : ℕ} {xs marks : List ℕ} → ((q : ℕ) → q < half (n * m) → bitAt marks q ≡ false) → Settled n m w lo count xs marks xs
+  pub settled-none : {w : ℕ} {xs marks : List ℕ} → ((q : ℕ) → q < half (n * m) → bitAt marks q ≡ false) → Settled n m w xs marks xs
   settled-none {marks = marks} free = record {
     same = refl;
     gone = λ p u h k t. both marks (fold (n * m) p) t (free (fold (n * m) p) (omega arith));
@@ -73,9 +73,9 @@ module _ (n m : ℕ) where
   first-stays some words = takes-split n m 0 some words ∙ ap₂ (λ (a b : ℕ). a * n + b) (mod-eq-of-lt some) (zero-div m) ∙ omega arith
 
   -- all pairs but those of the first place and of the middle are marked
-  pub settled-all : {w lo count p : ℕ} {xs marks ys : List ℕ} → Small n m → n * m / 2 ≤ p → ((k : ℕ) → 0 < k → k < p → bitAt marks k ≡ true) → Settled n m w lo count xs marks ys
-      → Sliced n m w lo count xs ys
-  settled-all {w} {lo} {count} {p} {xs} {marks} {ys} small last all s = record { same = s .same; gone = slice; others = s .others }
+  pub settled-all : {w p : ℕ} {xs marks ys : List ℕ} → Small n m → n * m / 2 ≤ p → ((k : ℕ) → 0 < k → k < p → bitAt marks k ≡ true) → Settled n m w xs marks ys
+      → Arrived n m w xs ys
+  settled-all {w} {p} {xs} {marks} {ys} small last all s = record { same = s .same; gone = chunk; others = s .others }
     where
       -- a place whose pair is not marked is its own source
       own : (q : ℕ) → q < n * m → bitAt marks (fold (n * m) q) ≡ false → takes n m q ≡ q
@@ -90,34 +90,31 @@ module _ (n m : ℕ) where
           (lt-or-ge q (n * m - 1)))
           (eq-or-ne q 0)
 
-      slice : (q u : ℕ) → q < n * m → u < count → getD ys (q * w + lo + u) 0 ≡ getD xs (takes n m q * w + lo + u) 0
-      slice q u h k = decided (bitAt marks (fold (n * m) q)) (λ t. s .gone q u h k t) (λ e. s .stand q u h k e ∙ ap (λ (z : ℕ). getD xs (z * w + lo + u) 0) (sym (own q h e)))
+      chunk : (q u : ℕ) → q < n * m → u < w → getD ys (q * w + u) 0 ≡ getD xs (takes n m q * w + u) 0
+      chunk q u h k = decided (bitAt marks (fold (n * m) q)) (λ t. s .gone q u h k t) (λ e. s .stand q u h k e ∙ ap (λ (z : ℕ). getD xs (z * w + u) 0) (sym (own q h e)))
 
   -- each place has the chunk of its source: the block is turned
-  pub sliced-all : {w hi : ℕ} {xs ys : List ℕ} → 0 < m → hi ≡ w → Sliced n m w 0 hi xs ys → GridTurned m n w xs ys
+  pub arrived-all : {w : ℕ} {xs ys : List ℕ} → 0 < m → Arrived n m w xs ys → GridTurned m n w xs ys
   unfolding pick
-  sliced-all {w} {hi} {xs} {ys} some all s = record {
+  arrived-all {w} {xs} {ys} some s = record {
     same = s .same;
     placed = λ x i. placed x i;
     tail = λ k h. s .others k (λ p u low short e. omega (arith, volume-three m n w, ap (λ (z : ℕ). z * w) (mul-comm m n), past p u low short));
   }
     where
-      past : (p u : ℕ) → p < n * m → u < hi → p * w + u < n * m * w
-      past p u low short = digits-lt low (omega arith)
-
-      chunk : (p u : ℕ) → p < n * m → u < w → getD ys (p * w + u) 0 ≡ getD xs (takes n m p * w + u) 0
-      chunk p u h k = place ys (omega arith) ∙ s .gone p u h (omega arith) ∙ place xs (omega arith)
+      past : (p u : ℕ) → p < n * m → u < w → p * w + u < n * m * w
+      past p u low short = digits-lt low short
 
       placed : (x : List ℕ) → Within (m ∷ n ∷ w ∷ []) x → getD ys (at (pick (1 ∷ 0 ∷ 2 ∷ []) (m ∷ n ∷ w ∷ [])) (pick (1 ∷ 0 ∷ 2 ∷ []) x)) 0 ≡ getD xs (at (m ∷ n ∷ w ∷ []) x) 0
       placed x (more {x = i} hi (more {x = j} hj (more {x = u} hu none))) =
           let low : j * m + i < n * m = digits-lt hj hi in
           let from : takes n m (j * m + i) ≡ i * n + j = takes-split n m (j * m + i) some low ∙ ap₂ (λ (a b : ℕ). a * n + b) (digits-mod j hi) (digits-div j hi) in
-          place ys (at-three n m w j i u) ∙ chunk (j * m + i) u low hu ∙ ap (λ (z : ℕ). getD xs (z * w + u) 0) from ∙ place xs (sym (at-three m n w i j u))
+          place ys (at-three n m w j i u) ∙ s .gone (j * m + i) u low hu ∙ ap (λ (z : ℕ). getD xs (z * w + u) 0) from ∙ place xs (sym (at-three m n w i j u))
 
   -- where a side is 1 every chunk stays
   stays : {w : ℕ} {xs : List ℕ} → 0 < m → ((p : ℕ) → p < n * m → takes n m p ≡ p) → GridTurned m n w xs xs
   stays {w} {xs} some own =
-      sliced-all some refl record { same = refl; gone = λ p u h k. ap (λ (z : ℕ). getD xs (z * w + 0 + u) 0) (sym (own p h)); others = λ k h. refl }
+      arrived-all some record { same = refl; gone = λ p u h k. ap (λ (z : ℕ). getD xs (z * w + u) 0) (sym (own p h)); others = λ k h. refl }
 
   pub one-row : {w : ℕ} {xs : List ℕ} → m ≡ 1 → GridTurned m n w xs xs
   one-row e = stays (omega arith) (λ p h.

@@ -1,4 +1,4 @@
--- `chunks::advance` meets its contract: the slices are moved and the pair is marked.
+-- `chunks::advance` meets its contract: the chunks are moved and the pair is marked.
 use borrow.Author.Needs.{needs}
 use Rattle.grids.proofs.chunks.advance.Statement.{statement}
 use Rattle.grids.proofs.chunks.advance.Tie as tie

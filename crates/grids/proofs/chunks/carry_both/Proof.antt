@@ -3,7 +3,7 @@ use mathlib.Core.Path.{sym, ap, _∙_}
 use Prim.Native.Nat.{ℕ, _+_, _*_}
 use lib.ListN.{getD}
 use borrow.Author.Needs.{needs}
-use Rattle.grids.proofs.Slices.{both-hold, other-slice}
+use Rattle.grids.proofs.Places.{both-hold, other-chunk}
 use Rattle.grids.proofs.chunks.carry_both.Statement.{statement}
 use Rattle.grids.proofs.chunks.carry_both.Tie as tie
 
@@ -15,10 +15,9 @@ returns c =
     let b : tie.After-carry = search in
     let s : tie.Start = search in
     let g = s .args .g in
-    let slice = s .pre .0 .0 .slice in
-    both-hold _ _ _ _ _ slice (s .pre .0 .1) (s .pre .1 .1) (q .mirrored .ensures) (b .carry .ensures) (d .carry2 .ensures) (λ u k.
-    other-slice (g .n) (g .m) _ _ _ slice (b .carry .ensures) (y .mirrored2 .result) u k (λ e. s .pre .1 .2 (sym (y .mirrored2 .ensures) ∙ e))
-    ∙ ap (λ (z : ℕ). getD (s .args .buf .now) (z * g .chunk + g .lo + u) 0) (y .mirrored2 .ensures))
+    both-hold _ _ _ (s .pre .0 .1) (s .pre .1 .1) (q .mirrored .ensures) (b .carry .ensures) (d .carry2 .ensures) (λ u k.
+    other-chunk (g .n) (g .m) _ (b .carry .ensures) (y .mirrored2 .result) u k (λ e. s .pre .1 .2 (sym (y .mirrored2 .ensures) ∙ e))
+    ∙ ap (λ (z : ℕ). getD (s .args .buf .now) (z * g .chunk + u) 0) (y .mirrored2 .ensures))
 
 pub carry-both-spec : {M : Type 1} → statement M
 carry-both-spec = tie.close (tie.spec (search needs) (search needs) (search needs) (search needs) (search needs) returns)

@@ -1,7 +1,7 @@
 -- `chunks::cross` meets its contract: the place and its mirrored one trade, or nothing is done.
 use mathlib.Core.Path.{refl}
 use borrow.Author.Needs.{needs}
-use Rattle.grids.proofs.Slices.{hold-crossed}
+use Rattle.grids.proofs.Places.{hold-crossed}
 use Rattle.grids.proofs.chunks.cross.Statement.{statement}
 use Rattle.grids.proofs.chunks.cross.Tie as tie
 
@@ -13,7 +13,7 @@ returns-2 c =
     let s : tie.Start = search in
     record {
       straight = λ z. absurd (e .if1 .left z);
-      across = λ ne. hold-crossed _ _ _ _ _ (s .pre .0 .slice) (s .pre .1) (s .pre .2) (q .mirrored .ensures) (t .trade .ensures);
+      across = λ ne. hold-crossed _ _ _ (s .pre .1) (s .pre .2) (q .mirrored .ensures) (t .trade .ensures);
     }
 
 pub cross-spec : {M : Type 1} → statement M

@@ -1,4 +1,4 @@
--- `chunks::cycle` meets its contract: slices that wait are of at most 80 words.
+-- `chunks::cycle` meets its contract: chunks that wait are of at most 80 words.
 use native.Mathlib.Omega.{arith}
 use borrow.Author.Needs.{needs}
 use Rattle.grids.proofs.chunks.cycle.Statement.{statement}

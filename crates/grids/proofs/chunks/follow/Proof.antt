@@ -7,12 +7,12 @@ use lib.ListN.{length}
 use borrow.Author.Needs.{needs}
 use Rattle.grids.specs.Private.{half, bitAt}
 use Rattle.grids.proofs.Chasing.{free}
-use Rattle.grids.proofs.Slices.{Following, following, following-on, followed, fewer, first-low, next-low, next-apart, last-apart}
+use Rattle.grids.proofs.Places.{Following, following, following-on, followed, fewer, first-low, next-low, next-apart, last-apart}
 use Rattle.grids.proofs.chunks.follow.Statement.{statement}
 use Rattle.grids.proofs.chunks.follow.Tie as tie
 
 abbrev Inv-loop : tie.InvT-loop
-Inv-loop buf₀ marks₀ kept g first p₀ x₀ buf marks p x = Following g first p x buf₀ marks₀ buf marks × (g .count ≤ 80) × (length kept ≡ 160)
+Inv-loop buf₀ marks₀ kept g first p₀ x₀ buf marks p x = Following g first p x buf₀ marks₀ buf marks × (g .chunk ≤ 80) × (length kept ≡ 160)
 
 abbrev μ-loop : tie.MeasureT-loop
 μ-loop buf₀ marks₀ kept g first p₀ x₀ buf marks p x = free (half (g .n * g .m)) (bitAt marks)

@@ -16,7 +16,7 @@ returns c =
     let g = s .args .g in
     record {
       here = λ u h. b .keep2 .ensures .below (0 + u) (omega (arith, s .pre .2 .short)) ∙ a .keep .ensures .holds u h;
-      there = λ u h. b .keep2 .ensures .holds u h ∙ ap (λ (z : ℕ). getD (s .args .buf .now) (z * g .chunk + g .lo + u) 0) (q .mirrored .ensures);
+      there = λ u h. b .keep2 .ensures .holds u h ∙ ap (λ (z : ℕ). getD (s .args .buf .now) (z * g .chunk + u) 0) (q .mirrored .ensures);
     }
 
 pub keep-both-spec : {M : Type 1} → statement M

@@ -1,7 +1,7 @@
 -- `chunks::put_both` meets its contract: one place receives what waits, then its mirrored place.
 use mathlib.Core.Path.{refl}
 use borrow.Author.Needs.{needs}
-use Rattle.grids.proofs.Slices.{both-hold}
+use Rattle.grids.proofs.Places.{both-hold}
 use Rattle.grids.proofs.chunks.put_both.Statement.{statement}
 use Rattle.grids.proofs.chunks.put_both.Tie as tie
 
@@ -11,7 +11,7 @@ returns c =
     let q : tie.After-mirrored = search in
     let b : tie.After-put = search in
     let s : tie.Start = search in
-    both-hold _ _ _ _ _ (s .pre .0 .slice) (s .pre .1) (s .pre .4) (q .mirrored .ensures) (b .put .ensures) (d .put2 .ensures) (λ u k. refl)
+    both-hold _ _ _ (s .pre .1) (s .pre .4) (q .mirrored .ensures) (b .put .ensures) (d .put2 .ensures) (λ u k. refl)
 
 pub put-both-spec : {M : Type 1} → statement M
 put-both-spec = tie.close (tie.spec (search needs) (search needs) (search needs) (search needs) (search needs) returns)

@@ -6,7 +6,7 @@ use native.Mathlib.Omega.{arith}
 use borrow.Author.Needs.{needs}
 use Rattle.grids.specs.Private.{half, bitAt}
 use Rattle.grids.proofs.Chasing.{free}
-use Rattle.grids.proofs.Slices.{following, fewer, first-low, next-low, next-apart, next-twin, last-apart}
+use Rattle.grids.proofs.Places.{following, fewer, first-low, next-low, next-apart, next-twin, last-apart}
 use Rattle.grids.proofs.Trades.{Trading, trading-on, traded}
 use Rattle.grids.proofs.chunks.tour.Statement.{statement}
 use Rattle.grids.proofs.chunks.tour.Tie as tie

@@ -1,7 +1,7 @@
 -- `chunks::trade_both` meets its contract: the four places are four, so that neither trade disturbs the other.
 use borrow.Author.Needs.{needs}
 use native.Mathlib.Omega.{arith}
-use Rattle.grids.proofs.Slices.{fits-also, mirror-apart, both-traded}
+use Rattle.grids.proofs.Places.{fits-also, mirror-apart, both-traded}
 use Rattle.grids.proofs.chunks.trade_both.Statement.{statement}
 use Rattle.grids.proofs.chunks.trade_both.Tie as tie
 
@@ -20,7 +20,7 @@ returns c =
     let q : tie.After-mirrored = search in
     let b : tie.After-trade = search in
     let s : tie.Start = search in
-    both-traded _ _ _ _ _ (s .pre .0 .0 .slice) (s .pre .0 .1) (s .pre .0 .2) (s .pre .1 .0) (s .pre .1 .1) (s .pre .0 .3) (s .pre .1 .2) (q .mirrored .ensures) (y .mirrored2 .ensures) (b .trade .ensures) (d .trade2 .ensures)
+    both-traded _ _ _ (s .pre .0 .1) (s .pre .0 .2) (s .pre .1 .0) (s .pre .1 .1) (s .pre .0 .3) (s .pre .1 .2) (q .mirrored .ensures) (y .mirrored2 .ensures) (b .trade .ensures) (d .trade2 .ensures)
 
 pub trade-both-spec : {M : Type 1} → statement M
 trade-both-spec = tie.close

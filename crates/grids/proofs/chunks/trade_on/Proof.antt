@@ -1,4 +1,4 @@
--- `chunks::trade_on` meets its contract: the slices are traded and the pair is marked.
+-- `chunks::trade_on` meets its contract: the chunks are traded and the pair is marked.
 use borrow.Author.Needs.{needs}
 use Rattle.grids.proofs.chunks.trade_on.Statement.{statement}
 use Rattle.grids.proofs.chunks.trade_on.Tie as tie

@@ -1,9 +1,9 @@
--- The slices of the chunks while two mirrored cycles are followed: those of the free place and of its mirrored one have gone, a place of a marked pair has that
+-- The chunks while two mirrored cycles are followed: those of the free place and of its mirrored one have gone, a place of a marked pair has that
 -- of its source, one of a pair that is not marked its own.
 use mathlib.Core.Path.{_≡_, refl, sym, ap, subst, _∙_}
 use mathlib.Core.Bool.{true, false}
 use mathlib.Core.List.{List}
-use mathlib.Core.Logic.{_⊎_, inl, inr, ⊎-elim}
+use mathlib.Core.Logic.{inl, inr, ⊎-elim}
 use Prim.Native.Nat.{ℕ, _+_, _*_, _-_, _<_, _≤_}
 use native.Mathlib.Nat.{mul-le-mul-right, add-mul, one-mul}
 use native.Mathlib.Omega.{arith}
@@ -29,21 +29,21 @@ next-chunk w {p} {q} h =
 pub next-place : (n m : ℕ) {p x : ℕ} → x ≡ takes n m p → p < n * m → x < n * m
 next-place n m {p} e h = omega (arith, takes-permutes n m .within p h)
 
--- the slice of a place lies in the words, apart from that of another place
+-- the chunk of a place lies in the words, apart from that of another place
 module _ {g : Grid} {xs : List ℕ} (f : Fits g xs) where
-  pub slice-inside : {p : ℕ} → p < g .n * g .m → p * g .chunk + g .lo + g .count ≤ length xs
-  slice-inside h = omega (arith, next-chunk (g .chunk) h, f .inside, f .slice)
+  pub chunk-inside : {p : ℕ} → p < g .n * g .m → p * g .chunk + g .chunk ≤ length xs
+  chunk-inside h = omega (arith, next-chunk (g .chunk) h, f .inside)
 
-  pub slice-apart : (p x : ℕ) → (p ≡ x → ⊥) → Apart (p * g .chunk + g .lo) (x * g .chunk + g .lo) (g .count)
-  slice-apart p x ne =
+  pub chunk-apart : (p x : ℕ) → (p ≡ x → ⊥) → Apart (p * g .chunk) (x * g .chunk) (g .chunk)
+  chunk-apart p x ne =
       ⊎-elim
-      (λ (h : x < p). inr (omega (arith, next-chunk (g .chunk) h, f .slice)))
-      (λ (h : p ≤ x). inl (omega (arith, next-chunk (g .chunk) {p = p} {q = x} (omega arith), f .slice)))
+      (λ (h : x < p). inr (omega (arith, next-chunk (g .chunk) h)))
+      (λ (h : p ≤ x). inl (omega (arith, next-chunk (g .chunk) {p = p} {q = x} (omega arith))))
       (lt-or-ge x p)
 
   -- a grid that fits in words fits in as many
   pub fits-also : {ys : List ℕ} → length ys ≡ length xs → Fits g ys
-  fits-also e = record { follows = f .follows; inside = rw e (f .inside); slice = f .slice }
+  fits-also e = record { follows = f .follows; inside = rw e (f .inside) }
 
 -- mirrored places
 pub mirror-low : (count p : ℕ) → p < count → mirror count p < count
@@ -110,81 +110,81 @@ module _ (n m : ℕ) where
   end-apart : {first p x : ℕ} → first < mirror (n * m) first → p < n * m → x ≡ takes n m p → fold (n * m) x ≡ first → p ≡ mirror (n * m) p → ⊥
   end-apart {first} {p} {x} some low e home z = omega (arith, middle-stays p low z)
 
--- the slices while pair `pair` is free: nothing is said of what stands at its two places
-pub record Chased (n m w lo count pair : ℕ) (xs marks ys : List ℕ) : Type 0 where
+-- the chunks while pair `pair` is free: nothing is said of what stands at its two places
+pub record Chased (n m w pair : ℕ) (xs marks ys : List ℕ) : Type 0 where
   pub same : length ys ≡ length xs
-  pub gone : (q u : ℕ) → q < n * m → u < count → bitAt marks (fold (n * m) q) ≡ true → (fold (n * m) q ≡ pair → ⊥)
-      → getD ys (q * w + lo + u) 0 ≡ getD xs (takes n m q * w + lo + u) 0
-  pub stand : (q u : ℕ) → q < n * m → u < count → bitAt marks (fold (n * m) q) ≡ false → getD ys (q * w + lo + u) 0 ≡ getD xs (q * w + lo + u) 0
-  pub others : (k : ℕ) → Beside (n * m) w lo count k → getD ys k 0 ≡ getD xs k 0
+  pub gone : (q u : ℕ) → q < n * m → u < w → bitAt marks (fold (n * m) q) ≡ true → (fold (n * m) q ≡ pair → ⊥)
+      → getD ys (q * w + u) 0 ≡ getD xs (takes n m q * w + u) 0
+  pub stand : (q u : ℕ) → q < n * m → u < w → bitAt marks (fold (n * m) q) ≡ false → getD ys (q * w + u) 0 ≡ getD xs (q * w + u) 0
+  pub others : (k : ℕ) → Beside (n * m) w k → getD ys k 0 ≡ getD xs k 0
 
--- two slices are those of the first place and of its mirrored one, crosswise where x is not the first place
-pub record Brought (places w lo count first x : ℕ) (value mirrored : ℕ → ℕ) (ys : List ℕ) : Type 0 where
-  pub here : x ≡ first → (u : ℕ) → u < count → value u ≡ getD ys (first * w + lo + u) 0
-  pub there : x ≡ first → (u : ℕ) → u < count → mirrored u ≡ getD ys (mirror places first * w + lo + u) 0
-  pub across : (x ≡ first → ⊥) → (u : ℕ) → u < count → value u ≡ getD ys (mirror places first * w + lo + u) 0
-  pub across-there : (x ≡ first → ⊥) → (u : ℕ) → u < count → mirrored u ≡ getD ys (first * w + lo + u) 0
+-- two chunks are those of the first place and of its mirrored one, crosswise where x is not the first place
+pub record Brought (places w first x : ℕ) (value mirrored : ℕ → ℕ) (ys : List ℕ) : Type 0 where
+  pub here : x ≡ first → (u : ℕ) → u < w → value u ≡ getD ys (first * w + u) 0
+  pub there : x ≡ first → (u : ℕ) → u < w → mirrored u ≡ getD ys (mirror places first * w + u) 0
+  pub across : (x ≡ first → ⊥) → (u : ℕ) → u < w → value u ≡ getD ys (mirror places first * w + u) 0
+  pub across-there : (x ≡ first → ⊥) → (u : ℕ) → u < w → mirrored u ≡ getD ys (first * w + u) 0
 
-module _ (n m w lo count : ℕ) (slice : lo + count ≤ w) where
-  -- the slice of another place, and what is outside the slices, lies outside that of place p
-  other-outside : (p q u : ℕ) → u < count → (q ≡ p → ⊥) → Outside (p * w + lo) count (q * w + lo + u)
+module _ (n m w : ℕ) where
+  -- the chunk of another place, and what is outside the chunks, lies outside that of place p
+  other-outside : (p q u : ℕ) → u < w → (q ≡ p → ⊥) → Outside (p * w) w (q * w + u)
   other-outside p q u k ne = ⊎-elim
       (λ (h : q < p). inl (omega (arith, next-chunk w h)))
       (λ (h : p ≤ q). inr (omega (arith, next-chunk w {p = p} {q = q} (omega arith))))
       (lt-or-ge q p)
 
-  beside-outside : (p : ℕ) → p < n * m → (k : ℕ) → Beside (n * m) w lo count k → Outside (p * w + lo) count k
+  beside-outside : (p : ℕ) → p < n * m → (k : ℕ) → Beside (n * m) w k → Outside (p * w) w k
   beside-outside p low k beside = ⊎-elim
-      (λ (h : k < p * w + lo). inl h)
-      (λ (h : p * w + lo ≤ k). ⊎-elim
-      (λ (l : k < p * w + lo + count). absurd (beside p (k - (p * w + lo)) low (omega arith) (omega arith)))
-      (λ (l : p * w + lo + count ≤ k). inr l)
-      (lt-or-ge k (p * w + lo + count)))
-      (lt-or-ge k (p * w + lo))
+      (λ (h : k < p * w). inl h)
+      (λ (h : p * w ≤ k). ⊎-elim
+      (λ (l : k < p * w + w). absurd (beside p (k - (p * w)) low (omega arith) (omega arith)))
+      (λ (l : p * w + w ≤ k). inr l)
+      (lt-or-ge k (p * w + w)))
+      (lt-or-ge k (p * w))
 
-  -- a slice stored at place p leaves those of other places, and what is outside the slices
-  module _ {p : ℕ} {value : ℕ → ℕ} {ys zs : List ℕ} (s : Stretch (p * w + lo) count value ys zs) where
-    pub other-slice : (q u : ℕ) → u < count → (q ≡ p → ⊥) → getD zs (q * w + lo + u) 0 ≡ getD ys (q * w + lo + u) 0
-    other-slice q u k ne = ⊎-elim (s .below (q * w + lo + u)) (s .above (q * w + lo + u)) (other-outside p q u k ne)
+  -- a chunk stored at place p leaves those of other places, and what is outside the chunks
+  module _ {p : ℕ} {value : ℕ → ℕ} {ys zs : List ℕ} (s : Stretch (p * w) w value ys zs) where
+    pub other-chunk : (q u : ℕ) → u < w → (q ≡ p → ⊥) → getD zs (q * w + u) 0 ≡ getD ys (q * w + u) 0
+    other-chunk q u k ne = ⊎-elim (s .below (q * w + u)) (s .above (q * w + u)) (other-outside p q u k ne)
 
-    outside : p < n * m → (k : ℕ) → Beside (n * m) w lo count k → getD zs k 0 ≡ getD ys k 0
+    outside : p < n * m → (k : ℕ) → Beside (n * m) w k → getD zs k 0 ≡ getD ys k 0
     outside low k beside = ⊎-elim (s .below k) (s .above k) (beside-outside p low k beside)
 
-  -- so do slices that two places trade
-  module _ {p x : ℕ} {ys zs : List ℕ} (t : Traded (p * w + lo) (x * w + lo) count ys zs) where
-    pub other-traded : (q u : ℕ) → u < count → (q ≡ p → ⊥) → (q ≡ x → ⊥) → getD zs (q * w + lo + u) 0 ≡ getD ys (q * w + lo + u) 0
-    other-traded q u k a b = t .others (q * w + lo + u) (other-outside p q u k a) (other-outside x q u k b)
+  -- so do chunks that two places trade
+  module _ {p x : ℕ} {ys zs : List ℕ} (t : Traded (p * w) (x * w) w ys zs) where
+    pub other-traded : (q u : ℕ) → u < w → (q ≡ p → ⊥) → (q ≡ x → ⊥) → getD zs (q * w + u) 0 ≡ getD ys (q * w + u) 0
+    other-traded q u k a b = t .others (q * w + u) (other-outside p q u k a) (other-outside x q u k b)
 
-    outside-traded : p < n * m → x < n * m → (k : ℕ) → Beside (n * m) w lo count k → getD zs k 0 ≡ getD ys k 0
+    outside-traded : p < n * m → x < n * m → (k : ℕ) → Beside (n * m) w k → getD zs k 0 ≡ getD ys k 0
     outside-traded low low′ k b = t .others k (beside-outside p low k b) (beside-outside x low′ k b)
 
-  -- a slice stored at place p and then one at its mirrored place
+  -- a chunk stored at place p and then one at its mirrored place
   pub both-hold : {p q : ℕ} {value late mirrored : ℕ → ℕ} {xs ys zs : List ℕ} → p < n * m → (p ≡ mirror (n * m) p → ⊥) → q ≡ mirror (n * m) p
-      → Stretch (p * w + lo) count value xs ys → Stretch (q * w + lo) count late ys zs → ((u : ℕ) → u < count → late u ≡ mirrored u)
-      → BothHold (n * m) w lo count p value mirrored xs zs
+      → Stretch (p * w) w value xs ys → Stretch (q * w) w late ys zs → ((u : ℕ) → u < w → late u ≡ mirrored u)
+      → BothHold (n * m) w p value mirrored xs zs
   both-hold {p} {q} {zs = zs} low ne is s t same = record {
     same = t .same ∙ s .same;
-    here = λ u k. other-slice t p u k (λ e. ne (e ∙ is)) ∙ s .holds u k;
-    there = λ u k. ap (λ (z : ℕ). getD zs (z * w + lo + u) 0) (sym is) ∙ t .holds u k ∙ same u k;
-    stand = λ y u k a b. other-slice t y u k (λ e. b (e ∙ is)) ∙ other-slice s y u k a;
+    here = λ u k. other-chunk t p u k (λ e. ne (e ∙ is)) ∙ s .holds u k;
+    there = λ u k. ap (λ (z : ℕ). getD zs (z * w + u) 0) (sym is) ∙ t .holds u k ∙ same u k;
+    stand = λ y u k a b. other-chunk t y u k (λ e. b (e ∙ is)) ∙ other-chunk s y u k a;
     others = λ k b. outside t (omega arith) k b ∙ outside s low k b;
   }
 
-  -- slices that a place and its mirrored one trade
-  pub hold-crossed : {p q : ℕ} {ys zs : List ℕ} → p < n * m → (p ≡ mirror (n * m) p → ⊥) → q ≡ mirror (n * m) p → Traded (p * w + lo) (q * w + lo) count ys zs
-      → BothHold (n * m) w lo count p (λ u. getD ys (mirror (n * m) p * w + lo + u) 0) (λ u. getD ys (p * w + lo + u) 0) ys zs
+  -- chunks that a place and its mirrored one trade
+  pub hold-crossed : {p q : ℕ} {ys zs : List ℕ} → p < n * m → (p ≡ mirror (n * m) p → ⊥) → q ≡ mirror (n * m) p → Traded (p * w) (q * w) w ys zs
+      → BothHold (n * m) w p (λ u. getD ys (mirror (n * m) p * w + u) 0) (λ u. getD ys (p * w + u) 0) ys zs
   hold-crossed {p} {q} {ys} {zs} low ne is t = record {
     same = t .same;
-    here = λ u k. t .there u k ∙ ap (λ (z : ℕ). getD ys (z * w + lo + u) 0) is;
-    there = λ u k. ap (λ (z : ℕ). getD zs (z * w + lo + u) 0) (sym is) ∙ t .back u k;
+    here = λ u k. t .there u k ∙ ap (λ (z : ℕ). getD ys (z * w + u) 0) is;
+    there = λ u k. ap (λ (z : ℕ). getD zs (z * w + u) 0) (sym is) ∙ t .back u k;
     stand = λ y u k a b. other-traded t y u k a (λ e. b (e ∙ is));
     others = λ k b. outside-traded t low (omega arith) k b;
   }
 
-  -- slices that places p and x trade, and then their mirrored places
+  -- chunks that places p and x trade, and then their mirrored places
   pub both-traded : {p x q y : ℕ} {xs ys zs : List ℕ} → p < n * m → x < n * m → (p ≡ x → ⊥) → (p ≡ mirror (n * m) p → ⊥) → (x ≡ mirror (n * m) x → ⊥)
-      → (mirror (n * m) x ≡ p → ⊥) → q ≡ mirror (n * m) p → y ≡ mirror (n * m) x → Traded (p * w + lo) (x * w + lo) count xs ys
-      → Traded (q * w + lo) (y * w + lo) count ys zs → BothTraded (n * m) w lo count p x xs zs
+      → (mirror (n * m) x ≡ p → ⊥) → q ≡ mirror (n * m) p → y ≡ mirror (n * m) x → Traded (p * w) (x * w) w xs ys
+      → Traded (q * w) (y * w) w ys zs → BothTraded (n * m) w p x xs zs
   both-traded {p} {x} {q} {y} {xs} {ys} {zs} lowp lowx px pq xy yp isq isy s t = record {
     same = t .same ∙ s .same;
     here = λ u k. other-traded t p u k (λ e. pq (e ∙ isq)) (λ e. yp (sym (e ∙ isy))) ∙ s .there u k;
@@ -195,12 +195,12 @@ module _ (n m w lo count : ℕ) (slice : lo + count ≤ w) where
     others = λ k b. outside-traded t (rw isq (mirror-low (n * m) p lowp)) (rw isy (mirror-low (n * m) x lowx)) k b ∙ outside-traded s lowp lowx k b;
   }
     where
-      name : (l : List ℕ) (u : ℕ) {i j : ℕ} → i ≡ j → getD l (i * w + lo + u) 0 ≡ getD l (j * w + lo + u) 0
-      name l u e = ap (λ (z : ℕ). getD l (z * w + lo + u) 0) e
+      name : (l : List ℕ) (u : ℕ) {i j : ℕ} → i ≡ j → getD l (i * w + u) 0 ≡ getD l (j * w + u) 0
+      name l u e = ap (λ (z : ℕ). getD l (z * w + u) 0) e
 
-module _ (n m w lo count : ℕ) where
-  chased-none : {first : ℕ} {xs before marks ys : List ℕ} → first < mirror (n * m) first → Settled n m w lo count xs before ys → MarkedToo first before marks
-      → Chased n m w lo count (fold (n * m) first) xs marks ys
+module _ (n m w : ℕ) where
+  chased-none : {first : ℕ} {xs before marks ys : List ℕ} → first < mirror (n * m) first → Settled n m w xs before ys → MarkedToo first before marks
+      → Chased n m w (fold (n * m) first) xs marks ys
   chased-none {first} low s mark = record {
     same = s .same;
     gone = λ q u h k t ne. s .gone q u h k (sym (mark .others (fold (n * m) q) (λ e. ne (e ∙ is))) ∙ t);
@@ -211,12 +211,12 @@ module _ (n m w lo count : ℕ) where
       is : first ≡ fold (n * m) first
       is = sym (first-own (n * m) first low)
 
-  module _ {p : ℕ} {xs marks ys zs : List ℕ} {value mirrored : ℕ → ℕ} (a : Chased n m w lo count (fold (n * m) p) xs marks ys) (low : p < n * m) (here : bitAt marks (fold (n * m) p) ≡ true)
-      (s : BothHold (n * m) w lo count p value mirrored ys zs)
-      (is : (u : ℕ) → u < count → value u ≡ getD xs (takes n m p * w + lo + u) 0)
-      (is′ : (u : ℕ) → u < count → mirrored u ≡ getD xs (takes n m (mirror (n * m) p) * w + lo + u) 0) where
-    -- the places that were free have the slices of their sources, and the others of marked pairs too
-    gone-now : (q u : ℕ) → q < n * m → u < count → bitAt marks (fold (n * m) q) ≡ true → getD zs (q * w + lo + u) 0 ≡ getD xs (takes n m q * w + lo + u) 0
+  module _ {p : ℕ} {xs marks ys zs : List ℕ} {value mirrored : ℕ → ℕ} (a : Chased n m w (fold (n * m) p) xs marks ys) (low : p < n * m) (here : bitAt marks (fold (n * m) p) ≡ true)
+      (s : BothHold (n * m) w p value mirrored ys zs)
+      (is : (u : ℕ) → u < w → value u ≡ getD xs (takes n m p * w + u) 0)
+      (is′ : (u : ℕ) → u < w → mirrored u ≡ getD xs (takes n m (mirror (n * m) p) * w + u) 0) where
+    -- the places that were free have the chunks of their sources, and the others of marked pairs too
+    gone-now : (q u : ℕ) → q < n * m → u < w → bitAt marks (fold (n * m) q) ≡ true → getD zs (q * w + u) 0 ≡ getD xs (takes n m q * w + u) 0
     gone-now q u h k t = ⊎-elim
         (λ (e : fold (n * m) q ≡ fold (n * m) p). ⊎-elim
         (λ (z : q ≡ p). rw z (s .here u k ∙ is u k))
@@ -227,13 +227,13 @@ module _ (n m w lo count : ℕ) where
         s .stand q u k (d .0) (d .1) ∙ a .gone q u h k t ne)
         (eq-or-ne (fold (n * m) q) (fold (n * m) p))
 
-    stand-now : (q u : ℕ) → q < n * m → u < count → bitAt marks (fold (n * m) q) ≡ false → getD zs (q * w + lo + u) 0 ≡ getD xs (q * w + lo + u) 0
+    stand-now : (q u : ℕ) → q < n * m → u < w → bitAt marks (fold (n * m) q) ≡ false → getD zs (q * w + u) 0 ≡ getD xs (q * w + u) 0
     stand-now q u h k f =
         let d = apart n m p q low (λ e. both marks (fold (n * m) q) (ap (bitAt marks) e ∙ here) f) in
         s .stand q u k (d .0) (d .1) ∙ a .stand q u h k f
 
     -- the next pair is free then
-    chased-more : {pair : ℕ} {marked : List ℕ} → MarkedToo pair marks marked → Chased n m w lo count pair xs marked zs
+    chased-more : {pair : ℕ} {marked : List ℕ} → MarkedToo pair marks marked → Chased n m w pair xs marked zs
     chased-more mark = record {
       same = s .same ∙ a .same;
       gone = λ q u h k t ne. gone-now q u h k (sym (mark .others (fold (n * m) q) ne) ∙ t);
@@ -241,28 +241,28 @@ module _ (n m w lo count : ℕ) where
       others = λ k b. s .others k b ∙ a .others k b;
     }
 
-    chased-all : Settled n m w lo count xs marks zs
+    chased-all : Settled n m w xs marks zs
     chased-all = record { same = s .same ∙ a .same; gone = gone-now; stand = stand-now; others = λ k b. s .others k b ∙ a .others k b }
 
-  -- the free places receive the slices of their sources, which are free then
+  -- the free places receive the chunks of their sources, which are free then
   chased-on : {first p x : ℕ} {before xs marks ys marked zs : List ℕ} → Chasing (pairs-permute n m) first (fold (n * m) p) before marks → p < n * m → x ≡ takes n m p
-      → (fold (n * m) x ≡ first → ⊥) → Chased n m w lo count (fold (n * m) p) xs marks ys
-      → BothHold (n * m) w lo count p (λ u. getD ys (x * w + lo + u) 0) (λ u. getD ys (mirror (n * m) x * w + lo + u) 0) ys zs → MarkedToo (fold (n * m) x) marks marked
-      → Chased n m w lo count (fold (n * m) x) xs marked zs
+      → (fold (n * m) x ≡ first → ⊥) → Chased n m w (fold (n * m) p) xs marks ys
+      → BothHold (n * m) w p (λ u. getD ys (x * w + u) 0) (λ u. getD ys (mirror (n * m) x * w + u) 0) ys zs → MarkedToo (fold (n * m) x) marks marked
+      → Chased n m w (fold (n * m) x) xs marked zs
   chased-on {first} {p} {x} {before} {xs} {marks} {ys} {marked} {zs} c low e ne a s mark =
       let free = on-free (pairs-permute n m) c (pair-next n m e low) ne in
       let inside = next-place n m e low in
       chased-more a low (c .here) s
-      (λ u k. a .stand x u inside k free ∙ ap (λ (z : ℕ). getD xs (z * w + lo + u) 0) e)
+      (λ u k. a .stand x u inside k free ∙ ap (λ (z : ℕ). getD xs (z * w + u) 0) e)
       (λ u k.
       a .stand (mirror (n * m) x) u (omega arith) k (ap (bitAt marks) (fold-mirror n m x inside) ∙ free)
-      ∙ ap (λ (z : ℕ). getD xs (z * w + lo + u) 0) (ap (mirror (n * m)) e ∙ sym (takes-mirror n m p low)))
+      ∙ ap (λ (z : ℕ). getD xs (z * w + u) 0) (ap (mirror (n * m)) e ∙ sym (takes-mirror n m p low)))
       mark
 
-  -- two slices that waited
-  waiting-brings : {first x from : ℕ} {ys kept : List ℕ} → Waiting (n * m) w lo count first ys kept
+  -- two chunks that waited
+  waiting-brings : {first x from : ℕ} {ys kept : List ℕ} → Waiting (n * m) w first ys kept
       → (from ≤ 80) × (x ≡ first → from ≡ 0) × ((x ≡ first → ⊥) → from ≡ 80)
-      → Brought (n * m) w lo count first x (λ u. getD kept (from + u) 0) (λ u. getD kept (80 - from + u) 0) ys
+      → Brought (n * m) w first x (λ u. getD kept (from + u) 0) (λ u. getD kept (80 - from + u) 0) ys
   waiting-brings {kept = kept} held at = record {
     here = λ z u k. ap (λ (y : ℕ). getD kept (y + u) 0) (at .1 z) ∙ held .here u k;
     there = λ z u k. ap (λ (y : ℕ). getD kept (80 - y + u) 0) (at .1 z) ∙ held .there u k;
@@ -272,16 +272,16 @@ module _ (n m w lo count : ℕ) where
 
   -- the cycle is followed from its first place home, or to the place that mirrors it
   toured : {first p x : ℕ} {ys zs ws marks begun marked : List ℕ} {value mirrored : ℕ → ℕ} → first < mirror (n * m) first → bitAt marks first ≡ false → MarkedToo first marks begun
-      → Brought (n * m) w lo count first x value mirrored ys
+      → Brought (n * m) w first x value mirrored ys
       → Chasing (pairs-permute n m) first (fold (n * m) p) begun marked → p < n * m → x ≡ takes n m p → fold (n * m) x ≡ first
       → length zs ≡ length ys
-      → ((xs : List ℕ) → Chased n m w lo count (fold (n * m) first) xs begun ys → Chased n m w lo count (fold (n * m) p) xs marked zs)
-      → BothHold (n * m) w lo count p value mirrored zs ws → Toured n m w lo count first ys marks ws marked
+      → ((xs : List ℕ) → Chased n m w (fold (n * m) first) xs begun ys → Chased n m w (fold (n * m) p) xs marked zs)
+      → BothHold (n * m) w p value mirrored zs ws → Toured n m w first ys marks ws marked
   toured {first} {p} {x} {ys} {zs} {ws} {marks} some free mark brought c low e home long chased s = record {
     settled = λ xs a.
         let b = chased xs (chased-none some a mark) in
-        let stands : (u : ℕ) → u < count → getD ys (first * w + lo + u) 0 ≡ getD xs (first * w + lo + u) 0 = λ u k. a .stand first u (first-low (n * m) first some) k own in
-        let stands′ : (u : ℕ) → u < count → getD ys (mirror (n * m) first * w + lo + u) 0 ≡ getD xs (mirror (n * m) first * w + lo + u) 0 =
+        let stands : (u : ℕ) → u < w → getD ys (first * w + u) 0 ≡ getD xs (first * w + u) 0 = λ u k. a .stand first u (first-low (n * m) first some) k own in
+        let stands′ : (u : ℕ) → u < w → getD ys (mirror (n * m) first * w + u) 0 ≡ getD xs (mirror (n * m) first * w + u) 0 =
         λ u k. a .stand (mirror (n * m) first) u (last-low (n * m) first some) k own′ in
         ⊎-elim
         (λ (z : x ≡ first).
@@ -301,8 +301,8 @@ module _ (n m w lo count : ℕ) where
     kept = λ q t. c .kept q (marked-now mark q t);
   }
     where
-      whole : (l : List ℕ) (u : ℕ) {i j : ℕ} → i ≡ j → getD l (i * w + lo + u) 0 ≡ getD l (j * w + lo + u) 0
-      whole l u e = ap (λ (z : ℕ). getD l (z * w + lo + u) 0) e
+      whole : (l : List ℕ) (u : ℕ) {i j : ℕ} → i ≡ j → getD l (i * w + u) 0 ≡ getD l (j * w + u) 0
+      whole l u e = ap (λ (z : ℕ). getD l (z * w + u) 0) e
 
       own : bitAt marks (fold (n * m) first) ≡ false
       own = ap (bitAt marks) (first-own (n * m) first some) ∙ free
@@ -319,8 +319,8 @@ pub record Following (g : Grid) (first p x : ℕ) (ys marks zs marked : List ℕ
   pub low : p < g .n * g .m
   pub is : x ≡ takes (g .n) (g .m) p
   pub long : length zs ≡ length ys
-  pub chased : (xs : List ℕ) → Chased (g .n) (g .m) (g .chunk) (g .lo) (g .count) (fold (g .n * g .m) first) xs marks ys
-      → Chased (g .n) (g .m) (g .chunk) (g .lo) (g .count) (fold (g .n * g .m) p) xs marked zs
+  pub chased : (xs : List ℕ) → Chased (g .n) (g .m) (g .chunk) (fold (g .n * g .m) first) xs marks ys
+      → Chased (g .n) (g .m) (g .chunk) (fold (g .n * g .m) p) xs marked zs
 
 module _ {g : Grid} {first : ℕ} where
   pub following : {x : ℕ} {ys before marks : List ℕ} → Fits g ys → g .n * g .m ≤ 64 * length marks → Level (pairs (g .n) (g .m)) (half (g .n * g .m)) before
@@ -355,8 +355,8 @@ module _ {g : Grid} {first : ℕ} where
         fewer = fewer-free (pairs-permute (g .n) (g .m)) (f .chase) (pair-next (g .n) (g .m) (f .is) (f .low)) (λ e. away (folded ∙ e)) mark
 
         pub following-by : {y : ℕ} {vs : List ℕ} → length vs ≡ length zs
-            → ((xs : List ℕ) → Chased (g .n) (g .m) (g .chunk) (g .lo) (g .count) (fold (g .n * g .m) p) xs marked zs
-            → Chased (g .n) (g .m) (g .chunk) (g .lo) (g .count) (fold (g .n * g .m) x) xs after vs)
+            → ((xs : List ℕ) → Chased (g .n) (g .m) (g .chunk) (fold (g .n * g .m) p) xs marked zs
+            → Chased (g .n) (g .m) (g .chunk) (fold (g .n * g .m) x) xs after vs)
             → y ≡ takes (g .n) (g .m) x → Following g first x y ys marks vs after
         following-by same step is = record {
           fits = fits-also (f .fits) same;
@@ -370,9 +370,9 @@ module _ {g : Grid} {first : ℕ} where
         }
 
         pub following-on : {y : ℕ} {vs : List ℕ}
-            → BothHold (g .n * g .m) (g .chunk) (g .lo) (g .count) p (λ u. getD zs (x * g .chunk + g .lo + u) 0) (λ u. getD zs (mirror (g .n * g .m) x * g .chunk + g .lo + u) 0) zs vs
+            → BothHold (g .n * g .m) (g .chunk) p (λ u. getD zs (x * g .chunk + u) 0) (λ u. getD zs (mirror (g .n * g .m) x * g .chunk + u) 0) zs vs
             → y ≡ takes (g .n) (g .m) x → Following g first x y ys marks vs after
-        following-on s = following-by (s .same) (λ xs a. chased-on _ _ _ _ _ (f .chase) (f .low) (f .is) (λ e. away (folded ∙ e)) a s mark)
+        following-on s = following-by (s .same) (λ xs a. chased-on _ _ _ (f .chase) (f .low) (f .is) (λ e. away (folded ∙ e)) a s mark)
 
     -- home
     module _ (home : r ≡ first) where
@@ -380,12 +380,12 @@ module _ {g : Grid} {first : ℕ} where
       last-apart = end-apart (g .n) (g .m) (f .some) (f .low) (f .is) (sym folded ∙ home)
 
       pub followed-by : {before vs : List ℕ} {value mirrored : ℕ → ℕ} → bitAt before first ≡ false → MarkedToo first before marks
-          → Brought (g .n * g .m) (g .chunk) (g .lo) (g .count) first x value mirrored ys → BothHold (g .n * g .m) (g .chunk) (g .lo) (g .count) p value mirrored zs vs
-          → Toured (g .n) (g .m) (g .chunk) (g .lo) (g .count) first ys before vs marked
-      followed-by free mark brought s = toured _ _ _ _ _ (f .some) free mark brought (f .chase) (f .low) (f .is) (sym folded ∙ home) (f .long) (f .chased) s
+          → Brought (g .n * g .m) (g .chunk) first x value mirrored ys → BothHold (g .n * g .m) (g .chunk) p value mirrored zs vs
+          → Toured (g .n) (g .m) (g .chunk) first ys before vs marked
+      followed-by free mark brought s = toured _ _ _ (f .some) free mark brought (f .chase) (f .low) (f .is) (sym folded ∙ home) (f .long) (f .chased) s
 
-      pub followed : {from : ℕ} {before vs kept : List ℕ} → bitAt before first ≡ false → MarkedToo first before marks → Waiting (g .n * g .m) (g .chunk) (g .lo) (g .count) first ys kept
+      pub followed : {from : ℕ} {before vs kept : List ℕ} → bitAt before first ≡ false → MarkedToo first before marks → Waiting (g .n * g .m) (g .chunk) first ys kept
           → (from ≤ 80) × (x ≡ first → from ≡ 0) × ((x ≡ first → ⊥) → from ≡ 80)
-          → BothHold (g .n * g .m) (g .chunk) (g .lo) (g .count) p (λ u. getD kept (from + u) 0) (λ u. getD kept (80 - from + u) 0) zs vs
-          → Toured (g .n) (g .m) (g .chunk) (g .lo) (g .count) first ys before vs marked
-      followed free mark held at s = followed-by free mark (waiting-brings (g .n) (g .m) _ _ _ held at) s
+          → BothHold (g .n * g .m) (g .chunk) p (λ u. getD kept (from + u) 0) (λ u. getD kept (80 - from + u) 0) zs vs
+          → Toured (g .n) (g .m) (g .chunk) first ys before vs marked
+      followed free mark held at s = followed-by free mark (waiting-brings (g .n) (g .m) _ held at) s

@@ -1,4 +1,4 @@
--- `chunks::slice` meets its contract. The loop keeps that places of marked pairs have the slices of their sources and that the pairs asked about are marked; the
+-- `chunks::cycles` meets its contract. The loop keeps that places of marked pairs have the chunks of their sources and that the pairs asked about are marked; the
 -- measure is how many are left.
 use mathlib.Core.Path.{_≡_, refl, sym, _∙_}
 use mathlib.Core.Bool.{true}
@@ -8,14 +8,14 @@ use lib.ListN.{length}
 use borrow.Author.Needs.{needs}
 use Rattle.lists.proofs.Via.{via}
 use Rattle.grids.specs.Private.{half, pairs, bitAt, Level, Settled}
-use Rattle.grids.proofs.Slices.{fits-also}
+use Rattle.grids.proofs.Places.{fits-also}
 use Rattle.grids.proofs.Turned.{none-marked, level-none, settled-none, asked-more, settled-all}
-use Rattle.grids.proofs.chunks.slice.Statement.{statement}
-use Rattle.grids.proofs.chunks.slice.Tie as tie
+use Rattle.grids.proofs.chunks.cycles.Statement.{statement}
+use Rattle.grids.proofs.chunks.cycles.Tie as tie
 
 abbrev Inv-loop : tie.InvT-loop
 Inv-loop buf₀ marks₀ kept₀ g places middle p₀ buf marks kept p =
-    Settled (g .n) (g .m) (g .chunk) (g .lo) (g .count) buf₀ marks buf
+    Settled (g .n) (g .m) (g .chunk) buf₀ marks buf
     × Level (pairs (g .n) (g .m)) (half (g .n * g .m)) marks
     × (length marks ≡ length marks₀)
     × (length kept ≡ length kept₀)
@@ -68,8 +68,8 @@ returns c =
     let i = l .loop .inv in
     settled-all _ _ (s .pre .0 .follows .small) (omega arith) (i .5) (i .0)
 
-pub slice-spec : {M : Type 1} → statement M
-slice-spec =
+pub cycles-spec : {M : Type 1} → statement M
+cycles-spec =
     tie.close
     (tie.spec
     Inv-loop
