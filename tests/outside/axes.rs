@@ -189,9 +189,9 @@ fn chunks(t: &mut Cases, r: &mut Random) {
     for shape in larger {
         try_swap(t, r, shape, 1);
     }
-    // every chunk length of which single elements, tiles, strips, grids and slices of 80 words are made, and those beside them
-    let slices = [63, 64, 65, 79, 80, 81, 82, 159, 160, 161, 239, 240, 241, 400];
-    for chunk in (1..=40).chain(slices).step_by(if t.short { 5 } else { 1 }) {
+    // every chunk length that goes by tiles, strips and grids, those that wait up to 80 words, those that trade above, and those beside them
+    let longer = [63, 64, 65, 79, 80, 81, 82, 159, 160, 161, 239, 240, 241, 400];
+    for chunk in (1..=40).chain(longer).step_by(if t.short { 5 } else { 1 }) {
         for shape in [[2, 3, 7, chunk], [1, 9, 9, chunk], [1, 17, 30, chunk], [1, 66, 5, chunk], [1, 5, 97, chunk], [1, 70, 67, chunk], [1, 83, 130, chunk]] {
             if volume(&shape) <= 1 << 20 {
                 try_swap(t, r, shape, 1);
