@@ -47,29 +47,11 @@ module _ (κs : Lfts 2) where
 
   pub of-strips-turn : (args : Dens κs strips.turn.Kinds.ps) (number : ℕ) (exit : AtExit (endedOf 2 strips.turn.Kinds.ps strips.turn.Kinds.r) κs)
       → strips.turn.Reads.Post κs args number exit → TurnCall
-  of-strips-turn args number exit post = record {
-    m = args .1 .1 .0;
-    n = args .1 .1 .1 .0;
-    words = args .0 .now;
-    scratch = args .1 .0 .now;
-    number = number;
-    words-after = exit .0 .now;
-    scratch-after = exit .1 .0 .now;
-    post = post;
-  }
+  of-strips-turn = of-turn
 
-  pub of-strips-turn-back : (args : Dens κs strips.turn_back.Kinds.ps) (number : ℕ) (exit : AtExit (endedOf 2 strips.turn_back.Kinds.ps strips.turn_back.Kinds.r) κs)
-      → strips.turn_back.Reads.Post κs args number exit → TurnBackCall
-  of-strips-turn-back args number exit post = record {
-    m = args .1 .1 .0;
-    n = args .1 .1 .1 .0;
-    words = args .0 .now;
-    scratch = args .1 .0 .now;
-    number = number;
-    words-after = exit .0 .now;
-    scratch-after = exit .1 .0 .now;
-    post = post;
-  }
+  pub of-strips-turn-back : (args : Dens κs strips.turn_back.Kinds.ps) (number : ℕ)
+      (exit : AtExit (endedOf 2 strips.turn_back.Kinds.ps strips.turn_back.Kinds.r) κs) → strips.turn_back.Reads.Post κs args number exit → TurnBackCall
+  of-strips-turn-back = of-turn-back
 
 pub of-recursion : (κs : Lfts 1) (args : Dens κs halves.turn.Kinds.ps) (number : ℕ) (exit : AtExit (endedOf 1 halves.turn.Kinds.ps halves.turn.Kinds.r) κs)
     → halves.turn.Reads.Post κs args number exit → RecursionCall

@@ -1,51 +1,22 @@
 -- What the calls' checks tell where none holds, and what the block's turn and the cleared scratch are then.
 use mathlib.Core.Path.{_≡_, sym, ap, _∙_}
-use mathlib.Core.List.{List, [], _∷_, _++_}
-use Prim.Native.Nat.{ℕ, _+_, _*_, _-_, _<_, _≤_}
+use mathlib.Core.List.{List, _++_}
+use Prim.Native.Nat.{ℕ, _+_, _-_}
 use native.Mathlib.Omega.{arith}
 use native.Mathlib.Nat.{le-trans}
-use lib.ListN.{length, drop, replicate, length-drop}
+use lib.ListN.{drop, replicate, length-drop}
 use lib.Seq.{ext-getD, getD-drop}
-use Rattle.refusals.specs.FirstOf.{check, firstOf}
-use Rattle.refusals.specs.Conditions.{shortScratch}
+use Rattle.refusals.specs.FirstOf.{firstOf}
 use Rattle.refusals.specs.Calls.{passesChecks}
 use Rattle.refusals.specs.Scratch.{need, cleared}
 use Rattle.refusals.proofs.Promise.{accepted}
-use Rattle.refusals.proofs.Conditions.{Valid, InRange, valid, enough-scratch}
-use Rattle.refusals.proofs.Conditions.InRange.{none, more}
 use Rattle.flat.specs.Turn.{sides, Turn}
-use Rattle.flat.proofs.Turn.{volume-two, turn-home}
+use Rattle.flat.proofs.Turn.{turn-home}
+pub use Rattle.flat.proofs.Accepted.{Accepted, flat-accepted}
 use Rattle.passes.specs.PrivateScratch.{Grouped, Lies, Past}
 use Rattle.passes.specs.Promises.{TurnPromise, TurnBackPromise}
 use Rattle.passes.specs.declared.line.GroupedSides.{GroupedSides}
 use Rattle.passes.proofs.Fits.{side-need}
-
--- sides and buffers of a flat call that is accepted
-pub record Accepted (m n : ℕ) (buffer scratch : List ℕ) : Type 0 where
-  pub m-pos : 0 < m
-  pub n-pos : 0 < n
-  pub m-few : m ≤ 4096
-  pub n-few : n ≤ 4096
-  pub few : m * n ≤ 1048576
-  pub exact : length buffer ≡ m * n
-  pub room : need (sides m n) ≤ length scratch
-
-pub flat-accepted : (m n : ℕ) (buffer scratch : List ℕ) → firstOf (passesChecks (sides m n) buffer scratch) ≡ 0 → Accepted m n buffer scratch
-flat-accepted m n buffer scratch e = go (v .0 .lengths)
-  where
-    v : Valid (sides m n) buffer × (firstOf (check 4 (shortScratch (need (sides m n)) scratch) ∷ []) ≡ 0)
-    v = valid (sides m n) buffer (check 4 (shortScratch (need (sides m n)) scratch) ∷ []) e
-
-    go : InRange (sides m n) → Accepted m n buffer scratch
-    go (more pm fm (more pn fn none)) = record {
-      m-pos = pm;
-      n-pos = pn;
-      m-few = fm;
-      n-few = fn;
-      few = rw (volume-two m n) at (v .0 .few);
-      exact = v .0 .exact ∙ volume-two m n;
-      room = enough-scratch (need (sides m n)) scratch [] (v .1) .0;
-    }
 
 -- the block of a flat call is the buffer
 pub flat-lies : {m n : ℕ} {buffer scratch : List ℕ} → Accepted m n buffer scratch → Lies m n buffer scratch
