@@ -1,14 +1,7 @@
 -- The checks of a block and of a chain, as facts: accepted means that none of the conditions holds. A block that was accepted is accepted
 -- after any chain of swaps: a swap changes neither the lengths, but for their places, nor how many words are lent. Which scratch is enough
 -- for the next chain, for the joined chain and for the chain run backwards is said by their own needs.
-use mathlib.Core.Path.{_≡_, refl, sym, ap, _∙_}
-use mathlib.Core.Bool.{Bool, true, false, cond, _||_}
-use mathlib.Core.List.{List, [], _∷_, _++_, reverse, reverse-cons}
-use Prim.Native.Nat.{ℕ, zero, suc, _-_, _<_, _≤_}
-use native.Mathlib.Omega.{arith}
-use lib.Dec.{ltb}
-use lib.ListN.{length, getD, length-reverse}
-use borrow.Author.Tests.{ltb-false, le-ltb}
+use Rattle.lists.proofs.Kit.{_≡_, refl, sym, ap, _∙_, Bool, true, false, cond, _||_, List, [], _∷_, _++_, reverse, reverse-cons, ℕ, zero, suc, _-_, _<_, _≤_, arith, ltb, length, getD, length-reverse, ltb-false, le-ltb}
 use Rattle.layout.specs.Layout.{volume}
 use Rattle.orders.specs.Chains.{exchange, follow}
 use Rattle.orders.specs.Numbers.{orderCount}

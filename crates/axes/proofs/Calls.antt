@@ -1,14 +1,6 @@
 -- What makes a call's promise: a refusal that leaves all as it was, and for a request the chain of its plan, which names the order asked for,
 -- is refused for nothing but the block and the room in scratch, and needs what the request needs; and a request in one release from one in another.
-use mathlib.Core.Path.{_≡_, refl, sym, ap, ap₂, _∙_, subst}
-use mathlib.Core.Bool.{Bool, false, cond}
-use mathlib.Core.List.{List, [], _∷_, _++_}
-use Prim.Native.Nat.{ℕ, _-_, _<_, _≤_}
-use native.Mathlib.Omega.{arith}
-use lib.Dec.{ltb}
-use lib.ListN.{length, take, replicate, length-append}
-use lib.Seq.{take-at}
-use borrow.Author.Tests.{le-ltb, ne-eqb}
+use Rattle.lists.proofs.Kit.{_≡_, refl, sym, ap, ap₂, _∙_, subst, Bool, false, cond, List, [], _∷_, _++_, ℕ, _-_, _<_, _≤_, arith, ltb, length, take, replicate, length-append, take-at, le-ltb, ne-eqb}
 use Rattle.layout.specs.Layout.{pick, Laid, Below}
 use Rattle.orders.specs.Chains.{named}
 use Rattle.orders.specs.Numbers.{orderCount, orderOf, numberOf}

@@ -4,16 +4,7 @@
 -- Each call has its own scratch, any that is enough by the call's own need, and what it holds afterwards each call's promise says by itself;
 -- where one scratch is lent to all, what it holds is said too.
 -- The words by the laws of layouts, the lengths by following the chain. A call on r axes reads the first r of the five lengths that came back.
-use mathlib.Core.Path.{_≡_, refl, sym, ap, ap₂, _∙_, subst}
-use mathlib.Core.List.{List, [], _∷_, _++_, reverse}
-use mathlib.Core.Bool.{false}
-use mathlib.Core.Logic.{⊎-elim}
-use Prim.Native.Nat.{ℕ, _+_, _<_, _≤_, max}
-use native.Mathlib.Nat.{le-refl, max-eq-left}
-use native.Mathlib.Omega.{arith}
-use lib.ListN.{length, take, length-append}
-use borrow.Author.Tests.{le-ltb}
-use Rattle.lists.proofs.Decide.{eq-or-ne}
+use Rattle.lists.proofs.Kit.{_≡_, refl, sym, ap, ap₂, _∙_, subst, List, [], _∷_, _++_, reverse, false, ⊎-elim, ℕ, _+_, _<_, _≤_, max, le-refl, max-eq-left, arith, length, take, length-append, le-ltb, eq-or-ne}
 use Rattle.layout.specs.Layout.{pick, Laid}
 use Rattle.orders.specs.Chains.{follow, named}
 use Rattle.orders.specs.Numbers.{orderCount, orderOf, numberOf}

@@ -1,16 +1,6 @@
 -- The five lengths of a shape: the first are those of its axes, the rest are zeros. A swap among the first leaves the rest, and a loop that clears the rest makes
 -- such a shape of any.
-use mathlib.Core.Path.{_≡_, refl, sym, ap, ap₂, _∙_}
-use mathlib.Core.List.{List, [], _∷_, _++_, append-nil}
-use mathlib.Core.Logic.{_⊎_, ⊎-elim}
-use Prim.Native.Nat.{ℕ, zero, suc, _+_, _-_, _<_, _≤_, min}
-use native.Mathlib.Nat.{not-suc-le-zero, le-of-suc-le-suc, sub-zero, suc-sub-suc}
-use native.Mathlib.Omega.{arith}
-use lib.ListN.{length, getD, take, drop, set, replicate, List·getD-eq-default, take-append-drop, length-take}
-use lib.Seq.{take-at, take-all, length-take-le}
-use Rattle.lists.specs.Tab.{tab}
-use Rattle.lists.proofs.Tab.{tab-more, tab-getD}
-use Rattle.lists.proofs.Front.{drop-end}
+use Rattle.lists.proofs.Kit.{_≡_, refl, sym, ap, ap₂, _∙_, List, [], _∷_, _++_, append-nil, _⊎_, ⊎-elim, ℕ, zero, suc, _+_, _-_, _<_, _≤_, min, not-suc-le-zero, le-of-suc-le-suc, sub-zero, suc-sub-suc, arith, length, getD, take, drop, set, replicate, List·getD-eq-default, take-append-drop, length-take, take-at, take-all, length-take-le, tab, tab-more, tab-getD, drop-end}
 use Rattle.orders.specs.Chains.{exchange}
 use Rattle.orders.proofs.Swaps.{length-exchange, exchange-past}
 use Rattle.axes.specs.Answers.{fiveLengths}

@@ -1,12 +1,7 @@
 -- A swap of two neighbouring axes, over any number of axes: the axes before, the two and the axes after are a block of four axes,
 -- since the offset of a word in a list of lengths in four parts is its offset in the block of the four volumes. And one swap more
 -- after a chain.
-use mathlib.Core.Path.{_≡_, refl, sym, ap, ap₂, _∙_, subst}
-use mathlib.Core.List.{List, [], _∷_, _++_}
-use Prim.Native.Nat.{ℕ, _+_, _*_}
-use native.Mathlib.Nat.{mul-assoc, add-mul, add-assoc, mul-one, one-mul, zero-mul, zero-add, add-zero}
-use lib.ListN.{length, getD}
-use Rattle.lists.specs.Tab.{upto}
+use Rattle.lists.proofs.Kit.{_≡_, refl, sym, ap, ap₂, _∙_, subst, List, [], _∷_, _++_, ℕ, _+_, _*_, mul-assoc, add-mul, add-assoc, mul-one, one-mul, zero-mul, zero-add, add-zero, length, getD, upto}
 use Rattle.layout.specs.Layout.{volume, Within, at, pick, Laid}
 use Rattle.layout.specs.Layout.Within.{none, more}
 use Rattle.layout.proofs.Offsets.{at-lt, within-length}

@@ -1,9 +1,6 @@
 -- Each promise leaves one outcome: any two that it allows from the same entry coincide, answer and both slices. Where a call is accepted, two
 -- layouts of one order are equal; where it is refused, all is as it was.
-use mathlib.Core.Path.{_≡_, sym, ap, _∙_, subst}
-use mathlib.Core.List.{List}
-use Prim.Native.Nat.{ℕ, _<_}
-use lib.ListN.{length}
+use Rattle.lists.proofs.Kit.{_≡_, sym, ap, _∙_, subst, List, ℕ, _<_, length}
 use Rattle.layout.specs.Layout.{Laid}
 use Rattle.orders.specs.Numbers.{orderCount}
 use Rattle.orders.specs.Releases.{orderBy}

@@ -1,12 +1,6 @@
 -- A chain that is followed swap by swap: what stands after i of its swaps, from one swap to the next, and what is promised once all are
 -- made. Each swap clears the scratch that it used, so that what the swaps so far need is zero.
-use mathlib.Core.Path.{_≡_, refl, sym, ap, ap₂, _∙_, subst, subst₂}
-use mathlib.Core.List.{List, []}
-use Prim.Native.Nat.{ℕ, _+_, _<_, _≤_, max}
-use native.Mathlib.Omega.{arith}
-use lib.ListN.{length, getD, take, length-take}
-use lib.Seq.{take-length}
-use Rattle.lists.specs.Tab.{upto}
+use Rattle.lists.proofs.Kit.{_≡_, refl, sym, ap, ap₂, _∙_, subst, subst₂, List, [], ℕ, _+_, _<_, _≤_, max, arith, length, getD, take, length-take, take-length, upto}
 use Rattle.layout.specs.Layout.{Laid}
 use Rattle.orders.specs.Chains.{exchange, follow, named}
 use Rattle.orders.specs.Numbers.{orderOf, numberOf}

@@ -1,18 +1,6 @@
 -- One swap of a chain. Of a block that is accepted the two axes, the axes before them and the axes after them are a block that the adjacent swap
 -- accepts, and what it makes of it is the swap of the whole shape; it clears as much scratch as the longer axis is long. Then one swap more.
-use mathlib.Core.Path.{_≡_, refl, sym, ap, _∙_, subst₂}
-use mathlib.Core.Bool.{false, _||_}
-use mathlib.Core.List.{List, [], _∷_, _++_}
-use mathlib.Core.Logic.{⊎-elim}
-use Prim.Native.Nat.{ℕ, zero, suc, _+_, _*_, _<_, _≤_, zero-le, suc-le-suc}
-use native.Mathlib.Nat.{not-suc-le-zero, le-of-suc-le-suc, eq-zero-or-pos, zero-mul, mul-zero, mul-one, mul-pos, mul-assoc, mul-comm}
-use native.Mathlib.Numerals.{add-one}
-use native.Mathlib.Omega.{arith}
-use lib.Dec.{eqb, ltb}
-use lib.ListN.{length, getD, take, drop}
-use lib.Seq.{take-suc, length-take-le}
-use borrow.Author.Tests.{ltb-false, le-ltb, ne-eqb}
-use Rattle.lists.specs.Tab.{upto}
+use Rattle.lists.proofs.Kit.{_≡_, refl, sym, ap, _∙_, subst₂, false, _||_, List, [], _∷_, _++_, ⊎-elim, ℕ, zero, suc, _+_, _*_, _<_, _≤_, zero-le, suc-le-suc, not-suc-le-zero, le-of-suc-le-suc, eq-zero-or-pos, zero-mul, mul-zero, mul-one, mul-pos, mul-assoc, mul-comm, add-one, arith, eqb, ltb, length, getD, take, drop, take-suc, length-take-le, ltb-false, le-ltb, ne-eqb, upto}
 use Rattle.layout.specs.Layout.{volume, pick, Laid}
 use Rattle.layout.proofs.Offsets.{within-length}
 use Rattle.layout.proofs.Picks.{pick-upto}

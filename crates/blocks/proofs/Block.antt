@@ -1,16 +1,6 @@
 -- The block of a sheet: what its checks 1, 11 and 3 tell, and how many rows and words it has. From the definitions and the laws of a
 -- count of words that was cut.
-use mathlib.Core.Path.{_≡_, refl, sym, ap, _∙_}
-use mathlib.Core.Bool.{true, false}
-use mathlib.Core.List.{List, [], _∷_, _++_, append-nil}
-use mathlib.Core.Logic.{⊎-elim}
-use Prim.Native.Nat.{ℕ, suc, _+_, _*_, _-_, _<_, _≤_}
-use native.Mathlib.Omega.{arith}
-use lib.Dec.{lit<}
-use lib.ListN.{length, take, getD}
-use lib.Seq.{length-take-le}
-use borrow.Author.Tests.{ltb-false, lt-ltb, le-ltb}
-use Rattle.lists.proofs.Decide.{lt-or-ge}
+use Rattle.lists.proofs.Kit.{_≡_, refl, sym, ap, _∙_, true, false, List, [], _∷_, _++_, append-nil, ⊎-elim, ℕ, suc, _+_, _*_, _-_, _<_, _≤_, arith, lit<, length, take, getD, length-take-le, ltb-false, lt-ltb, le-ltb, lt-or-ge}
 use Rattle.layout.specs.Layout.{volume}
 use Rattle.refusals.specs.FirstOf.{firstOf}
 use Rattle.refusals.specs.Conditions.{badLength, shortBuffer}

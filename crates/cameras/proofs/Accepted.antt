@@ -1,12 +1,5 @@
 -- What the checks of removing and of adding tell where none holds, and the two kinds of outcome that a promise has.
-use mathlib.Core.Path.{_≡_, refl, sym, ap, _∙_}
-use mathlib.Core.Bool.{false}
-use mathlib.Core.List.{List, [], _∷_}
-use Prim.Native.Nat.{ℕ, suc, _+_, _*_, _-_, _<_, _≤_}
-use native.Mathlib.Omega.{arith}
-use lib.Dec.{eqb, lit<}
-use lib.ListN.{length}
-use borrow.Author.Tests.{ltb-false, eqb-true, not-false}
+use Rattle.lists.proofs.Kit.{_≡_, refl, sym, ap, _∙_, false, List, [], _∷_, ℕ, suc, _+_, _*_, _-_, _<_, _≤_, arith, eqb, lit<, length, ltb-false, eqb-true, not-false}
 use Rattle.layout.specs.Layout.{volume}
 use Rattle.refusals.specs.FirstOf.{Check, firstOf, Silent}
 use Rattle.refusals.proofs.FirstOf.{zero-silent}

@@ -1,14 +1,6 @@
 -- Removing and adding undo each other: a column removed and the same words added at the same place restore every word; a column added and
 -- removed restores the block. Each column of the larger block is the new one or one of the smaller block, moved past it.
-use mathlib.Core.Path.{_≡_, sym, ap, _∙_}
-use mathlib.Core.List.{List}
-use mathlib.Core.Logic.{_⊎_, inl, inr, ⊎-elim}
-use Prim.Native.Nat.{ℕ, suc, _+_, _*_, _-_, _/_, _%_, _<_, _≤_}
-use native.Mathlib.Nat.{div-lt-iff-lt-mul, mod-lt, div-add-mod'}
-use native.Mathlib.Omega.{arith}
-use lib.ListN.{getD}
-use lib.Seq.{ext-getD}
-use Rattle.lists.proofs.Decide.{lt-or-ge, eq-or-ne}
+use Rattle.lists.proofs.Kit.{_≡_, sym, ap, _∙_, List, _⊎_, inl, inr, ⊎-elim, ℕ, suc, _+_, _*_, _-_, _/_, _%_, _<_, _≤_, div-lt-iff-lt-mul, mod-lt, div-add-mod', arith, getD, ext-getD, lt-or-ge, eq-or-ne}
 use Rattle.cameras.specs.Columns.{past, Removed, Added}
 use Rattle.cameras.proofs.Runs.{past-before, past-after, at}
 

@@ -1,15 +1,6 @@
 -- Any two outcomes that removing or adding allows coincide, and after an accepted removal adding to what is left can be refused by 16 or
 -- 25 only: freed room is always enough.
-use mathlib.Core.Path.{_≡_, refl, sym, ap, _∙_}
-use mathlib.Core.Bool.{Bool, true, false, cond}
-use mathlib.Core.List.{List}
-use mathlib.Core.Logic.{_⊎_, inl, inr, ⊎-elim}
-use Prim.Native.Nat.{ℕ, suc, _+_, _*_, _-_, _<_, _≤_}
-use native.Mathlib.Omega.{arith}
-use lib.ListN.{length, getD}
-use lib.Seq.{ext-getD}
-use borrow.Author.Tests.{le-ltb, eq-eqb}
-use Rattle.lists.proofs.Decide.{lt-or-ge, eq-or-ne}
+use Rattle.lists.proofs.Kit.{_≡_, refl, sym, ap, _∙_, Bool, true, false, cond, List, _⊎_, inl, inr, ⊎-elim, ℕ, suc, _+_, _*_, _-_, _<_, _≤_, arith, length, getD, ext-getD, le-ltb, eq-eqb, lt-or-ge, eq-or-ne}
 use Rattle.layout.specs.Layout.{volume}
 use Rattle.refusals.specs.FirstOf.{Check, firstOf}
 use Rattle.flat.specs.Turn.{sides}

@@ -1,11 +1,6 @@
 -- A run moved by one stretch: word by word, or in sixteens, which may take words past it (before it, on the way up) along. Those lie where no
 -- word is still to be read.
-use mathlib.Core.Path.{_≡_, _∙_}
-use mathlib.Core.List.{List}
-use Prim.Native.Nat.{ℕ, suc, _+_, _*_, _-_, _≤_}
-use native.Mathlib.Omega.{arith}
-use lib.ListN.{length, getD, set, length-set}
-use lib.Seq.{getD-set-same, getD-set-other}
+use Rattle.lists.proofs.Kit.{_≡_, _∙_, List, ℕ, suc, _+_, _*_, _-_, _≤_, arith, length, getD, set, length-set, getD-set-same, getD-set-other}
 use Rattle.moves.specs.Stretch.{Stretch}
 use Rattle.cameras.proofs.Runs.{RunClosed, RunOpened, at}
 

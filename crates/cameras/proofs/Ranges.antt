@@ -1,10 +1,6 @@
 -- A range of runs moved in a loop, the first first to close up and the last first to open. What a pass keeps is said here for any range, so that
 -- the loops over runs that move by themselves and over those that move in sixteens share it.
-use mathlib.Core.Path.{_≡_, refl, _∙_}
-use mathlib.Core.List.{List}
-use Prim.Native.Nat.{ℕ, suc, _+_, _<_, _≤_}
-use native.Mathlib.Omega.{arith}
-use lib.ListN.{length, getD}
+use Rattle.lists.proofs.Kit.{_≡_, refl, _∙_, List, ℕ, suc, _+_, _<_, _≤_, arith, length, getD}
 use Rattle.cameras.specs.Private.{RunsClosed, RunsOpened}
 use Rattle.cameras.proofs.Runs.{RunClosed, RunOpened, closed-also, closed-more, opened-also, opened-more}
 

@@ -1,9 +1,5 @@
 -- Rows that have closed up, with the words behind them zeroed, are the block without the column.
-use mathlib.Core.Path.{_∙_}
-use mathlib.Core.List.{List}
-use Prim.Native.Nat.{ℕ, _+_, _*_, _-_}
-use native.Mathlib.Nat.{mul-le-mul-right}
-use native.Mathlib.Omega.{arith}
+use Rattle.lists.proofs.Kit.{_∙_, List, ℕ, _+_, _*_, _-_, mul-le-mul-right, arith}
 use Rattle.cameras.specs.Columns.{Removed}
 use Rattle.moves.specs.Stretch.{Stretch}
 use Rattle.cameras.specs.Private.{Closed}

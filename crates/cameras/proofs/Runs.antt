@@ -1,16 +1,7 @@
 -- Run after run. A place (i, j) of the block without column k lies before column k of row r or from it on; run r takes those between
 -- column k of row r and of the next, and each stands as far into the run before as after. Runs that have closed up stay while the next one
 -- does, because it lies past them; runs that have opened stay while the one before them does.
-use mathlib.Core.Path.{_≡_, refl, sym, ap, subst, _∙_}
-use mathlib.Core.List.{List}
-use mathlib.Core.Logic.{_⊎_, inl, inr, ⊎-elim}
-use Prim.Native.Nat.{ℕ, suc, _+_, _*_, _-_, _<_, _≤_}
-use native.Mathlib.Nat.{mul-le-mul-right}
-use native.Mathlib.Omega.{arith}
-use lib.ListN.{length, getD, set, length-set}
-use lib.Seq.{getD-set-same, getD-set-other}
-use borrow.Author.Tests.{lt-ltb, le-ltb}
-use Rattle.lists.proofs.Decide.{lt-or-ge, eq-or-ne}
+use Rattle.lists.proofs.Kit.{_≡_, refl, sym, ap, subst, _∙_, List, _⊎_, inl, inr, ⊎-elim, ℕ, suc, _+_, _*_, _-_, _<_, _≤_, mul-le-mul-right, arith, length, getD, set, length-set, getD-set-same, getD-set-other, lt-ltb, le-ltb, lt-or-ge, eq-or-ne}
 use Rattle.moves.specs.Stretch.{Stretch}
 use Rattle.cameras.specs.Columns.{past, Added}
 use Rattle.cameras.specs.Private.{Before, From, ClosedTo, OpenedFrom, Closed}

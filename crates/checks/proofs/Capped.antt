@@ -1,12 +1,6 @@
 -- A count of words cut to one more than a block may have: up to the limit nothing is lost, past it the cut count says so, and a product
 -- may be cut on the way. By comparing the count with the limit.
-use mathlib.Core.Path.{_≡_, sym, ap, _∙_}
-use mathlib.Core.Logic.{⊎-elim}
-use Prim.Native.Nat.{ℕ, zero, suc, _*_, _<_, _≤_}
-use native.Mathlib.Nat.{mul-zero}
-use native.Mathlib.Omega.{arith}
-use borrow.Author.Tests.{lt-ltb, le-ltb}
-use Rattle.lists.proofs.Decide.{lt-or-ge}
+use Rattle.lists.proofs.Kit.{_≡_, sym, ap, _∙_, ⊎-elim, ℕ, zero, suc, _*_, _<_, _≤_, mul-zero, arith, lt-ltb, le-ltb, lt-or-ge}
 use Rattle.checks.specs.Words.{capped}
 
 pub capped-few : (v : ℕ) → v ≤ 1048576 → capped v ≡ v

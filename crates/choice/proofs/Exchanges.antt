@@ -1,12 +1,6 @@
 -- An exchange of a run with no far reading: it has four readings, none of them far, so its offset and delay are given. And an exchange as the
 -- part from its place to its end. By the laws of `take` and `drop`.
-use mathlib.Core.Path.{_≡_}
-use mathlib.Core.Bool.{false}
-use mathlib.Core.List.{List, [], _∷_}
-use Prim.Native.Nat.{ℕ, zero, suc, _+_, _-_, _*_, _^_, _<_, _≤_}
-use native.Mathlib.Omega.{arith}
-use lib.ListN.{take, drop, length-drop}
-use lib.Seq.{length-take-le, getD-drop}
+use Rattle.lists.proofs.Kit.{_≡_, false, List, [], _∷_, ℕ, zero, suc, _+_, _-_, _*_, _^_, _<_, _≤_, arith, take, drop, length-drop, length-take-le, getD-drop}
 use lib.IntN.{ℤ, pos, natAbs}
 use Rattle.refusals.specs.FirstOf.{firstOf}
 use Rattle.desk.specs.Exchange.{reading}

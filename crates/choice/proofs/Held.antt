@@ -1,17 +1,9 @@
 -- What is held of the first exchanges of a run, one exchange more at a time; and what is held of each path decides between the two. By cases on
 -- the tests of delays.
-use mathlib.Core.Path.{_≡_, refl, sym, ap, _∙_, subst}
-use mathlib.Core.Bool.{Bool, true, false, not, _&&_, _||_}
-use mathlib.Core.List.{List}
-use mathlib.Core.Logic.{_⊎_, inl, inr, ⊎-elim}
-use Prim.Native.Nat.{ℕ, _+_, _<_}
-use native.Mathlib.Omega.{arith}
+use Rattle.lists.proofs.Kit.{_≡_, refl, sym, ap, _∙_, subst, Bool, true, false, not, _&&_, _||_, List, _⊎_, inl, inr, ⊎-elim, ℕ, _+_, _<_, arith, upto, length-tab, getD-tab, decided}
 use lib.IntN.{ℤ, pos, negsuc}
 use lib.Signed.{ltZ, _≤ℤ_, _<ℤ_, ≤ℤ-refl}
 use borrow.Author.Count.{below-more}
-use Rattle.lists.specs.Tab.{upto}
-use Rattle.lists.proofs.Tab.{length-tab, getD-tab}
-use Rattle.lists.proofs.Decide.{decided}
 use Rattle.refusals.proofs.Some.{none-at, none-some}
 use Rattle.signed.proofs.Ends.{holds, fails, le, lt, of-le, of-lt}
 use Rattle.choice.specs.Choice.{exchanges, delayAt, usable, Best, FirstWins, SecondWins}

@@ -1,15 +1,9 @@
 -- What the choice means: which number is given when, and what a caller knows of the four readings that are handed back. From the promise and
 -- the laws of the tests.
-use mathlib.Core.Path.{_≡_}
-use mathlib.Core.Bool.{true, false, cond, _||_}
-use mathlib.Core.List.{List}
-use mathlib.Core.Logic.{_↔_}
-use Prim.Native.Nat.{ℕ, _<_}
-use native.Mathlib.Omega.{arith}
+use Rattle.lists.proofs.Kit.{_≡_, true, false, cond, _||_, List, _↔_, ℕ, _<_, arith, not-true}
 use denote.Ref.{RefT}
 use lib.IntN.{ℤ, pos}
 use lib.Signed.{_≤ℤ_}
-use borrow.Author.Tests.{not-true}
 use Rattle.refusals.specs.FirstOf.{firstOf}
 use Rattle.refusals.proofs.Some.{either-false}
 use Rattle.signed.proofs.Ends.{le, of-lt, fails}

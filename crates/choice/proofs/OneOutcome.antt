@@ -1,13 +1,8 @@
 -- Any two outcomes that the promise of choosing allows coincide: of the part that is handed back its readings, and where they stand in memory.
 -- Because one exchange is the best of a run, and not both paths win.
-use mathlib.Core.Path.{_≡_, refl, sym, ap, _∙_, subst}
-use mathlib.Core.List.{List}
-use mathlib.Core.Logic.{⊎-elim}
-use Prim.Native.Nat.{ℕ, _<_, _*_}
-use native.Mathlib.Omega.{arith}
+use Rattle.lists.proofs.Kit.{_≡_, refl, sym, ap, _∙_, subst, List, ⊎-elim, ℕ, _<_, _*_, arith, eq-or-ne}
 use denote.Ref.{RefT}
 use lib.IntN.{ℤ}
-use Rattle.lists.proofs.Decide.{eq-or-ne}
 use Rattle.refusals.specs.FirstOf.{firstOf}
 use Rattle.signed.proofs.Ends.{of-le, of-lt}
 use Rattle.choice.specs.Choice.{Best, FirstWins, SecondWins}

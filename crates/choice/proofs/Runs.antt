@@ -1,9 +1,5 @@
 -- What the checks of two runs tell where none holds, whatever is checked after them: both lengths are multiples of four, and no reading is far.
-use mathlib.Core.Path.{_≡_}
-use mathlib.Core.Bool.{false, cond, _||_}
-use mathlib.Core.List.{List}
-use Prim.Native.Nat.{ℕ}
-use lib.Dec.{lit<}
+use Rattle.lists.proofs.Kit.{_≡_, false, cond, _||_, List, ℕ, lit<}
 use lib.IntN.{ℤ}
 use Rattle.refusals.proofs.Conditions.{passed}
 use Rattle.refusals.proofs.Some.{either-false}

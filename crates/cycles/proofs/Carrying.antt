@@ -1,11 +1,5 @@
 -- The loops that move words: along one cycle what is left to carry, and along all what is left of the list, leaves what the whole leaves.
-use mathlib.Core.Path.{_≡_, refl, sym, ap, ap₂, _∙_}
-use mathlib.Core.List.{List, [], _∷_}
-use Prim.Native.Nat.{ℕ, suc, _+_, _*_, _-_, _<_, _≤_}
-use native.Mathlib.Nat.{sub-zero}
-use native.Mathlib.Omega.{arith}
-use lib.ListN.{length, getD, set, drop, length-set, length-drop}
-use Rattle.lists.proofs.Front.{drop-next}
+use Rattle.lists.proofs.Kit.{_≡_, refl, sym, ap, ap₂, _∙_, List, [], _∷_, ℕ, suc, _+_, _*_, _-_, _<_, _≤_, sub-zero, arith, length, getD, set, drop, length-set, length-drop, drop-next}
 use Rattle.orbits.specs.Cycles.{takes, cycles}
 use Rattle.orbits.specs.Along.{handedOn, alongCycles}
 use Rattle.orbits.proofs.Pairs.{pair-words}

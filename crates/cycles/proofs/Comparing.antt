@@ -1,19 +1,6 @@
 -- The loop over the offsets: as many pairs as were found agree, and what is left of the list is compared with the right list from the
 -- next offset on.
-use mathlib.Core.Path.{_≡_, refl, sym, ap, subst, _∙_}
-use mathlib.Core.Bool.{Bool, true, false, cond}
-use mathlib.Core.List.{List, [], _∷_}
-use mathlib.Core.Logic.{inl, inr}
-use Prim.Native.Nat.{ℕ, _+_, _*_, _-_, _<_, _≤_}
-use native.Mathlib.Nat.{sub-zero}
-use native.Mathlib.Omega.{arith}
-use lib.Dec.{T}
-use lib.ListN.{length, take, drop, length-drop}
-use lib.Seq.{drop-drop}
-use Rattle.lists.specs.Same.{same}
-use Rattle.lists.proofs.Test.{same→eq, eq→same}
-use Rattle.lists.proofs.Front.{drop-end}
-use Rattle.lists.proofs.Decide.{decided}
+use Rattle.lists.proofs.Kit.{_≡_, refl, sym, ap, subst, _∙_, Bool, true, false, cond, List, [], _∷_, inl, inr, ℕ, _+_, _*_, _-_, _<_, _≤_, sub-zero, arith, T, length, take, drop, length-drop, drop-drop, same, same→eq, eq→same, drop-end, decided}
 use Rattle.orbits.specs.Orbit.{period}
 use Rattle.orbits.specs.Cycles.{takes, isLeast, cyclesFrom, cycles, pairAt}
 use Rattle.orbits.proofs.Pairs.{Agreed, agreed-none, agreed-more, agreed-other, first-pair}

@@ -1,14 +1,5 @@
 -- The answer from what the parts found: refused by a check that comes before 22, or compared with the right list.
-use mathlib.Core.Path.{_≡_, refl, sym, ap, _∙_}
-use mathlib.Core.Bool.{Bool, true, false, cond, not}
-use mathlib.Core.List.{List, [], _∷_, _++_}
-use mathlib.Core.Logic.{⊎-elim}
-use Prim.Native.Nat.{ℕ, _*_}
-use native.Mathlib.Omega.{arith}
-use lib.Dec.{T}
-use lib.ListN.{length}
-use Rattle.lists.specs.Same.{same}
-use Rattle.lists.proofs.Test.{same→eq, eq→same}
+use Rattle.lists.proofs.Kit.{_≡_, refl, sym, ap, _∙_, Bool, true, false, cond, not, List, [], _∷_, _++_, ⊎-elim, ℕ, _*_, arith, T, length, same, same→eq, eq→same}
 use Rattle.refusals.specs.FirstOf.{Check, check, firstOf, refusing}
 use Rattle.refusals.specs.Conditions.{badLength, tooManyWords, shortBuffer, longBuffer}
 use Rattle.refusals.specs.Calls.{sizeChecks, exactChecks, blockChecks}

@@ -1,15 +1,6 @@
 -- What the answer means: 0 exactly for the right list of a block whose size is accepted, 22 exactly for another list. Any two outcomes that
 -- the promise allows coincide, because two lists differ first at one place.
-use mathlib.Core.Path.{_≡_, refl, sym, ap, ap₂, subst, _∙_}
-use mathlib.Core.Bool.{false}
-use mathlib.Core.List.{List, [], _∷_, _++_}
-use mathlib.Core.Logic.{_↔_, ⊎-elim}
-use Prim.Native.Nat.{ℕ, _*_}
-use lib.Dec.{T, lit<}
-use borrow.Author.Tests.{not-false}
-use Rattle.lists.specs.Same.{same}
-use Rattle.lists.proofs.Test.{same→eq}
-use Rattle.lists.proofs.Decide.{eq-or-ne}
+use Rattle.lists.proofs.Kit.{_≡_, refl, sym, ap, ap₂, subst, _∙_, false, List, [], _∷_, _++_, _↔_, ⊎-elim, ℕ, _*_, T, lit<, not-false, same, same→eq, eq-or-ne}
 use Rattle.refusals.specs.FirstOf.{Check, check, firstOf, refusing}
 use Rattle.refusals.specs.Calls.{sizeChecks}
 use Rattle.refusals.proofs.Conditions.{passed}

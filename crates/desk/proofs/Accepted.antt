@@ -1,15 +1,7 @@
 -- What the checks of each call tell of its numbers where none holds: readings and shifts within their limits, counts in range. Each check in
 -- turn is passed.
-use mathlib.Core.Path.{_≡_}
-use mathlib.Core.Bool.{false}
-use mathlib.Core.List.{List, [], _∷_}
-use Prim.Native.Nat.{ℕ, zero, suc, _^_, _≤_, _<_}
-use native.Mathlib.Nat.{pos-of-ne-zero}
-use native.Mathlib.Omega.{arith}
-use lib.Dec.{eqb, ltb, lit<}
-use lib.ListN.{length}
+use Rattle.lists.proofs.Kit.{_≡_, false, List, [], _∷_, ℕ, zero, suc, _^_, _≤_, _<_, pos-of-ne-zero, arith, eqb, ltb, lit<, length, eqb-true, eqb-false, eq-eqb, ltb-false, le-ltb, not-false}
 use lib.IntN.{ℤ, pos, natAbs}
-use borrow.Author.Tests.{eqb-true, eqb-false, eq-eqb, ltb-false, le-ltb, not-false}
 use Rattle.refusals.specs.FirstOf.{firstOf}
 use Rattle.refusals.specs.Conditions.{some, outOfRange, badLength}
 use Rattle.refusals.proofs.Some.{either-false, none-some}

@@ -1,9 +1,5 @@
 -- A refused answer, an accepted one, and that any two that one promise allows coincide.
-use mathlib.Core.Path.{_≡_, refl, sym, _∙_}
-use mathlib.Core.List.{List}
-use mathlib.Core.Logic.{⊎-elim}
-use Prim.Native.Nat.{ℕ}
-use Rattle.lists.proofs.Decide.{eq-or-ne}
+use Rattle.lists.proofs.Kit.{_≡_, refl, sym, _∙_, List, ⊎-elim, ℕ, eq-or-ne}
 use Rattle.refusals.specs.FirstOf.{Check, firstOf}
 use Rattle.desk.specs.Promises.{Answers}
 

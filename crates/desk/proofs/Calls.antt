@@ -1,16 +1,7 @@
 -- The calls one after the other: an offset that the offset call gives lies within 2 to the 61st, and so do the frames of an offset that is
 -- accepted; so the one never meets 18 in frames, nor the other in joining. From what rounding means.
-use mathlib.Core.Path.{_≡_, sym, ap, _∙_}
-use mathlib.Core.Bool.{false}
-use mathlib.Core.List.{List}
-use mathlib.Core.Logic.{⊎-elim}
-use Prim.Native.Nat.{ℕ, suc, _+_, _^_, _<_, _≤_}
-use native.Mathlib.Nat.{add-mul, mul-le-mul-right}
-use native.Mathlib.Omega.{arith}
-use lib.ListN.{length}
+use Rattle.lists.proofs.Kit.{_≡_, sym, ap, _∙_, false, List, ⊎-elim, ℕ, suc, _+_, _^_, _<_, _≤_, add-mul, mul-le-mul-right, arith, length, le-ltb, lt-or-ge}
 use lib.IntN.{ℤ, pos, negsuc, natAbs, _+ℤ_}
-use borrow.Author.Tests.{le-ltb}
-use Rattle.lists.proofs.Decide.{lt-or-ge}
 use Rattle.refusals.specs.Conditions.{some}
 use Rattle.refusals.proofs.Some.{none-some}
 use Rattle.signed.specs.Signed.{floorBy}

@@ -1,16 +1,8 @@
 -- What the definitions come to, by inequalities: how the offset and the frames are rounded, which frames are common and when none is. From
 -- the laws of the quotient rounded down, and of a number taken through a run.
-use mathlib.Core.Path.{_≡_, refl}
-use mathlib.Core.Bool.{Bool, true, false, cond}
-use mathlib.Core.List.{List}
-use mathlib.Core.Logic.{_↔_}
-use Prim.Native.Nat.{ℕ, _+_, _<_}
-use native.Mathlib.Omega.{arith}
-use lib.Dec.{lit<}
-use lib.ListN.{length}
+use Rattle.lists.proofs.Kit.{_≡_, refl, Bool, true, false, cond, List, _↔_, ℕ, _+_, _<_, arith, lit<, length, decided}
 use lib.IntN.{ℤ, pos, _+ℤ_, _-ℤ_, _*ℤ_}
 use lib.Signed.{ltZ, _≤ℤ_, _<ℤ_, ≤ℤ-refl}
-use Rattle.lists.proofs.Decide.{decided}
 use Rattle.signed.proofs.Ends.{sum, difference, le, lt, of-le, of-lt, holds, fails, holds-le, fails-le}
 use Rattle.signed.proofs.Floor.{rounds-down}
 use Rattle.desk.specs.Exchange.{reading, twiceOffset, offsetOf}

@@ -1,9 +1,6 @@
 -- Readings that lie within 2 to the 60th: they, their differences, the delay and twice the offset fit 64 bits, so what the machine reads
 -- back from their bits is what they are. From the sizes of sums and differences.
-use mathlib.Core.Path.{_≡_}
-use mathlib.Core.List.{List}
-use Prim.Native.Nat.{ℕ, _^_, _≤_}
-use native.Mathlib.Omega.{arith}
+use Rattle.lists.proofs.Kit.{_≡_, List, ℕ, _^_, _≤_, arith}
 use lib.IntN.{ℤ, natAbs, _-ℤ_}
 use lib.Signed.{mag-shr}
 use mir.Syntax.{w64}

@@ -1,12 +1,7 @@
 -- A number taken through a run by a function of two: one entry more, what holds of each number and so of the outcome, and how the outcome
 -- stands to each. By induction on the run.
-use mathlib.Core.Path.{_≡_}
-use mathlib.Core.List.{List, [], _∷_}
-use Prim.Native.Nat.{ℕ, zero, suc, _+_, _≤_, _<_}
-use native.Mathlib.Omega.{arith}
-use lib.ListN.{length, drop, getD}
+use Rattle.lists.proofs.Kit.{_≡_, List, [], _∷_, ℕ, zero, suc, _+_, _≤_, _<_, arith, length, drop, getD, drop-next-or, drop-end}
 use lib.IntN.{ℤ, pos}
-use Rattle.lists.proofs.Front.{drop-next-or, drop-end}
 use Rattle.desk.specs.Shifts.{through}
 
 module _ (f : ℤ → ℤ → ℤ) (m : ℤ) (xs : List ℤ) (i : ℕ) where

@@ -1,8 +1,5 @@
 -- What the checks of a call that turns a flat block through scratch tell where none holds.
-use mathlib.Core.Path.{_≡_, _∙_}
-use mathlib.Core.List.{List, [], _∷_}
-use Prim.Native.Nat.{ℕ, _*_, _<_, _≤_}
-use lib.ListN.{length}
+use Rattle.lists.proofs.Kit.{_≡_, _∙_, List, [], _∷_, ℕ, _*_, _<_, _≤_, length}
 use Rattle.refusals.specs.FirstOf.{check, firstOf}
 use Rattle.refusals.specs.Conditions.{shortScratch}
 use Rattle.refusals.specs.Calls.{passesChecks}

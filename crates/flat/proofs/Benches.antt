@@ -1,7 +1,5 @@
 -- The benches hold: one computed test over the table, turned into the rule at each row.
-use mathlib.Core.Bool.{Bool}
-use Rattle.lists.specs.Same.{same}
-use Rattle.lists.proofs.Test.{at-entry, same→eq}
+use Rattle.lists.proofs.Kit.{Bool, same, at-entry, same→eq}
 use Rattle.layout.specs.Layout.{laid, at, pick, coords, places, placeOf, volume}
 use Rattle.numbers.specs.Gcd.{gcdOf, euclid}
 use Rattle.orders.specs.Numbers.{orderOf, orders, arrangements}

@@ -1,14 +1,6 @@
 -- The three passes, one after the other, are the turn; and the computed passes are the passes. The word of row i′ and
 -- column j′ is followed to the cell at offset l = j′·m + i′ by the numbers of Sides.
-use mathlib.Core.Path.{_≡_, refl, sym, ap, ap₂, _∙_}
-use mathlib.Core.List.{List}
-use Prim.Native.Nat.{ℕ, _+_, _*_, _/_, _%_, _<_, _≤_}
-use native.Mathlib.Omega.{arith}
-use native.Mathlib.Nat.{mod-lt, div-add-mod', div-lt-iff-lt-mul, mul-comm}
-use lib.Arith.{digits-div, digits-mod, digits-lt}
-use lib.ListN.{length, getD}
-use Rattle.lists.specs.Tab.{tab}
-use Rattle.lists.proofs.Tab.{length-tab, getD-tab, overlaid-front, overlaid-rest, overlaid-length}
+use Rattle.lists.proofs.Kit.{_≡_, refl, sym, ap, ap₂, _∙_, List, ℕ, _+_, _*_, _/_, _%_, _<_, _≤_, arith, mod-lt, div-add-mod', div-lt-iff-lt-mul, mul-comm, digits-div, digits-mod, digits-lt, length, getD, tab, length-tab, getD-tab, overlaid-front, overlaid-rest, overlaid-length}
 use Rattle.layout.proofs.Picks.{finds}
 use Rattle.flat.specs.Turn.{Turn, turned}
 use Rattle.flat.specs.Passes.{word, row1, column2, source2, row3, Pass1, Pass2, Pass3, cells, passed1, passed2, passed3, Kept}

@@ -1,12 +1,7 @@
 -- The numbers of the three passes. l = i·n + j is the offset of a cell of the finished block, l = j′·m + i′ the offset of
 -- its word's cell: the passes carry the word of row i′, column j′ over row r = (l − floor(i/a)) mod m to row i, column j,
 -- and passes 2 and 3 send different cells of a line to different cells.
-use mathlib.Core.Path.{_≡_, sym, ap, ap₂, _∙_}
-use Prim.Native.Nat.{ℕ, _+_, _*_, _-_, _/_, _%_, _<_, _≤_}
-use native.Mathlib.Omega.{arith}
-use native.Mathlib.Nat.{mod-lt, mod-add-mod, div-add-mod', div-div-eq-div-mul, div-mul-cancel, div-le-self, div-lt-iff-lt-mul, le-mul-of-pos-right, mul-comm, sub-add-cancel, add-comm, mod-mod-of-dvd, pos-of-dvd-of-pos, mul-assoc, eq-zero-or-pos, zero-mul}
-use mathlib.Core.Logic.{⊎-elim}
-use lib.Arith.{digits-div, digits-mod}
+use Rattle.lists.proofs.Kit.{_≡_, sym, ap, ap₂, _∙_, ℕ, _+_, _*_, _-_, _/_, _%_, _<_, _≤_, arith, mod-lt, mod-add-mod, div-add-mod', div-div-eq-div-mul, div-mul-cancel, div-le-self, div-lt-iff-lt-mul, le-mul-of-pos-right, mul-comm, sub-add-cancel, add-comm, mod-mod-of-dvd, pos-of-dvd-of-pos, mul-assoc, eq-zero-or-pos, zero-mul, ⊎-elim, digits-div, digits-mod}
 use Rattle.numbers.specs.Gcd.{gcdOf}
 use Rattle.numbers.proofs.Gcd.{gcd-is, quotients-apart}
 use Rattle.numbers.proofs.Apart.{apart-at, shift-apart}

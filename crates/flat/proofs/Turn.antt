@@ -1,11 +1,5 @@
 -- The flat turn in the words of document 01, both ways round, and that a turn and its reverse undo each other.
-use mathlib.Core.Path.{_≡_, refl, sym, ap, _∙_}
-use mathlib.Core.List.{List, [], _∷_}
-use Prim.Native.Nat.{ℕ, _+_, _*_, _<_, _≤_}
-use native.Mathlib.Nat.{mul-one, add-zero, mul-comm}
-use native.Mathlib.Omega.{arith}
-use lib.Dec.{lit<}
-use lib.ListN.{length, getD}
+use Rattle.lists.proofs.Kit.{_≡_, refl, sym, ap, _∙_, List, [], _∷_, ℕ, _+_, _*_, _<_, _≤_, mul-one, add-zero, mul-comm, arith, lit<, length, getD}
 use Rattle.layout.specs.Layout.{volume, Within, at, pick, Below, Undone}
 use Rattle.layout.specs.Layout.Within.{none, more}
 use Rattle.layout.proofs.Laws.{home, one-layout, laid-is}

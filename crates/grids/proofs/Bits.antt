@@ -1,18 +1,7 @@
 -- Marks, one bit a place: a bit set in a word leaves the other bits of the word and every other word, and zeroes are no marks.
-use mathlib.Core.Path.{_≡_, refl, sym, ap, ap₂, _∙_}
-use mathlib.Core.Bool.{true, false}
-use mathlib.Core.List.{List}
-use mathlib.Core.Logic.{⊎-elim}
-use Prim.Native.Nat.{ℕ, zero, suc, _+_, _*_, _-_, _/_, _%_, _^_, _<_, _≤_, max}
-use native.Mathlib.Nat.{mod-lt, div-eq-of-lt, one-mul, div-add-mod', div-lt-iff-lt-mul, zero-div}
-use native.Mathlib.Omega.{arith}
-use lib.Arith.{digits-mod}
+use Rattle.lists.proofs.Kit.{_≡_, refl, sym, ap, ap₂, _∙_, true, false, List, ⊎-elim, ℕ, zero, suc, _+_, _*_, _-_, _/_, _%_, _^_, _<_, _≤_, max, mod-lt, div-eq-of-lt, one-mul, div-add-mod', div-lt-iff-lt-mul, zero-div, arith, digits-mod, eqb, lit<, length, getD, set, replicate, length-set, length-replicate, getD-set-same, getD-set-other, ext-getD, eq-or-ne, lt-or-ge}
 use lib.Bits.{bitOr, or-shr, or-step, shifted-even}
-use lib.Dec.{eqb, lit<}
-use lib.ListN.{length, getD, set, replicate, length-set, length-replicate}
 use lib.Pow.{pow-add, pow-lt, shl-shr, shl-exact}
-use lib.Seq.{getD-set-same, getD-set-other, ext-getD}
-use Rattle.lists.proofs.Decide.{eq-or-ne, lt-or-ge}
 use Rattle.moves.specs.Stretch.{Stretch}
 use Rattle.grids.specs.Private.{bitAt, MarkedToo}
 

@@ -1,15 +1,7 @@
 -- One cycle of a map that permutes places is followed from `first` on: place p is marked and free, every other marked place is done. The next place is not
 -- marked, because each marked place but `first` is the source of a marked one that is not p. That the cycle ends is counted: each step marks
 -- a place that was not. No cycle's length is needed.
-use mathlib.Core.Path.{_≡_, refl, sym, ap, _∙_}
-use mathlib.Core.Bool.{Bool, true, false, cond}
-use mathlib.Core.List.{List}
-use mathlib.Core.Logic.{⊎-elim}
-use Prim.Native.Nat.{ℕ, zero, suc, _+_, _<_}
-use native.Mathlib.Nat.{not-suc-le-zero}
-use native.Mathlib.Omega.{arith}
-use lib.ListN.{length}
-use Rattle.lists.proofs.Decide.{decided, eq-or-ne}
+use Rattle.lists.proofs.Kit.{_≡_, refl, sym, ap, _∙_, Bool, true, false, cond, List, ⊎-elim, ℕ, zero, suc, _+_, _<_, not-suc-le-zero, arith, length, decided, eq-or-ne}
 use Rattle.orbits.specs.Orbit.{Permutes}
 use Rattle.grids.specs.Private.{bitAt, MarkedToo, Level}
 use Rattle.grids.proofs.Bits.{both}

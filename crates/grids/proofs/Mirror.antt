@@ -1,12 +1,6 @@
 -- The turn keeps mirrored places mirrored: what lies as far from the block's end as x from its beginning is taken as far from the end as x is taken
 -- from the beginning. So the two of a pair go along together, and the map of pairs, told by the lesser of the two, is one to one.
-use mathlib.Core.Path.{_≡_, refl, sym, ap, ap₂, _∙_}
-use mathlib.Core.Logic.{_⊎_, inl, inr, ⊎-elim}
-use Prim.Native.Nat.{ℕ, zero, suc, _+_, _*_, _-_, _/_, _%_, _<_, _≤_}
-use native.Mathlib.Nat.{mod-lt, div-add-mod', div-lt-iff-lt-mul, add-mul, one-mul, mul-comm}
-use native.Mathlib.Omega.{arith}
-use lib.Arith.{digits-div, digits-mod, digits-lt}
-use Rattle.lists.proofs.Decide.{lt-or-ge}
+use Rattle.lists.proofs.Kit.{_≡_, refl, sym, ap, ap₂, _∙_, _⊎_, inl, inr, ⊎-elim, ℕ, zero, suc, _+_, _*_, _-_, _/_, _%_, _<_, _≤_, mod-lt, div-add-mod', div-lt-iff-lt-mul, add-mul, one-mul, mul-comm, arith, digits-div, digits-mod, digits-lt, lt-or-ge}
 use Rattle.orbits.specs.Orbit.{Permutes}
 use Rattle.orbits.specs.Cycles.{takes}
 use Rattle.orbits.proofs.Takes.{takes-split, takes-permutes}

@@ -1,9 +1,5 @@
 -- Any two outcomes that the turn of a block of chunks allows coincide: that it can be turned is decided one way or the other, and a layout has one outcome.
-use mathlib.Core.Path.{_≡_, refl, sym, _∙_}
-use mathlib.Core.Bool.{Bool}
-use mathlib.Core.List.{List, [], _∷_}
-use mathlib.Core.Logic.{_⊎_, inl, inr}
-use Prim.Native.Nat.{ℕ}
+use Rattle.lists.proofs.Kit.{_≡_, refl, sym, _∙_, Bool, List, [], _∷_, _⊎_, inl, inr, ℕ}
 use Rattle.layout.specs.Layout.{pick}
 use Rattle.layout.proofs.Laws.{one-layout}
 use Rattle.orders.specs.Chains.{exchange, follow, named}

@@ -1,14 +1,6 @@
 -- The chunks while two mirrored cycles are followed: those of the free place and of its mirrored one have gone, a place of a marked pair has that
 -- of its source, one of a pair that is not marked its own.
-use mathlib.Core.Path.{_≡_, refl, sym, ap, subst, _∙_}
-use mathlib.Core.Bool.{true, false}
-use mathlib.Core.List.{List}
-use mathlib.Core.Logic.{inl, inr, ⊎-elim}
-use Prim.Native.Nat.{ℕ, _+_, _*_, _-_, _<_, _≤_}
-use native.Mathlib.Nat.{mul-le-mul-right, add-mul, one-mul}
-use native.Mathlib.Omega.{arith}
-use lib.ListN.{length, getD}
-use Rattle.lists.proofs.Decide.{eq-or-ne, lt-or-ge}
+use Rattle.lists.proofs.Kit.{_≡_, refl, sym, ap, subst, _∙_, true, false, List, inl, inr, ⊎-elim, ℕ, _+_, _*_, _-_, _<_, _≤_, mul-le-mul-right, add-mul, one-mul, arith, length, getD, eq-or-ne, lt-or-ge}
 use Rattle.orbits.specs.Cycles.{takes}
 use Rattle.orbits.proofs.Takes.{takes-permutes}
 use Rattle.moves.specs.Stretch.{Stretch, Outside, Traded}

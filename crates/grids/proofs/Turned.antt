@@ -1,16 +1,7 @@
 -- Cycle after cycle. At first no pair is marked; at the end all are but that of the first place and the last, and the middle,
 -- whose source they are themselves.
 -- So each place has the chunk of its source, and that is the layout whose first two axes are exchanged.
-use mathlib.Core.Path.{_≡_, refl, sym, ap, ap₂, _∙_}
-use mathlib.Core.Bool.{true, false}
-use mathlib.Core.List.{List, [], _∷_}
-use mathlib.Core.Logic.{⊎-elim}
-use Prim.Native.Nat.{ℕ, _+_, _*_, _-_, _/_, _%_, _<_, _≤_}
-use native.Mathlib.Nat.{mod-lt, mod-eq-of-lt, div-eq-of-lt, div-add-mod', zero-div, mul-comm, mul-le-mul}
-use native.Mathlib.Omega.{arith}
-use lib.Arith.{digits-div, digits-mod, digits-lt}
-use lib.ListN.{length, getD}
-use Rattle.lists.proofs.Decide.{decided, eq-or-ne, lt-or-ge}
+use Rattle.lists.proofs.Kit.{_≡_, refl, sym, ap, ap₂, _∙_, true, false, List, [], _∷_, ⊎-elim, ℕ, _+_, _*_, _-_, _/_, _%_, _<_, _≤_, mod-lt, mod-eq-of-lt, div-eq-of-lt, div-add-mod', zero-div, mul-comm, mul-le-mul, arith, digits-div, digits-mod, digits-lt, length, getD, decided, eq-or-ne, lt-or-ge}
 use Rattle.layout.specs.Layout.{Within, at, pick, volume}
 use Rattle.layout.specs.Layout.Within.{none, more}
 use Rattle.orbits.specs.Cycles.{takes}

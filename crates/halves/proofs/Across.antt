@@ -1,14 +1,7 @@
 -- The exchange across the diagonal in tiles. A tile is read row by row into an array and stored from it column by column; two tiles that mirror
 -- each other have so traded places, turned, and a tile on the diagonal is turned where it lies. Tile by tile the columns grow that stand exchanged, and
 -- band by band the rows. Rows a and c lie apart where a < c: (a + 1)·n ≤ c·n.
-use mathlib.Core.Path.{_≡_, refl, ap, _∙_}
-use mathlib.Core.List.{List}
-use mathlib.Core.Logic.{⊎-elim}
-use Prim.Native.Nat.{ℕ, _+_, _*_, _-_, _≤_, _<_}
-use native.Mathlib.Omega.{arith}
-use native.Mathlib.Nat.{add-mul, one-mul, mul-le-mul-right, le-mul-of-pos-right, eq-zero-or-pos}
-use lib.ListN.{length, getD}
-use Rattle.lists.proofs.Decide.{lt-or-ge}
+use Rattle.lists.proofs.Kit.{_≡_, refl, ap, _∙_, List, ⊎-elim, ℕ, _+_, _*_, _-_, _≤_, _<_, arith, add-mul, one-mul, mul-le-mul-right, le-mul-of-pos-right, eq-zero-or-pos, length, getD, lt-or-ge}
 use Rattle.flat.specs.Turn.{Turn}
 use Rattle.moves.specs.Stretch.{Stretch}
 use Rattle.halves.specs.PrivateTiles.{Tile, Lifted, Stored, Across}

@@ -1,15 +1,7 @@
 -- Blocks of chunks turned one after the other. A part of the words that comes back turned is a block turned where it lies; after e blocks those
 -- before e are turned and the others stand; all of them turned are the layout that exchanges the two axes in the middle.
-use mathlib.Core.Path.{_≡_, refl, sym, ap, _∙_}
-use mathlib.Core.List.{List, [], _∷_}
-use mathlib.Core.Logic.{_⊎_, inl, inr, ⊎-elim}
-use Prim.Native.Nat.{ℕ, _+_, _*_, _-_, _<_, _≤_}
-use native.Mathlib.Nat.{mul-comm, mul-le-mul-right, add-mul, one-mul}
-use native.Mathlib.Omega.{arith}
-use lib.Arith.{digits-lt}
-use lib.ListN.{length, getD}
+use Rattle.lists.proofs.Kit.{_≡_, refl, sym, ap, _∙_, List, [], _∷_, _⊎_, inl, inr, ⊎-elim, ℕ, _+_, _*_, _-_, _<_, _≤_, mul-comm, mul-le-mul-right, add-mul, one-mul, arith, digits-lt, length, getD, eq-or-ne}
 use borrow.Rule.Slice.PartMut.{midOf, putMid, mid-len, same-len-mid}
-use Rattle.lists.proofs.Decide.{eq-or-ne}
 use Rattle.layout.specs.Layout.{volume, Within, at, pick, Laid}
 use Rattle.layout.specs.Layout.Within.{none, more}
 use Rattle.refusals.specs.Calls.{swapBlock}

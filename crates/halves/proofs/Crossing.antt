@@ -1,12 +1,6 @@
 -- Two words that mirror each other exchanged: they trade places across the diagonal, and every other word stands, since words of other rows or other
 -- columns stand at other offsets.
-use mathlib.Core.Path.{_≡_, refl, sym, ap, _∙_}
-use mathlib.Core.List.{List}
-use Prim.Native.Nat.{ℕ, _+_, _*_, _/_, _%_, _<_}
-use native.Mathlib.Omega.{arith}
-use lib.ListN.{length, getD, set, length-set}
-use lib.Seq.{getD-set-same, getD-set-other}
-use lib.Arith.{digits-lt, digits-div, digits-mod}
+use Rattle.lists.proofs.Kit.{_≡_, refl, sym, ap, _∙_, List, ℕ, _+_, _*_, _/_, _%_, _<_, arith, length, getD, set, length-set, getD-set-same, getD-set-other, digits-lt, digits-div, digits-mod}
 use Rattle.halves.specs.PrivateTiles.{Across}
 
 -- xs with the words at x and at y exchanged

@@ -1,12 +1,6 @@
 -- A block cut in two, each part a block that is lent and comes back turned: what each call asks, that the words fall, and the whole
 -- once both parts are back. Stated over the place of the cut and the sides of the two parts, for rows and for columns.
-use mathlib.Core.Path.{_≡_, refl, sym, ap, _∙_, subst}
-use mathlib.Core.List.{List, _++_}
-use Prim.Native.Nat.{ℕ, _+_, _-_, _*_, _/_, _≤_, _<_}
-use native.Mathlib.Omega.{arith}
-use native.Mathlib.Nat.{add-mul, mul-add, mul-pos, mul-le-mul-left, mul-le-mul-right}
-use lib.ListN.{length, take, drop, length-append}
-use lib.Seq.{length-take-le}
+use Rattle.lists.proofs.Kit.{_≡_, refl, sym, ap, _∙_, subst, List, _++_, ℕ, _+_, _-_, _*_, _/_, _≤_, _<_, arith, add-mul, mul-add, mul-pos, mul-le-mul-left, mul-le-mul-right, length, take, drop, length-append, length-take-le}
 use borrow.Rule.Slice.PartMut.{midOf, putMid}
 use Rattle.flat.specs.Turn.{Turn}
 use Rattle.halves.specs.Private.{Block}

@@ -1,12 +1,6 @@
 -- A list in four parts, of which the middle two change places: what is lent, and the whole once it is back.
 -- And n runs of p words and n of q words, halved, in such parts.
-use mathlib.Core.Path.{_≡_, sym, ap, _∙_}
-use mathlib.Core.List.{List, _++_, append-assoc}
-use Prim.Native.Nat.{ℕ, _+_, _-_, _*_, _/_, _≤_, _<_}
-use native.Mathlib.Omega.{arith}
-use native.Mathlib.Nat.{add-mul, mul-add, mul-comm, le-mul-of-pos-right}
-use lib.ListN.{length, take, drop, length-append, length-drop, take-append-drop}
-use lib.Seq.{length-take-le, take-at, drop-at}
+use Rattle.lists.proofs.Kit.{_≡_, sym, ap, _∙_, List, _++_, append-assoc, ℕ, _+_, _-_, _*_, _/_, _≤_, _<_, arith, add-mul, mul-add, mul-comm, le-mul-of-pos-right, length, take, drop, length-append, length-drop, take-append-drop, length-take-le, take-at, drop-at}
 use borrow.Rule.Slice.PartMut.{midOf, putMid}
 use Rattle.halves.specs.Private.{rotated}
 use Rattle.halves.proofs.Rotations.{rotated-parts}

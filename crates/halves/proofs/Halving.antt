@@ -1,11 +1,6 @@
 -- One level of merge and of split: what the stretch, the two halves and the whole are at each step, and that the whole is
 -- merged, or split, once both halves are. The slice is read as four parts, the runs of p words and of q words, halved.
-use mathlib.Core.Path.{_≡_, refl, sym, ap, _∙_, subst}
-use mathlib.Core.List.{List, _++_, append-assoc}
-use Prim.Native.Nat.{ℕ, _+_, _-_, _*_, _/_, _≤_, _<_}
-use native.Mathlib.Omega.{arith}
-use lib.ListN.{length, take, drop, length-append, length-drop, take-append-drop}
-use lib.Seq.{length-take-le, take-at, drop-at}
+use Rattle.lists.proofs.Kit.{_≡_, refl, sym, ap, _∙_, subst, List, _++_, append-assoc, ℕ, _+_, _-_, _*_, _/_, _≤_, _<_, arith, length, take, drop, length-append, length-drop, take-append-drop, length-take-le, take-at, drop-at}
 use borrow.Rule.Slice.PartMut.{midOf, putMid, mid-len}
 use Rattle.halves.specs.Private.{rotated, Runs}
 use Rattle.halves.specs.Merge.{Merged}

@@ -1,7 +1,5 @@
 -- A buffer that passes the checks is a block, and the outcomes that the promise allows.
-use mathlib.Core.Path.{_≡_, refl, sym, _∙_}
-use mathlib.Core.List.{List, []}
-use Prim.Native.Nat.{ℕ, _<_}
+use Rattle.lists.proofs.Kit.{_≡_, refl, sym, _∙_, List, [], ℕ, _<_}
 use Rattle.refusals.specs.FirstOf.{firstOf}
 use Rattle.refusals.specs.Calls.{recursionChecks}
 use Rattle.refusals.proofs.Conditions.{InRange, valid}

@@ -1,15 +1,6 @@
 -- Merge by halves: where the first h runs of each kind and the last g runs of each kind are merged by themselves, all are.
 -- Each offset lies in one of the two halves and is read there.
-use mathlib.Core.Path.{_≡_, refl, sym, ap, _∙_, subst}
-use mathlib.Core.List.{List, _++_}
-use mathlib.Core.Logic.{⊎-elim}
-use Prim.Native.Nat.{ℕ, _+_, _-_, _*_, _≤_, _<_}
-use native.Mathlib.Omega.{arith}
-use native.Mathlib.Nat.{add-mul, mul-add, one-mul, zero-mul}
-use lib.ListN.{length, getD, List·getD-append, length-append}
-use lib.Seq.{getD-append-add}
-use lib.Arith.{digits-lt}
-use Rattle.lists.proofs.Decide.{lt-or-ge}
+use Rattle.lists.proofs.Kit.{_≡_, refl, sym, ap, _∙_, subst, List, _++_, ⊎-elim, ℕ, _+_, _-_, _*_, _≤_, _<_, arith, add-mul, mul-add, one-mul, zero-mul, length, getD, List·getD-append, length-append, getD-append-add, digits-lt, lt-or-ge}
 use Rattle.halves.specs.Merge.{Merged}
 
 -- what stands in the first part and in the second part of a list

@@ -1,10 +1,6 @@
 -- Any two outcomes that the promise allows from the same entry coincide, number and buffer: the number is a function of the entry,
 -- two turns of one block are equal, and a refused buffer is the entry.
-use mathlib.Core.Path.{_≡_, sym, _∙_}
-use mathlib.Core.List.{List}
-use mathlib.Core.Logic.{⊎-elim}
-use Prim.Native.Nat.{ℕ}
-use Rattle.lists.proofs.Decide.{eq-or-ne}
+use Rattle.lists.proofs.Kit.{_≡_, sym, _∙_, List, ⊎-elim, ℕ, eq-or-ne}
 use Rattle.flat.proofs.Turn.{one-turn}
 use Rattle.halves.specs.Promise.{TurnPromise}
 

@@ -1,11 +1,5 @@
 -- A slice that is lent in parts: what is lent as a part, and the whole once that part is back.
-use mathlib.Core.Path.{_≡_, refl, ap, _∙_}
-use mathlib.Core.List.{List, _++_, append-nil}
-use Prim.Native.Nat.{ℕ, _-_, _+_, _<_, _≤_}
-use native.Mathlib.Omega.{arith}
-use native.Mathlib.Nat.{le-refl}
-use lib.ListN.{length, getD, take, drop, length-append, length-drop, drop-of-length-le}
-use lib.Seq.{length-take-le, take-all, take-at, drop-at, take-append-add, drop-append-add, getD-take, getD-drop}
+use Rattle.lists.proofs.Kit.{_≡_, refl, ap, _∙_, List, _++_, append-nil, ℕ, _-_, _+_, _<_, _≤_, arith, le-refl, length, getD, take, drop, length-append, length-drop, drop-of-length-le, length-take-le, take-all, take-at, drop-at, take-append-add, drop-append-add, getD-take, getD-drop}
 use borrow.Rule.Slice.PartMut.{midOf, putMid, postOf}
 use Rattle.halves.proofs.Merges.{in-front, behind}
 

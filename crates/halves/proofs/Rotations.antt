@@ -1,11 +1,6 @@
 -- Rotation by exchanges: once the shorter side is exchanged with as many words of the longer one, the first words stand
 -- as rotation wants them and the rest is to be rotated. The list is taken apart into its stretches.
-use mathlib.Core.Path.{_≡_, sym, ap, ap₂, _∙_}
-use mathlib.Core.List.{List, [], _++_, append-assoc, append-nil}
-use Prim.Native.Nat.{ℕ, _+_, _-_, _≤_}
-use native.Mathlib.Omega.{arith}
-use lib.ListN.{length, take, drop, length-drop, take-append-drop, drop-of-length-le}
-use lib.Seq.{length-take-le, take-at, drop-at, take-take, drop-drop, take-all}
+use Rattle.lists.proofs.Kit.{_≡_, sym, ap, ap₂, _∙_, List, [], _++_, append-assoc, append-nil, ℕ, _+_, _-_, _≤_, arith, length, take, drop, length-drop, take-append-drop, drop-of-length-le, length-take-le, take-at, drop-at, take-take, drop-drop, take-all}
 use Rattle.halves.specs.Private.{traded, rotated}
 use borrow.Rule.Slice.PartMut.{midOf, putMid}
 use Rattle.halves.proofs.Parts.{rest-lent, rest-back, take-past, drop-past}

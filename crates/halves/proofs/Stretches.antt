@@ -1,13 +1,6 @@
 -- One exchange more: two equal stretches of i words that stand exchanged, and their next words exchanged too.
 -- The list is taken apart at the two words.
-use mathlib.Core.Path.{_≡_, sym, ap, _∙_}
-use mathlib.Core.List.{List, _∷_, _++_, append-assoc}
-use Prim.Native.Nat.{ℕ, suc, _+_, _-_, _<_}
-use native.Mathlib.Numerals.{add-one}
-use native.Mathlib.Omega.{arith}
-use native.Mathlib.Nat.{add-suc, add-zero}
-use lib.ListN.{length, take, drop, getD, set, length-append, length-drop, take-append-drop}
-use lib.Seq.{length-take-le, take-suc, drop-cons, getD-take, getD-drop, getD-at, set-at}
+use Rattle.lists.proofs.Kit.{_≡_, sym, ap, _∙_, List, _∷_, _++_, append-assoc, ℕ, suc, _+_, _-_, _<_, add-one, arith, add-suc, add-zero, length, take, drop, getD, set, length-append, length-drop, take-append-drop, length-take-le, take-suc, drop-cons, getD-take, getD-drop, getD-at, set-at}
 use Rattle.halves.specs.Private.{traded}
 
 -- two words of a list exchanged, the list being written around them

@@ -1,15 +1,6 @@
 -- A tall block whose parts are turned and then merged is turned, and so is a wide one that is split and whose parts are turned.
 -- Each offset lies in one of the two parts and is read there, in document 01's own words.
-use mathlib.Core.Path.{_≡_, sym, ap, _∙_, subst}
-use mathlib.Core.List.{List, _++_}
-use mathlib.Core.Logic.{⊎-elim}
-use Prim.Native.Nat.{ℕ, _+_, _-_, _*_, _/_, _≤_, _<_}
-use native.Mathlib.Omega.{arith}
-use native.Mathlib.Nat.{mul-add, add-mul, mul-comm}
-use lib.ListN.{length, getD, take, drop, length-append, length-drop, List·getD-eq-default}
-use lib.Seq.{length-take-le, getD-take, getD-drop}
-use lib.Arith.{digits-lt}
-use Rattle.lists.proofs.Decide.{lt-or-ge}
+use Rattle.lists.proofs.Kit.{_≡_, sym, ap, _∙_, subst, List, _++_, ⊎-elim, ℕ, _+_, _-_, _*_, _/_, _≤_, _<_, arith, mul-add, add-mul, mul-comm, length, getD, take, drop, length-append, length-drop, List·getD-eq-default, length-take-le, getD-take, getD-drop, digits-lt, lt-or-ge}
 use Rattle.flat.specs.Turn.{Turn}
 use Rattle.flat.proofs.Turn.{literally, from-literal}
 use Rattle.halves.specs.Merge.{Merged}

@@ -1,14 +1,6 @@
 -- Split undoes merge, and merge undoes split: every offset of the merged words, and every offset of the split ones, is one of those
 -- that the relation names, so what it relates to one list is one list.
-use mathlib.Core.Path.{_≡_, sym, _∙_, subst}
-use mathlib.Core.List.{List}
-use mathlib.Core.Logic.{⊎-elim}
-use Prim.Native.Nat.{ℕ, _+_, _-_, _*_, _/_, _%_, _≤_, _<_}
-use native.Mathlib.Omega.{arith}
-use native.Mathlib.Nat.{mod-lt, div-add-mod', div-lt-iff-lt-mul, mul-zero, mul-add, eq-zero-or-pos, not-suc-le-zero}
-use lib.ListN.{length, getD}
-use lib.Seq.{ext-getD}
-use Rattle.lists.proofs.Decide.{lt-or-ge}
+use Rattle.lists.proofs.Kit.{_≡_, sym, _∙_, subst, List, ⊎-elim, ℕ, _+_, _-_, _*_, _/_, _%_, _≤_, _<_, arith, mod-lt, div-add-mod', div-lt-iff-lt-mul, mul-zero, mul-add, eq-zero-or-pos, not-suc-le-zero, length, getD, ext-getD, lt-or-ge}
 use Rattle.halves.specs.Merge.{Merged}
 use Rattle.halves.specs.Private.{Runs}
 

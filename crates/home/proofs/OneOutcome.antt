@@ -1,10 +1,6 @@
 -- What the count means: the fewest repeats, at least one, that bring every block of that shape back, and the same for n by m as for m by n.
 -- Any two outcomes that the promise allows coincide, because a least power is one.
-use mathlib.Core.Path.{_≡_, sym, ap₂, _∙_, subst}
-use mathlib.Core.Logic.{_↔_, ⊎-elim}
-use Prim.Native.Nat.{ℕ, _*_, _<_, _≤_}
-use native.Mathlib.Nat.{mul-comm}
-use Rattle.lists.proofs.Decide.{lt-or-ge, eq-or-ne}
+use Rattle.lists.proofs.Kit.{_≡_, sym, ap₂, _∙_, subst, _↔_, ⊎-elim, ℕ, _*_, _<_, _≤_, mul-comm, lt-or-ge, eq-or-ne}
 use Rattle.refusals.specs.FirstOf.{firstOf}
 use Rattle.refusals.specs.Calls.{sizeChecks}
 use Rattle.refusals.proofs.Conditions.{sized-two}

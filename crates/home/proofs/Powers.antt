@@ -1,9 +1,5 @@
 -- The loop over the powers of m modulo mn − 1: it holds the power of its count and has not passed the first that leaves 1, so it ends there.
-use mathlib.Core.Path.{_≡_, sym, ap, _∙_}
-use Prim.Native.Nat.{ℕ, _+_, _*_, _-_, _%_, _^_, _<_, _≤_}
-use native.Mathlib.Nat.{mod-eq-of-lt, pow-suc, one-mul, pow-zero, mod-lt}
-use native.Mathlib.Numerals.{add-one}
-use native.Mathlib.Omega.{arith}
+use Rattle.lists.proofs.Kit.{_≡_, sym, ap, _∙_, ℕ, _+_, _*_, _-_, _%_, _^_, _<_, _≤_, mod-eq-of-lt, pow-suc, one-mul, pow-zero, mod-lt, add-one, arith}
 use Rattle.orbits.specs.Orbit.{period}
 use Rattle.orbits.specs.Sent.{goes}
 use Rattle.orbits.specs.Turns.{Order}

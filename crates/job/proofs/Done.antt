@@ -2,14 +2,7 @@
 -- the block has at most 1,024 words, no chain needs more than its longest axis, no axis is longer than that, and 16,384 bytes suffice for
 -- its result sheet; the chain is lent the block's part of the buffer, and what it makes of it is the computed layout, since two layouts
 -- of one order are equal.
-use mathlib.Core.Path.{_≡_, refl, sym, ap, _∙_}
-use mathlib.Core.Bool.{false}
-use mathlib.Core.List.{List, [], _∷_, _++_}
-use Prim.Native.Nat.{ℕ, _≤_}
-use native.Mathlib.Omega.{arith}
-use lib.ListN.{length, take, drop, length-append, length-drop, take-append-drop}
-use lib.Seq.{take-at, drop-at}
-use borrow.Author.Tests.{le-ltb}
+use Rattle.lists.proofs.Kit.{_≡_, refl, sym, ap, _∙_, false, List, [], _∷_, _++_, ℕ, _≤_, arith, length, take, drop, length-append, length-drop, take-append-drop, take-at, drop-at, le-ltb}
 use Rattle.layout.specs.Layout.{volume, pick, Laid, laid}
 use Rattle.layout.proofs.Picks.{length-pick}
 use Rattle.orders.specs.Chains.{named}

@@ -1,8 +1,5 @@
 -- Any two outcomes that the promise of the job allows coincide: number, place, count, words, scratch and bytes. From the equations that the promise is.
-use mathlib.Core.Path.{_≡_, sym, ap, _∙_}
-use mathlib.Core.List.{List, _++_}
-use Prim.Native.Nat.{ℕ}
-use lib.ListN.{drop}
+use Rattle.lists.proofs.Kit.{_≡_, sym, ap, _∙_, List, _++_, ℕ, drop}
 use Rattle.text.specs.Meaning.{meaning}
 use Rattle.job.specs.Job.{jobText, Done}
 

@@ -1,13 +1,6 @@
 -- A chain on four axes that is lent the block's part of the words: of the five lengths of its shape the first four are read; what comes back is as long as what was lent, so that the part and what is past it can
 -- be told apart afterwards.
-use mathlib.Core.Path.{_≡_, refl, sym, ap, _∙_, subst₂}
-use mathlib.Core.List.{List, [], _∷_, _++_}
-use mathlib.Core.Logic.{⊎-elim}
-use Prim.Native.Nat.{ℕ, _≤_}
-use native.Mathlib.Omega.{arith}
-use lib.ListN.{length, getD, take, drop}
-use lib.Seq.{take-at, drop-at, take-all, length-take-le}
-use Rattle.lists.proofs.Decide.{eq-or-ne}
+use Rattle.lists.proofs.Kit.{_≡_, refl, sym, ap, _∙_, subst₂, List, [], _∷_, _++_, ⊎-elim, ℕ, _≤_, arith, length, getD, take, drop, take-at, drop-at, take-all, length-take-le, eq-or-ne}
 use Rattle.layout.specs.Layout.{volume}
 use Rattle.checks.specs.Words.{capped}
 use Rattle.checks.proofs.Capped.{capped-few}

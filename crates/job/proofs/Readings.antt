@@ -1,11 +1,6 @@
 -- What the reader's answer says of the sheet's meaning: a number that is not 0 is the refusal itself, within bounds; 0 says that the
 -- sheet is right, with the answered lengths and the first swaps. By cases on the meaning.
-use mathlib.Core.Path.{_≡_, refl, sym, ap, ap₂, _∙_}
-use mathlib.Core.List.{List}
-use Prim.Native.Nat.{ℕ, _-_, _≤_}
-use native.Mathlib.Omega.{arith}
-use lib.ListN.{length, take, replicate, length-append}
-use lib.Seq.{take-at}
+use Rattle.lists.proofs.Kit.{_≡_, refl, sym, ap, ap₂, _∙_, List, ℕ, _-_, _≤_, arith, length, take, replicate, length-append, take-at}
 use Rattle.text.specs.Meaning.{Outcome, meaning}
 use Rattle.text.specs.Right.{Right}
 use Rattle.text.proofs.SecondLines.{accepted-exactly}

@@ -1,10 +1,5 @@
 -- No axis of a block is longer than the block has words. By induction on the lengths, each at least 1.
-use mathlib.Core.Path.{_≡_}
-use mathlib.Core.Bool.{false}
-use mathlib.Core.List.{List}
-use Prim.Native.Nat.{ℕ, _≤_}
-use native.Mathlib.Nat.{one-le-mul, mul-le-mul-left, mul-le-mul-right}
-use native.Mathlib.Omega.{arith}
+use Rattle.lists.proofs.Kit.{_≡_, false, List, ℕ, _≤_, one-le-mul, mul-le-mul-left, mul-le-mul-right, arith}
 use Rattle.layout.specs.Layout.{volume}
 use Rattle.refusals.specs.Conditions.{badLength, longest}
 use Rattle.refusals.proofs.Conditions.{InRange, in-range}

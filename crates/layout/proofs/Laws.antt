@@ -1,14 +1,6 @@
 -- The laws of a layout, once over the number of axes: layouts compose, an order that is undone brings every word home,
 -- two outcomes of one layout are equal, the computed layout is one, and where the block fills the buffer a layout is an equation.
-use mathlib.Core.Path.{_≡_, sym, ap, _∙_, subst}
-use mathlib.Core.List.{List}
-use mathlib.Core.Logic.{_↔_, ⊎-elim}
-use Prim.Native.Nat.{ℕ, _<_, _≤_}
-use native.Mathlib.Nat.{le-of-eq}
-use Rattle.lists.proofs.Decide.{lt-or-ge}
-use lib.ListN.{length, getD}
-use lib.Seq.{ext-getD}
-use Rattle.lists.proofs.Tab.{overlaid-front, overlaid-rest, overlaid-length}
+use Rattle.lists.proofs.Kit.{_≡_, sym, ap, _∙_, subst, List, _↔_, ⊎-elim, ℕ, _<_, _≤_, le-of-eq, lt-or-ge, length, getD, ext-getD, overlaid-front, overlaid-rest, overlaid-length}
 use Rattle.layout.specs.Layout.{volume, Within, at, pick, Laid, coords, places, laid, Below, Undone}
 use Rattle.layout.proofs.Offsets.{within-length, at-lt, within-coords, at-coords, coords-at}
 use Rattle.layout.proofs.Picks.{length-pick, pick-pick, within-pick, undone, places-undo}

@@ -1,11 +1,5 @@
 -- Offsets and coordinates correspond one to one below the volume. By induction on the lengths, each axis being one digit.
-use mathlib.Core.Path.{_≡_, refl, sym, ap, ap₂, _∙_}
-use mathlib.Core.List.{List, [], _∷_}
-use Prim.Native.Nat.{ℕ, suc, _+_, _*_, _/_, _%_, _<_, zero-le, suc-le-suc}
-use native.Mathlib.Nat.{mod-lt, div-add-mod', div-lt-iff-lt-mul, mul-zero, eq-zero-or-pos, not-suc-le-zero}
-use mathlib.Core.Logic.{⊎-elim}
-use lib.ListN.{length}
-use lib.Arith.{digits-div, digits-mod, digits-lt, lt-one}
+use Rattle.lists.proofs.Kit.{_≡_, refl, sym, ap, ap₂, _∙_, List, [], _∷_, ℕ, suc, _+_, _*_, _/_, _%_, _<_, zero-le, suc-le-suc, mod-lt, div-add-mod', div-lt-iff-lt-mul, mul-zero, eq-zero-or-pos, not-suc-le-zero, ⊎-elim, length, digits-div, digits-mod, digits-lt, lt-one}
 use Rattle.layout.specs.Layout.{volume, Within, at, coords}
 use Rattle.layout.specs.Layout.Within.{none, more}
 

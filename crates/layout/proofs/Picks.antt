@@ -1,16 +1,5 @@
 -- What stands at each place, taken twice: orders compose, and an order that another undoes brings every list home.
-use mathlib.Core.Path.{_≡_, refl, sym, ap, ap₂, _∙_, subst}
-use mathlib.Core.Bool.{Bool, true, false, cond}
-use mathlib.Core.List.{List, [], _∷_, map}
-use Prim.Native.Nat.{ℕ, zero, suc, _<_, zero-le, suc-le-suc}
-use native.Mathlib.Omega.{arith}
-use native.Mathlib.Nat.{not-suc-le-zero, le-of-suc-le-suc}
-use lib.Dec.{eqb}
-use lib.ListN.{length, getD, length-map}
-use lib.Seq.{ext-getD}
-use borrow.Author.Tests.{eqb-true, eqb-false}
-use Rattle.lists.specs.Tab.{tab, upto}
-use Rattle.lists.proofs.Tab.{length-tab, getD-tab, map-tab, tab-getD}
+use Rattle.lists.proofs.Kit.{_≡_, refl, sym, ap, ap₂, _∙_, subst, Bool, true, false, cond, List, [], _∷_, map, ℕ, zero, suc, _<_, zero-le, suc-le-suc, arith, not-suc-le-zero, le-of-suc-le-suc, eqb, length, getD, length-map, ext-getD, eqb-true, eqb-false, tab, upto, length-tab, getD-tab, map-tab, tab-getD}
 use Rattle.layout.specs.Layout.{Within, pick, placeOf, places, Below, Undone}
 use Rattle.layout.specs.Layout.Within.{none, more}
 use Rattle.layout.specs.Layout.Below.{empty, next}

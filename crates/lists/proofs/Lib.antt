@@ -10,3 +10,5 @@ pub mod Via
 pub mod Front
 -- a list filled from its front with the words of another
 pub mod Copied
+-- what proofs of every crate use, passed on by one module
+pub mod Kit

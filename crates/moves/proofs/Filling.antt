@@ -1,12 +1,5 @@
 -- A stretch of the buffer filled word by word or piece by piece, from the front or from the back: what is filled holds its values, the rest stands.
-use mathlib.Core.Path.{_≡_, refl, sym, ap, _∙_}
-use mathlib.Core.List.{List}
-use mathlib.Core.Logic.{⊎-elim}
-use Prim.Native.Nat.{ℕ, _+_, _-_, _<_, _≤_}
-use native.Mathlib.Omega.{arith}
-use lib.ListN.{length, getD, set, length-set}
-use lib.Seq.{getD-set-same, getD-set-other}
-use Rattle.lists.proofs.Decide.{eq-or-ne, lt-or-ge}
+use Rattle.lists.proofs.Kit.{_≡_, refl, sym, ap, _∙_, List, ⊎-elim, ℕ, _+_, _-_, _<_, _≤_, arith, length, getD, set, length-set, getD-set-same, getD-set-other, eq-or-ne, lt-or-ge}
 use Rattle.moves.specs.Stretch.{Stretch}
 use Rattle.moves.specs.Promises.{Ahead}
 

@@ -1,9 +1,5 @@
 -- A call that makes its move where the runs lie inside, and one that changes nothing where they do not.
-use mathlib.Core.Path.{refl}
-use mathlib.Core.List.{List}
-use mathlib.Core.Logic.{inl, inr, ⊎-elim}
-use Prim.Native.Nat.{ℕ}
-use native.Mathlib.Omega.{arith}
+use Rattle.lists.proofs.Kit.{refl, List, inl, inr, ⊎-elim, ℕ, arith}
 use Rattle.moves.specs.Promises.{Where, Ahead, Apart}
 
 module _ {Fits : Type 0} {Right : List ℕ → Type 0} {before after : List ℕ} where

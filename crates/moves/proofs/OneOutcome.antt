@@ -1,11 +1,5 @@
 -- Any two outcomes that a move of words allows coincide: that the runs lie inside is decided one way or the other, and either way every word is told.
-use mathlib.Core.Path.{_≡_, sym, _∙_}
-use mathlib.Core.List.{List}
-use mathlib.Core.Logic.{_⊎_, inl, inr, ⊎-elim}
-use Prim.Native.Nat.{ℕ, _+_, _-_, _<_, _≤_}
-use native.Mathlib.Omega.{arith}
-use lib.Seq.{ext-getD}
-use Rattle.lists.proofs.Decide.{lt-or-ge}
+use Rattle.lists.proofs.Kit.{_≡_, sym, _∙_, List, _⊎_, inl, inr, ⊎-elim, ℕ, _+_, _-_, _<_, _≤_, arith, ext-getD, lt-or-ge}
 use Rattle.moves.specs.Stretch.{Stretch, Outside, Traded}
 use Rattle.moves.specs.Promises.{Where, CopyPromise, FallPromise, HandPromise, RisePromise, ZeroPromise, TradePromise}
 use Rattle.moves.proofs.Filling.{at}

@@ -1,12 +1,5 @@
 -- Two runs that lie apart trade places word by word: those passed have traded, the others stand.
-use mathlib.Core.Path.{_≡_, refl, sym, subst, _∙_}
-use mathlib.Core.List.{List}
-use mathlib.Core.Logic.{inl, inr, ⊎-elim}
-use Prim.Native.Nat.{ℕ, _+_, _<_, _≤_}
-use native.Mathlib.Omega.{arith}
-use lib.ListN.{length, getD, set, length-set}
-use lib.Seq.{getD-set-same, getD-set-other}
-use Rattle.lists.proofs.Decide.{eq-or-ne}
+use Rattle.lists.proofs.Kit.{_≡_, refl, sym, subst, _∙_, List, inl, inr, ⊎-elim, ℕ, _+_, _<_, _≤_, arith, length, getD, set, length-set, getD-set-same, getD-set-other, eq-or-ne}
 use Rattle.moves.specs.Stretch.{Traded}
 use Rattle.moves.specs.Promises.{Apart}
 use Rattle.moves.proofs.Filling.{at}

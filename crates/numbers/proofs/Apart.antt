@@ -1,11 +1,6 @@
 -- Numbers that a line is sent to are different. Sides b * c and a * c, where a and b share no factor: if two numbers below
 -- b * c, times a * c and shifted, leave the same remainder by b * c, and the shift goes by groups of b, the two are equal.
-use mathlib.Core.Path.{_≡_, sym, ap, ap₂, _∙_, subst}
-use mathlib.Core.Logic.{⊎-elim}
-use Prim.Native.Nat.{ℕ, _+_, _*_, _-_, _/_, _%_, _<_, _≤_, _∣_}
-use native.Mathlib.Omega.{arith}
-use native.Mathlib.Nat.{mod-lt, div-add-mod', mul-assoc, mul-comm, mul-add-mod-self-right, mod-mod-of-dvd, dvd-mul-left, dvd-mul-right, mul-sub, dvd-of-mul-dvd-mul-right, mod-eq-of-lt, mod-eq-zero-of-dvd, mul-le-mul-right}
-use Rattle.lists.proofs.Decide.{lt-or-ge}
+use Rattle.lists.proofs.Kit.{_≡_, sym, ap, ap₂, _∙_, subst, ⊎-elim, ℕ, _+_, _*_, _-_, _/_, _%_, _<_, _≤_, _∣_, arith, mod-lt, div-add-mod', mul-assoc, mul-comm, mul-add-mod-self-right, mod-mod-of-dvd, dvd-mul-left, dvd-mul-right, mul-sub, dvd-of-mul-dvd-mul-right, mod-eq-of-lt, mod-eq-zero-of-dvd, mul-le-mul-right, lt-or-ge}
 use Rattle.numbers.specs.Gcd.{gcdOf}
 use Rattle.numbers.proofs.Gcd.{euclid's-lemma}
 

@@ -1,9 +1,6 @@
 -- Euclid's algorithm gives the greatest common divisor, and Euclid's lemma. One induction over its steps serves both:
 -- what divides m * x and n * x divides their greatest common divisor times x.
-use mathlib.Core.Path.{_≡_, refl, sym, ap, _∙_, subst}
-use Prim.Native.Nat.{ℕ, zero, suc, _+_, _*_, _-_, _/_, _%_, _<_, _≤_, _∣_, zero-le, suc-le-suc}
-use native.Mathlib.Omega.{arith}
-use native.Mathlib.Nat.{mod-lt, dvd-refl, dvd-zero, dvd-mod-iff, dvd-antisymm, dvd-sub, dvd-mul-right, dvd-mul-left-of-dvd, div-add-mod', mul-one, one-mul, mul-assoc, add-mul, add-sub-cancel-left, dvd-of-mul-dvd-mul-right, eq-one-of-dvd-one, mul-dvd-mul-right, not-suc-le-zero}
+use Rattle.lists.proofs.Kit.{_≡_, refl, sym, ap, _∙_, subst, ℕ, zero, suc, _+_, _*_, _-_, _/_, _%_, _<_, _≤_, _∣_, zero-le, suc-le-suc, arith, mod-lt, dvd-refl, dvd-zero, dvd-mod-iff, dvd-antisymm, dvd-sub, dvd-mul-right, dvd-mul-left-of-dvd, div-add-mod', mul-one, one-mul, mul-assoc, add-mul, add-sub-cancel-left, dvd-of-mul-dvd-mul-right, eq-one-of-dvd-one, mul-dvd-mul-right, not-suc-le-zero}
 use Rattle.numbers.specs.Gcd.{Gcd, euclid, gcdOf}
 
 -- a common divisor of two multiples of x, one step further

@@ -1,6 +1,5 @@
 -- The right lists of small blocks, computed.
-use mathlib.Core.Path.{_≡_, refl}
-use mathlib.Core.List.{[], _∷_}
+use Rattle.lists.proofs.Kit.{_≡_, refl, [], _∷_}
 use Rattle.orbits.specs.Orbit.{iter, first, period}
 use Rattle.orbits.specs.Sent.{goes}
 use Rattle.orbits.specs.Cycles.{takes, isLeast, cyclesFrom, cycles}

@@ -1,10 +1,6 @@
 -- The fewest repeats that bring every block back are the least positive power for which m leaves 1 modulo mn − 1; of a block of one word
 -- or two it is one; and n by m takes as many as m by n, because m·n leaves 1.
-use mathlib.Core.Path.{_≡_, sym, ap, _∙_}
-use mathlib.Core.Logic.{_↔_}
-use Prim.Native.Nat.{ℕ, zero, suc, _*_, _-_, _%_, _^_, _<_, _≤_}
-use native.Mathlib.Nat.{mul-comm, one-mul, pow-zero, pow-suc, add-mod-right}
-use native.Mathlib.Omega.{arith}
+use Rattle.lists.proofs.Kit.{_≡_, sym, ap, _∙_, _↔_, ℕ, zero, suc, _*_, _-_, _%_, _^_, _<_, _≤_, mul-comm, one-mul, pow-zero, pow-suc, add-mod-right, arith}
 use Rattle.orbits.specs.Turns.{LeavesOne, Order, Fewest}
 use Rattle.orbits.proofs.Goes.{mod-mul}
 use Rattle.orbits.proofs.Turns.{back-iff, small-leaves}

@@ -1,11 +1,5 @@
 -- What the first number that passes a test is. By induction on how far is looked.
-use mathlib.Core.Path.{_≡_, refl, sym, _∙_}
-use mathlib.Core.Bool.{Bool, true, false, cond}
-use mathlib.Core.Logic.{⊎-elim}
-use Prim.Native.Nat.{ℕ, zero, suc, _<_, _≤_, suc-le-suc}
-use native.Mathlib.Nat.{not-suc-le-zero, le-of-suc-le-suc}
-use native.Mathlib.Omega.{arith}
-use Rattle.lists.proofs.Decide.{lt-or-ge}
+use Rattle.lists.proofs.Kit.{_≡_, refl, sym, _∙_, Bool, true, false, cond, ⊎-elim, ℕ, zero, suc, _<_, _≤_, suc-le-suc, not-suc-le-zero, le-of-suc-le-suc, arith, lt-or-ge}
 use Rattle.orbits.specs.Orbit.{first}
 
 -- it is never past n

@@ -1,14 +1,6 @@
 -- The loop that follows a cycle of a one-to-one map from offset x: it stands at the offset of its count, every offset between was above x, and it has not
 -- passed the period; so it ends at x, or at the first offset below x.
-use mathlib.Core.Path.{_≡_, sym, ap, _∙_}
-use mathlib.Core.Bool.{true, false}
-use mathlib.Core.Logic.{⊎-elim}
-use Prim.Native.Nat.{ℕ, zero, suc, _+_, _-_, _<_, _≤_}
-use native.Mathlib.Numerals.{add-one}
-use native.Mathlib.Omega.{arith}
-use lib.Dec.{eqb}
-use borrow.Author.Tests.{eqb-true, eq-eqb}
-use Rattle.lists.proofs.Decide.{eq-or-ne}
+use Rattle.lists.proofs.Kit.{_≡_, sym, ap, _∙_, true, false, ⊎-elim, ℕ, zero, suc, _+_, _-_, _<_, _≤_, add-one, arith, eqb, eqb-true, eq-eqb, eq-or-ne}
 use Rattle.orbits.specs.Orbit.{iter, Permutes, first, period}
 use Rattle.orbits.specs.Cycles.{isLeast}
 use Rattle.orbits.proofs.First.{first-holds, first-le}

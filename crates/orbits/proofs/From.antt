@@ -1,11 +1,6 @@
 -- The right list from one number on: that number and its cycle's length, where it is the least of its cycle, and the right list from the
 -- next number on. From the definition of `cyclesFrom`.
-use mathlib.Core.Path.{_≡_, ap, _∙_}
-use mathlib.Core.Bool.{true, false}
-use mathlib.Core.List.{[], _∷_}
-use Prim.Native.Nat.{ℕ, suc, _+_, _-_, _<_, _≤_}
-use native.Mathlib.Numerals.{add-one}
-use native.Mathlib.Omega.{arith}
+use Rattle.lists.proofs.Kit.{_≡_, ap, _∙_, true, false, [], _∷_, ℕ, suc, _+_, _-_, _<_, _≤_, add-one, arith}
 use Rattle.orbits.specs.Orbit.{period}
 use Rattle.orbits.specs.Cycles.{isLeast, cyclesFrom}
 

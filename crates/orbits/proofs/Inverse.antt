@@ -1,12 +1,6 @@
 -- A quotient by multiplication: x / n is the whole part of x times a rounded inverse of n. The inverse is too large by less than 1 part in
 -- 2 to the 40, which x is too small to show.
-use mathlib.Core.Path.{_≡_, ap, _∙_}
-use mathlib.Core.Logic.{⊎-elim}
-use Prim.Native.Nat.{ℕ, _+_, _*_, _-_, _/_, _%_, _<_, _≤_}
-use native.Mathlib.Nat.{mod-lt, div-add-mod', mul-le-mul, mul-le-mul-right}
-use native.Mathlib.Omega.{arith}
-use lib.Arith.{digits-div}
-use Rattle.lists.proofs.Decide.{lt-or-ge}
+use Rattle.lists.proofs.Kit.{_≡_, ap, _∙_, ⊎-elim, ℕ, _+_, _*_, _-_, _/_, _%_, _<_, _≤_, mod-lt, div-add-mod', mul-le-mul, mul-le-mul-right, arith, digits-div, lt-or-ge}
 
 -- 2 to the 40
 abbrev pub scale : ℕ

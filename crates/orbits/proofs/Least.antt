@@ -1,12 +1,6 @@
 -- The least number of a cycle: the computed test says that no number of applications brings it to a smaller one. Only those below the
 -- period need a look, because past it the cycle repeats.
-use mathlib.Core.Path.{_≡_, ap, _∙_}
-use mathlib.Core.Bool.{Bool, true, false}
-use Prim.Native.Nat.{ℕ, _*_, _/_, _%_, _<_, _≤_}
-use native.Mathlib.Nat.{mod-lt, div-add-mod', dvd-mul-left}
-use native.Mathlib.Omega.{arith}
-use lib.Dec.{ltb}
-use borrow.Author.Tests.{ltb-true, ltb-false, lt-ltb, eqb-true, eq-eqb, ne-eqb}
+use Rattle.lists.proofs.Kit.{_≡_, ap, _∙_, Bool, true, false, ℕ, _*_, _/_, _%_, _<_, _≤_, mod-lt, div-add-mod', dvd-mul-left, arith, ltb, ltb-true, ltb-false, lt-ltb, eqb-true, eq-eqb, ne-eqb}
 use Rattle.orbits.specs.Orbit.{iter, Permutes, Period, first, period}
 use Rattle.orbits.specs.Cycles.{isLeast}
 use Rattle.orbits.proofs.First.{first-most, first-holds, first-least, first-le}

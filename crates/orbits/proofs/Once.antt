@@ -1,15 +1,6 @@
 -- Lists in which every number stands once: of two lists one behind the other, and that a list which has each number below N once, and no
 -- other, has N entries, by the law of pigeons both ways.
-use mathlib.Core.Path.{_≡_, sym, ap, _∙_}
-use mathlib.Core.List.{List, _++_}
-use mathlib.Core.Logic.{_⊎_, inl, inr, ⊎-elim}
-use Prim.Native.Nat.{ℕ, _+_, _-_, _<_, _≤_}
-use native.Mathlib.Omega.{arith}
-use lib.Dec.{eqb}
-use lib.ListN.{length, getD, List·getD-append, length-append}
-use lib.Seq.{getD-append-add}
-use borrow.Author.Tests.{eqb-true, eq-eqb}
-use Rattle.lists.proofs.Decide.{lt-or-ge}
+use Rattle.lists.proofs.Kit.{_≡_, sym, ap, _∙_, List, _++_, _⊎_, inl, inr, ⊎-elim, ℕ, _+_, _-_, _<_, _≤_, arith, eqb, length, getD, List·getD-append, length-append, getD-append-add, eqb-true, eq-eqb, lt-or-ge}
 use Rattle.orbits.specs.Orbit.{first}
 use Rattle.orbits.proofs.First.{first-holds, first-le}
 use Rattle.orbits.proofs.Pigeons.{Twice, pigeons}

@@ -1,19 +1,6 @@
 -- Two flat lists of pairs compared from the front: what a loop over the pairs carries. Both are left with what follows the pairs that
 -- agreed; whether the two lists are equal, and which pair is the first that differs, is what is left says.
-use mathlib.Core.Path.{_≡_, refl, sym, ap, _∙_}
-use mathlib.Core.Bool.{Bool, true, false, _&&_}
-use mathlib.Core.List.{List, [], _∷_, _++_}
-use mathlib.Core.Logic.{⊎-elim}
-use Prim.Native.Nat.{ℕ, zero, suc, _+_, _*_, _<_, _≤_}
-use native.Mathlib.Nat.{add-zero, zero-add, add-suc, suc-add, not-suc-le-zero}
-use native.Mathlib.Numerals.{add-one}
-use native.Mathlib.Omega.{arith}
-use lib.Dec.{eqb}
-use borrow.Author.Tests.{eq-eqb, ne-eqb}
-use lib.ListN.{length, getD, take, drop, take-append-drop}
-use Rattle.lists.specs.Same.{same}
-use Rattle.lists.proofs.Front.{drop-next, drop-end}
-use Rattle.lists.proofs.Decide.{lt-or-ge}
+use Rattle.lists.proofs.Kit.{_≡_, refl, sym, ap, _∙_, Bool, true, false, _&&_, List, [], _∷_, _++_, ⊎-elim, ℕ, zero, suc, _+_, _*_, _<_, _≤_, add-zero, zero-add, add-suc, suc-add, not-suc-le-zero, add-one, arith, eqb, eq-eqb, ne-eqb, length, getD, take, drop, take-append-drop, same, drop-next, drop-end, lt-or-ge}
 use Rattle.orbits.specs.Cycles.{pairAt, FirstOther}
 
 -- the pairs behind a pair

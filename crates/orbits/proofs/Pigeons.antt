@@ -1,13 +1,5 @@
 -- Of n + 1 numbers below n two are equal. By induction on n: where the last is none of the others, it takes the place of n - 1 among them.
-use mathlib.Core.Path.{_≡_, refl}
-use mathlib.Core.Bool.{Bool, true, false, cond}
-use mathlib.Core.Logic.{_⊎_, inl, inr, ⊎-elim}
-use Prim.Native.Nat.{ℕ, zero, suc, _<_, _≤_}
-use native.Mathlib.Nat.{not-suc-le-zero}
-use native.Mathlib.Omega.{arith}
-use lib.Dec.{eqb}
-use borrow.Author.Tests.{eqb-true, eqb-false}
-use Rattle.lists.proofs.Decide.{lt-or-ge}
+use Rattle.lists.proofs.Kit.{_≡_, refl, Bool, true, false, cond, _⊎_, inl, inr, ⊎-elim, ℕ, zero, suc, _<_, _≤_, not-suc-le-zero, arith, eqb, eqb-true, eqb-false, lt-or-ge}
 use Rattle.orbits.specs.Orbit.{first}
 use Rattle.orbits.proofs.First.{first-holds, first-least}
 

@@ -1,14 +1,6 @@
 -- The right list by definition and in the words of the request are one: a list has every cycle once, each start the least of its cycle,
 -- starts rising, lengths right, exactly when it is the right list. By induction on how many numbers are left from x on.
-use mathlib.Core.Path.{_≡_, refl, sym, ap, subst, _∙_}
-use mathlib.Core.Bool.{Bool, true, false, cond}
-use mathlib.Core.List.{List, [], _∷_}
-use mathlib.Core.Logic.{_↔_, _⊎_, inl, inr, ⊎-elim}
-use Prim.Native.Nat.{ℕ, zero, suc, _+_, _*_, _<_, _≤_}
-use native.Mathlib.Omega.{arith}
-use lib.ListN.{length, take, drop}
-use lib.Seq.{drop-nil}
-use Rattle.lists.proofs.Decide.{eq-or-ne}
+use Rattle.lists.proofs.Kit.{_≡_, refl, sym, ap, subst, _∙_, Bool, true, false, cond, List, [], _∷_, _↔_, _⊎_, inl, inr, ⊎-elim, ℕ, zero, suc, _+_, _*_, _<_, _≤_, arith, length, take, drop, drop-nil, eq-or-ne}
 use Rattle.orbits.specs.Orbit.{iter, Permutes, Period, period}
 use Rattle.orbits.specs.Cycles.{takes, isLeast, cyclesFrom, cycles, pairAt, Pair, EveryCycleOnce}
 use Rattle.orbits.proofs.Orbit.{period-is, one-period}

@@ -1,13 +1,6 @@
 -- Every number below N is in the cycle of one least number: from it a smaller one is followed until none is smaller, and two least
 -- numbers of one cycle are equal, because each is reached from the other.
-use mathlib.Core.Path.{_≡_, refl, sym, ap, _∙_}
-use mathlib.Core.Bool.{Bool, true, false}
-use Prim.Native.Nat.{ℕ, zero, suc, _+_, _-_, _%_, _<_, _≤_}
-use native.Mathlib.Nat.{mod-lt, not-suc-le-zero}
-use native.Mathlib.Omega.{arith}
-use lib.Dec.{ltb}
-use borrow.Author.Tests.{ltb-true, eqb-false}
-use Rattle.lists.proofs.Decide.{decided}
+use Rattle.lists.proofs.Kit.{_≡_, refl, sym, ap, _∙_, Bool, true, false, ℕ, zero, suc, _+_, _-_, _%_, _<_, _≤_, mod-lt, not-suc-le-zero, arith, ltb, ltb-true, eqb-false, decided}
 use Rattle.orbits.specs.Orbit.{iter, Permutes, first, period}
 use Rattle.orbits.specs.Cycles.{isLeast}
 use Rattle.orbits.proofs.First.{first-most, first-holds}

@@ -1,10 +1,6 @@
 -- One step: the product with the rounded inverse gives the row of an offset; m times the offset, less mn − 1 for each row, is where the turn takes it. Every
 -- number on the way fits.
-use mathlib.Core.Path.{_≡_, ap, _∙_}
-use mathlib.Core.Logic.{⊎-elim}
-use Prim.Native.Nat.{ℕ, _+_, _*_, _-_, _/_, _%_, _<_, _≤_}
-use native.Mathlib.Nat.{eq-zero-or-pos, div-le-self, div-add-mod', mul-le-mul, mul-le-mul-right, mul-zero, zero-mul, mul-one, mul-comm, mul-assoc, mul-add, add-mul}
-use native.Mathlib.Omega.{arith}
+use Rattle.lists.proofs.Kit.{_≡_, ap, _∙_, ⊎-elim, ℕ, _+_, _*_, _-_, _/_, _%_, _<_, _≤_, eq-zero-or-pos, div-le-self, div-add-mod', mul-le-mul, mul-le-mul-right, mul-zero, zero-mul, mul-one, mul-comm, mul-assoc, mul-add, add-mul, arith}
 use Rattle.orbits.specs.Cycles.{takes}
 use Rattle.orbits.proofs.Inverse.{scale, by-inverse}
 use Rattle.orbits.proofs.Takes.{takes-split}

@@ -1,12 +1,6 @@
 -- The map of all offsets of a block, the last one included: it exchanges row and column, and it permutes the offsets, because the map of
 -- those below the last does.
-use mathlib.Core.Path.{_≡_, sym, ap, _∙_}
-use mathlib.Core.Logic.{⊎-elim}
-use Prim.Native.Nat.{ℕ, _+_, _*_, _-_, _/_, _%_, _<_, _≤_}
-use native.Mathlib.Nat.{mod-lt, div-add-mod', div-lt-iff-lt-mul}
-use native.Mathlib.Omega.{arith}
-use borrow.Author.Tests.{lt-ltb, le-ltb}
-use Rattle.lists.proofs.Decide.{lt-or-ge}
+use Rattle.lists.proofs.Kit.{_≡_, sym, ap, _∙_, ⊎-elim, ℕ, _+_, _*_, _-_, _/_, _%_, _<_, _≤_, mod-lt, div-add-mod', div-lt-iff-lt-mul, arith, lt-ltb, le-ltb, lt-or-ge}
 use Rattle.orbits.specs.Orbit.{Permutes}
 use Rattle.orbits.specs.Sent.{goes}
 use Rattle.orbits.specs.Cycles.{takes}

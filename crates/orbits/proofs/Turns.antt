@@ -1,14 +1,5 @@
 -- Turns one after the other bring every block back exactly when the power leaves 1.
-use mathlib.Core.Path.{_≡_, refl, sym, ap, _∙_, subst}
-use mathlib.Core.List.{List}
-use mathlib.Core.Logic.{_↔_, ⊎-elim}
-use Prim.Native.Nat.{ℕ, zero, suc, _*_, _-_, _%_, _^_, _<_, _≤_, _∣_, min}
-use native.Mathlib.Nat.{mod-one, mul-one, pow-zero, pow-suc, dvd-mul-right, eq-one-of-dvd-one, eq-zero-or-pos}
-use native.Mathlib.Omega.{arith}
-use lib.ListN.{length, getD}
-use Rattle.lists.specs.Tab.{tab}
-use Rattle.lists.proofs.Decide.{lt-or-ge}
-use Rattle.lists.proofs.Tab.{length-tab, getD-tab}
+use Rattle.lists.proofs.Kit.{_≡_, refl, sym, ap, _∙_, subst, List, _↔_, ⊎-elim, ℕ, zero, suc, _*_, _-_, _%_, _^_, _<_, _≤_, _∣_, min, mod-one, mul-one, pow-zero, pow-suc, dvd-mul-right, eq-one-of-dvd-one, eq-zero-or-pos, arith, length, getD, tab, lt-or-ge, length-tab, getD-tab}
 use Rattle.flat.specs.Turn.{turned}
 use Rattle.flat.proofs.Turn.{turned-is}
 use Rattle.orbits.specs.Orbit.{iter}

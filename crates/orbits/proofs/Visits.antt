@@ -1,16 +1,6 @@
 -- The cycles of the right list visit every number below N exactly once, so their lengths add up to N. By induction on how many numbers
 -- are left: what is listed from x on visits the numbers whose root is x or above.
-use mathlib.Core.Path.{_≡_, refl, sym, ap, ap₂, subst, _∙_}
-use mathlib.Core.Bool.{Bool, true, false, cond}
-use mathlib.Core.List.{List, [], _∷_, _++_}
-use mathlib.Core.Logic.{⊎-elim}
-use Prim.Native.Nat.{ℕ, zero, suc, _+_, _-_, _%_, _<_, _≤_}
-use native.Mathlib.Nat.{mod-lt, not-suc-le-zero}
-use native.Mathlib.Omega.{arith}
-use lib.ListN.{length, length-append}
-use Rattle.lists.specs.Tab.{tab}
-use Rattle.lists.proofs.Tab.{length-tab, getD-tab}
-use Rattle.lists.proofs.Decide.{lt-or-ge, eq-or-ne}
+use Rattle.lists.proofs.Kit.{_≡_, refl, sym, ap, ap₂, subst, _∙_, Bool, true, false, cond, List, [], _∷_, _++_, ⊎-elim, ℕ, zero, suc, _+_, _-_, _%_, _<_, _≤_, mod-lt, not-suc-le-zero, arith, length, length-append, tab, length-tab, getD-tab, lt-or-ge, eq-or-ne}
 use Rattle.orbits.specs.Orbit.{iter, Permutes, period}
 use Rattle.orbits.specs.Cycles.{isLeast, cyclesFrom}
 use Rattle.orbits.proofs.Orbit.{iter-add, iter-within, iter-apart, period-is}

@@ -1,8 +1,6 @@
 -- What documents 01 and 02 say of single orders and chains of four axes: numbers by their release, plans, orders that chains name, needs; and of five axes the
 -- same kinds of cases. Computed, each table as one statement.
-use mathlib.Core.Path.{_≡_, refl}
-use mathlib.Core.List.{[], _∷_, map}
-use Rattle.lists.specs.Tab.{upto}
+use Rattle.lists.proofs.Kit.{_≡_, refl, [], _∷_, map, upto}
 use Rattle.layout.specs.Layout.{placeOf, places}
 use Rattle.orders.specs.Chains.{exchange, follow, named}
 use Rattle.orders.specs.Numbers.{arrangements, orders, orderOf, rank, numberOf}

@@ -1,13 +1,6 @@
 -- Chains: what following one keeps, that chains join, that a chain run backwards undoes it, and one swap more at the end.
 -- By induction on the chain from the front.
-use mathlib.Core.Path.{_≡_, refl, sym, ap, _∙_}
-use mathlib.Core.List.{List, [], _∷_, _++_, reverse, reverse-cons, reverse-reverse}
-use Prim.Native.Nat.{ℕ, zero, suc, _+_, _<_, zero-le, suc-le-suc}
-use native.Mathlib.Numerals.{add-one}
-use lib.ListN.{length, getD, take}
-use lib.Seq.{take-suc}
-use Rattle.lists.specs.Tab.{tab, upto}
-use Rattle.lists.proofs.Tab.{length-tab}
+use Rattle.lists.proofs.Kit.{_≡_, refl, sym, ap, _∙_, List, [], _∷_, _++_, reverse, reverse-cons, reverse-reverse, ℕ, zero, suc, _+_, _<_, zero-le, suc-le-suc, add-one, length, getD, take, take-suc, tab, upto, length-tab}
 use Rattle.layout.specs.Layout.{volume, pick, Below, Undone}
 use Rattle.layout.proofs.Picks.{pick-upto}
 use Rattle.layout.specs.Layout.Below.{empty, next}

@@ -1,17 +1,6 @@
 -- How often a label stands in a list, and how often one stands before another. Chains keep the counts, so in an order that a
 -- chain names each label below r stands once, and of two labels exactly one stands before the other.
-use mathlib.Core.Bool.{cond}
-use mathlib.Core.Path.{_≡_, refl, sym, ap, _∙_}
-use mathlib.Core.List.{List, [], _∷_, _++_, map}
-use Prim.Native.Nat.{ℕ, zero, suc, _+_, _*_, _<_, _≤_}
-use native.Mathlib.Nat.{not-suc-le-zero, le-of-suc-le-suc, mul-comm, mul-add, add-mul, mul-zero, zero-mul}
-use mathlib.Core.Logic.{⊎-elim}
-use native.Mathlib.Omega.{arith}
-use lib.Dec.{eqb, eqb·suc-suc}
-use borrow.Author.Tests.{eq-eqb, ne-eqb}
-use Rattle.lists.specs.Tab.{upto}
-use Rattle.lists.proofs.Tab.{map-tab}
-use Rattle.lists.proofs.Decide.{eq-or-ne}
+use Rattle.lists.proofs.Kit.{cond, _≡_, refl, sym, ap, _∙_, List, [], _∷_, _++_, map, ℕ, zero, suc, _+_, _*_, _<_, _≤_, not-suc-le-zero, le-of-suc-le-suc, mul-comm, mul-add, add-mul, mul-zero, zero-mul, ⊎-elim, arith, eqb, eqb·suc-suc, eq-eqb, ne-eqb, upto, map-tab, eq-or-ne}
 use Rattle.layout.specs.Layout.{placeOf}
 use Rattle.orders.specs.Chains.{exchange, follow, named}
 

@@ -1,15 +1,7 @@
 -- The orders are in dictionary order, over any number of axes: of two numbers the lower names the order that comes first. Those that begin with one axis
 -- stand before those that begin with a higher one, and among them the rests are in dictionary order. By induction on how many axes are taken.
-use mathlib.Core.Path.{_≡_, refl, subst}
-use mathlib.Core.List.{List, [], _∷_, _++_, map, List·Memᴰ, List·Memᴰ·not-nil, List·Memᴰ·cases-cons, List·Memᴰ·append-cases, Memᴰ·of-map, Memᴰ·append-left, Memᴰ·append-right}
+use Rattle.lists.proofs.Kit.{_≡_, refl, subst, List, [], _∷_, _++_, map, List·Memᴰ, List·Memᴰ·not-nil, List·Memᴰ·cases-cons, List·Memᴰ·append-cases, Memᴰ·of-map, Memᴰ·append-left, Memᴰ·append-right, ⊎-elim, ℕ, zero, suc, _<_, not-suc-le-zero, le-of-suc-le-suc, arith, length, getD, append-snoc, tab, upto}
 use mathlib.Core.List.List·Memᴰ.{List·Memᴰ·head, List·Memᴰ·tail}
-use mathlib.Core.Logic.{⊎-elim}
-use Prim.Native.Nat.{ℕ, zero, suc, _<_}
-use native.Mathlib.Nat.{not-suc-le-zero, le-of-suc-le-suc}
-use native.Mathlib.Omega.{arith}
-use lib.ListN.{length, getD}
-use lib.Seq.{append-snoc}
-use Rattle.lists.specs.Tab.{tab, upto}
 use Rattle.orders.specs.Numbers.{arrangements, orders, orderCount, orderOf}
 use Rattle.orders.specs.Plans.{Sooner}
 use Rattle.orders.proofs.Distinct.{count-orders}

@@ -1,15 +1,7 @@
 -- The list of orders: how many there are, which is the first, and that no two are the same. What is listed begins with one of the axes left, and what begins
 -- with the same axis differs in the rest, since no axis is left twice. By induction on how many axes are taken.
-use mathlib.Core.Path.{_≡_, refl, sym, ap, subst, _∙_}
-use mathlib.Core.List.{List, [], _∷_, _++_, map, List·Memᴰ, List·Memᴰ·not-nil, List·Memᴰ·append-cases, Memᴰ·of-map}
+use Rattle.lists.proofs.Kit.{_≡_, refl, sym, ap, subst, _∙_, List, [], _∷_, _++_, map, List·Memᴰ, List·Memᴰ·not-nil, List·Memᴰ·append-cases, Memᴰ·of-map, ⊎-elim, ℕ, zero, suc, _+_, _*_, _<_, _≤_, mul-pos, arith, length, getD, length-append, length-map, upto, length-tab}
 use mathlib.Core.List.List·Memᴰ.{List·Memᴰ·head, List·Memᴰ·tail}
-use mathlib.Core.Logic.{⊎-elim}
-use Prim.Native.Nat.{ℕ, zero, suc, _+_, _*_, _<_, _≤_}
-use native.Mathlib.Nat.{mul-pos}
-use native.Mathlib.Omega.{arith}
-use lib.ListN.{length, getD, length-append, length-map}
-use Rattle.lists.specs.Tab.{upto}
-use Rattle.lists.proofs.Tab.{length-tab}
 use Rattle.orders.specs.Numbers.{arrangements, orders, orderCount, orderOf}
 use Rattle.orders.proofs.Counts.{equal-one, count, count-append, count-upto-few}
 use Rattle.orders.proofs.Listed.{Taken, Begun, begun}

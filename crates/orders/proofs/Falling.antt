@@ -1,16 +1,6 @@
 -- What exchanging two neighbouring labels does to the pairs in falling order: only the pairs of these two labels change.
 -- So in an order that a chain names the count of falling pairs rises or falls by one, and no chain is shorter than that count.
-use mathlib.Core.Bool.{cond}
-use mathlib.Core.Path.{_≡_, refl, sym, ap, _∙_}
-use mathlib.Core.List.{List, [], _∷_, map}
-use mathlib.Core.Logic.{⊎-elim}
-use Prim.Native.Nat.{ℕ, zero, suc, _+_, _<_, _≤_, zero-le}
-use native.Mathlib.Omega.{arith}
-use lib.Dec.{ltb, leb·suc-suc}
-use lib.ListN.{length}
-use borrow.Author.Tests.{lt-ltb, le-ltb}
-use Rattle.lists.specs.Tab.{upto}
-use Rattle.lists.proofs.Decide.{lt-or-ge}
+use Rattle.lists.proofs.Kit.{cond, _≡_, refl, sym, ap, _∙_, List, [], _∷_, map, ⊎-elim, ℕ, zero, suc, _+_, _<_, _≤_, zero-le, arith, ltb, leb·suc-suc, length, lt-ltb, le-ltb, upto, lt-or-ge}
 use Rattle.layout.specs.Layout.{placeOf}
 use Rattle.orders.specs.Chains.{follow, named}
 use Rattle.orders.specs.Plans.{under, falling, relabelled}

@@ -1,14 +1,6 @@
 -- Release 2 as it is said, by where each axis goes, over any number of axes. A chain run backwards undoes the order of a number, so one list alone
 -- has every axis at its place, and it is the list under the inverse order: the words are those of one release 1 number.
-use mathlib.Core.Path.{_≡_, refl, sym, ap, _∙_, subst}
-use mathlib.Core.Bool.{Bool, true, false, cond}
-use mathlib.Core.List.{List, [], _∷_}
-use mathlib.Core.Logic.{_↔_, Iff·rfl}
-use Prim.Native.Nat.{ℕ, zero, suc, _<_}
-use native.Mathlib.Omega.{arith}
-use lib.Dec.{eqb}
-use lib.ListN.{length, getD}
-use lib.Seq.{ext-getD}
+use Rattle.lists.proofs.Kit.{_≡_, refl, sym, ap, _∙_, subst, Bool, true, false, cond, List, [], _∷_, _↔_, Iff·rfl, ℕ, zero, suc, _<_, arith, eqb, length, getD, ext-getD}
 use Rattle.layout.specs.Layout.{pick, places, Laid, Undone}
 use Rattle.layout.proofs.Offsets.{within-length}
 use Rattle.layout.proofs.Picks.{length-pick, pick-at, undone, places-undo}

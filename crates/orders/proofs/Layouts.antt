@@ -1,8 +1,5 @@
 -- The laws of layouts at the orders that chains name. Each is a law of crate layout, since a chain run backwards undoes its order.
-use mathlib.Core.Path.{_≡_, sym, subst}
-use mathlib.Core.List.{List, _++_, reverse}
-use Prim.Native.Nat.{ℕ, _≤_}
-use lib.ListN.{length}
+use Rattle.lists.proofs.Kit.{_≡_, sym, subst, List, _++_, reverse, ℕ, _≤_, length}
 use Rattle.layout.specs.Layout.{volume, pick, Laid, laid, Below}
 use Rattle.layout.proofs.Laws.{after, home, one-layout, laid-is}
 use Rattle.orders.specs.Chains.{named}

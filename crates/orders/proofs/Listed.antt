@@ -1,16 +1,8 @@
 -- Arrangements of axes, as a relation: an axis is taken, then one of the rest, and so on. Every such arrangement is listed by
 -- `arrangements`, and a swap of an arrangement is one: taking two axes in either order leaves the same rest.
 -- Conversely a chain names whatever is listed: it brings the axis that is taken to the front, and then does so in the rest.
-use mathlib.Core.Path.{_≡_, refl, sym, ap, _∙_, subst}
-use mathlib.Core.Logic.{⊎-elim}
-use native.Mathlib.Omega.{arith}
-use mathlib.Core.List.{List, [], _∷_, _++_, map, List·Memᴰ, List·Memᴰ·not-nil, List·Memᴰ·append-cases, List·Memᴰ·eq-of-singleton, Memᴰ·of-map, Memᴰ·map, Memᴰ·append-left, Memᴰ·append-right}
+use Rattle.lists.proofs.Kit.{_≡_, refl, sym, ap, _∙_, subst, ⊎-elim, arith, List, [], _∷_, _++_, map, List·Memᴰ, List·Memᴰ·not-nil, List·Memᴰ·append-cases, List·Memᴰ·eq-of-singleton, Memᴰ·of-map, Memᴰ·map, Memᴰ·append-left, Memᴰ·append-right, ℕ, zero, suc, length, append-snoc, upto, length-tab}
 use mathlib.Core.List.List·Memᴰ.{List·Memᴰ·head}
-use Prim.Native.Nat.{ℕ, zero, suc}
-use lib.ListN.{length}
-use lib.Seq.{append-snoc}
-use Rattle.lists.specs.Tab.{upto}
-use Rattle.lists.proofs.Tab.{length-tab}
 use Rattle.orders.specs.Chains.{exchange, follow, named}
 use Rattle.orders.specs.Numbers.{arrangements, orders}
 use Rattle.orders.proofs.Chains.{follow-append, follow-end, length-named}

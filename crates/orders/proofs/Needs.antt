@@ -1,14 +1,7 @@
 -- The need of a chain. It can be read off the entry shape: an axis stays at its entry place until a swap touches that place, and then
 -- it is counted. So it is the longest entry length at the places k, k + 1 over the swaps k; of joined chains it is the larger of both; and
 -- a chain run backwards needs what the chain needs, on the shape that came back and on the entry shape. By induction on the chain.
-use mathlib.Core.Path.{_≡_, refl, sym, ap, ap₂, _∙_}
-use mathlib.Core.List.{List, [], _∷_, _++_, reverse, reverse-cons}
-use Prim.Native.Nat.{ℕ, zero, suc, _+_, _<_, _≤_, zero-le, max}
-use native.Mathlib.Nat.{not-suc-le-zero, le-of-suc-le-suc, zero-max, max-zero, max-comm}
-use native.Mathlib.Numerals.{add-one}
-use native.Mathlib.Omega.{arith}
-use lib.ListN.{length, getD, take}
-use lib.Seq.{take-suc}
+use Rattle.lists.proofs.Kit.{_≡_, refl, sym, ap, ap₂, _∙_, List, [], _∷_, _++_, reverse, reverse-cons, ℕ, zero, suc, _+_, _<_, _≤_, zero-le, max, not-suc-le-zero, le-of-suc-le-suc, zero-max, max-zero, max-comm, add-one, arith, length, getD, take, take-suc}
 use Rattle.orders.specs.Chains.{exchange, follow}
 use Rattle.orders.specs.Needs.{swapNeed, chainNeed}
 use Rattle.orders.proofs.Chains.{follow-home}

@@ -1,16 +1,7 @@
 -- Orders by number, over any number of axes. Every order that a chain names is in the list of orders, where a search finds it,
 -- a chain names every order in the list, and no two numbers are one order.
-use mathlib.Core.Path.{_≡_, refl, sym, ap, subst, _∙_}
-use mathlib.Core.Bool.{Bool, true, false}
-use mathlib.Core.List.{List, [], _∷_, List·Memᴰ, List·Memᴰ·not-nil, List·Memᴰ·cases-cons}
+use Rattle.lists.proofs.Kit.{_≡_, refl, sym, ap, subst, _∙_, Bool, true, false, List, [], _∷_, List·Memᴰ, List·Memᴰ·not-nil, List·Memᴰ·cases-cons, ⊎-elim, ℕ, zero, suc, _<_, zero-le, suc-le-suc, not-suc-le-zero, le-of-suc-le-suc, T, length, getD, same, same→eq, eq→same}
 use mathlib.Core.List.List·Memᴰ.{List·Memᴰ·head, List·Memᴰ·tail}
-use mathlib.Core.Logic.{⊎-elim}
-use Prim.Native.Nat.{ℕ, zero, suc, _<_, zero-le, suc-le-suc}
-use native.Mathlib.Nat.{not-suc-le-zero, le-of-suc-le-suc}
-use lib.Dec.{T}
-use lib.ListN.{length, getD}
-use Rattle.lists.specs.Same.{same}
-use Rattle.lists.proofs.Test.{same→eq, eq→same}
 use Rattle.orders.specs.Chains.{named}
 use Rattle.orders.specs.Numbers.{orders, orderCount, orderOf, rank, numberOf}
 use Rattle.orders.proofs.Listed.{named-listed, listed-named}

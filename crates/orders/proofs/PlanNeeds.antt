@@ -1,18 +1,7 @@
 -- The need of a plan. It is the longest axis among the pairs of places that stand in falling order: exchanging two neighbouring labels, and their
 -- lengths with them, changes no other pair, and each swap of the plan takes one falling pair away. So no chain that names an order needs less
 -- than its plan; and the inverse order needs the same, since the plan run backwards names it and needs the same.
-use mathlib.Core.Path.{_≡_, refl, sym, ap, _∙_, subst}
-use mathlib.Core.Bool.{Bool, true, false, cond}
-use mathlib.Core.List.{List, [], _∷_, map, reverse, reverse-reverse}
-use mathlib.Core.Logic.{_⊎_, inl, inr, ⊎-elim}
-use Prim.Native.Nat.{ℕ, zero, suc, _+_, _<_, _≤_, zero-le, max}
-use native.Mathlib.Nat.{not-suc-le-zero, le-of-suc-le-suc, le-antisymm, mul-zero, zero-mul, zero-add}
-use native.Mathlib.Omega.{arith}
-use lib.Dec.{ltb}
-use lib.ListN.{length, getD}
-use borrow.Author.Tests.{lt-ltb, le-ltb}
-use Rattle.lists.specs.Tab.{upto}
-use Rattle.lists.proofs.Decide.{lt-or-ge, eq-or-ne}
+use Rattle.lists.proofs.Kit.{_≡_, refl, sym, ap, _∙_, subst, Bool, true, false, cond, List, [], _∷_, map, reverse, reverse-reverse, _⊎_, inl, inr, ⊎-elim, ℕ, zero, suc, _+_, _<_, _≤_, zero-le, max, not-suc-le-zero, le-of-suc-le-suc, le-antisymm, mul-zero, zero-mul, zero-add, arith, ltb, length, getD, lt-ltb, le-ltb, upto, lt-or-ge, eq-or-ne}
 use Rattle.layout.specs.Layout.{pick, places}
 use Rattle.layout.proofs.Picks.{places-undo}
 use Rattle.orders.specs.Chains.{exchange, follow, named}

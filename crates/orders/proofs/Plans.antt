@@ -1,17 +1,7 @@
 -- The computed plan of an order that a chain names is its plan. Its first swap takes one falling pair away, so that the plan is
 -- as long as there are falling pairs and no chain is shorter; a shortest chain begins with a label whose follower stands before it,
 -- and the plan begins with the least such label. By induction on the count of falling pairs.
-use mathlib.Core.Path.{_≡_, refl, sym, ap, _∙_, subst, subst₂}
-use mathlib.Core.List.{List, [], _∷_, map}
-use mathlib.Core.Bool.{Bool, true, false, cond}
-use mathlib.Core.Logic.{_⊎_, inl, inr, ⊎-elim}
-use Prim.Native.Nat.{ℕ, zero, suc, _+_, _*_, _-_, _<_, _≤_, zero-le}
-use native.Mathlib.Nat.{not-suc-le-zero, le-of-suc-le-suc, le-antisymm}
-use native.Mathlib.Omega.{arith}
-use lib.Dec.{ltb}
-use lib.ListN.{length}
-use borrow.Author.Tests.{lt-ltb, le-ltb}
-use Rattle.lists.proofs.Decide.{lt-or-ge}
+use Rattle.lists.proofs.Kit.{_≡_, refl, sym, ap, _∙_, subst, subst₂, List, [], _∷_, map, Bool, true, false, cond, _⊎_, inl, inr, ⊎-elim, ℕ, zero, suc, _+_, _*_, _-_, _<_, _≤_, zero-le, not-suc-le-zero, le-of-suc-le-suc, le-antisymm, arith, ltb, length, lt-ltb, le-ltb, lt-or-ge}
 use Rattle.layout.specs.Layout.{placeOf, Below}
 use Rattle.layout.specs.Layout.Below.{empty, next}
 use Rattle.orders.specs.Chains.{follow, named}

@@ -1,15 +1,6 @@
 -- Two neighbouring labels exchanged. A swap at the front of a chain exchanges labels of what the rest of the chain names:
 -- it exchanges entries of 0, 1, .., and a chain moves places, whatever stands there.
-use mathlib.Core.Path.{_≡_, refl, sym, ap, _∙_}
-use mathlib.Core.Bool.{Bool, true, false, cond}
-use mathlib.Core.List.{List, [], _∷_, map}
-use Prim.Native.Nat.{ℕ, zero, suc, _<_, _≤_}
-use native.Mathlib.Nat.{not-suc-le-zero, le-of-suc-le-suc}
-use native.Mathlib.Omega.{arith}
-use lib.Dec.{eqb, eqb·suc-suc}
-use borrow.Author.Tests.{eqb-true, eqb-false, eq-eqb, ne-eqb}
-use Rattle.lists.specs.Tab.{tab, upto}
-use Rattle.lists.proofs.Tab.{length-tab, tab-ext, map-tab}
+use Rattle.lists.proofs.Kit.{_≡_, refl, sym, ap, _∙_, Bool, true, false, cond, List, [], _∷_, map, ℕ, zero, suc, _<_, _≤_, not-suc-le-zero, le-of-suc-le-suc, arith, eqb, eqb·suc-suc, eqb-true, eqb-false, eq-eqb, ne-eqb, tab, upto, length-tab, tab-ext, map-tab}
 use Rattle.orders.specs.Chains.{exchange, follow, named}
 use Rattle.orders.specs.Plans.{relabelled}
 use Rattle.orders.proofs.Swaps.{map-exchange, exchange-past}

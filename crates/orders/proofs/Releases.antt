@@ -1,15 +1,7 @@
 -- The order that a number names by its release, over any number of axes and so over all 24 orders of four. A chain names the order with number k
 -- and, run backwards, the order that release 2 reads k as; so that is one of the orders, its own number names it in release 1, each number
 -- determines the other, both say of every word the same, and the plans of both are as long and need the same.
-use mathlib.Core.Path.{_≡_, refl, sym, ap, ap₂, _∙_, subst}
-use mathlib.Core.Bool.{Bool, true, false, cond}
-use mathlib.Core.List.{List, reverse, reverse-reverse}
-use mathlib.Core.Logic.{_↔_}
-use Prim.Native.Nat.{ℕ, _<_, _≤_}
-use native.Mathlib.Nat.{le-antisymm}
-use native.Mathlib.Omega.{arith}
-use lib.Dec.{eqb}
-use lib.ListN.{length, getD, length-reverse}
+use Rattle.lists.proofs.Kit.{_≡_, refl, sym, ap, ap₂, _∙_, subst, Bool, true, false, cond, List, reverse, reverse-reverse, _↔_, ℕ, _<_, _≤_, le-antisymm, arith, eqb, length, getD, length-reverse}
 use Rattle.layout.specs.Layout.{pick, places, Laid}
 use Rattle.layout.proofs.Picks.{pick-at, undone, places-undo}
 use Rattle.orders.specs.Chains.{named}

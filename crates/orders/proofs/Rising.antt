@@ -1,11 +1,6 @@
 -- An order in which every label stands before its follower is 0, 1, ..: the places of its labels rise and stay below r,
 -- so place a is a, and the order that undoes it is 0, 1, .. .
-use mathlib.Core.Path.{_≡_, sym, ap, _∙_}
-use mathlib.Core.List.{List, reverse}
-use Prim.Native.Nat.{ℕ, zero, suc, _+_, _-_, _<_, _≤_, zero-le}
-use native.Mathlib.Omega.{arith}
-use Rattle.lists.specs.Tab.{tab, upto}
-use Rattle.lists.proofs.Tab.{getD-tab, tab-ext}
+use Rattle.lists.proofs.Kit.{_≡_, sym, ap, _∙_, List, reverse, ℕ, zero, suc, _+_, _-_, _<_, _≤_, zero-le, arith, tab, upto, getD-tab, tab-ext}
 use Rattle.layout.specs.Layout.{pick, placeOf, places}
 use Rattle.layout.proofs.Picks.{below-at, pick-upto, places-undo}
 use Rattle.orders.specs.Chains.{named}

@@ -1,10 +1,5 @@
 -- What one swap keeps of a list, and what the code of a swap stores. By induction on the place of the swap.
-use mathlib.Core.Path.{_≡_, refl, ap}
-use mathlib.Core.List.{List, [], _∷_, map}
-use Prim.Native.Nat.{ℕ, zero, suc, _+_, _<_, _≤_}
-use native.Mathlib.Nat.{not-suc-le-zero, le-of-suc-le-suc, mul-left-comm}
-use native.Mathlib.Numerals.{add-one}
-use lib.ListN.{length, getD, set}
+use Rattle.lists.proofs.Kit.{_≡_, refl, ap, List, [], _∷_, map, ℕ, zero, suc, _+_, _<_, _≤_, not-suc-le-zero, le-of-suc-le-suc, mul-left-comm, add-one, length, getD, set}
 use Rattle.layout.specs.Layout.{volume, pick, Below}
 use Rattle.layout.specs.Layout.Below.{empty, next}
 use Rattle.orders.specs.Chains.{exchange}

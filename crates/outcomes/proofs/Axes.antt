@@ -1,12 +1,6 @@
 -- The calls on four and on five axes, the plans and the tables: one outcome each, because those of their promises are one. That a shape's array has five
 -- lengths, so that there are as many to read as the call reads, is the checker's own fact at entry.
-use mathlib.Core.Path.{_≡_, refl, sym, ap, _∙_}
-use mathlib.Core.List.{List}
-use Prim.Native.Nat.{ℕ, _≤_}
-use native.Mathlib.Omega.{arith}
-use lib.ListN.{length, take}
-use lib.Seq.{length-take-le}
-use borrow.Author.Needs.{needs}
+use Rattle.lists.proofs.Kit.{_≡_, refl, sym, ap, _∙_, List, ℕ, _≤_, arith, length, take, length-take-le, needs}
 use Rattle.axes.specs.declared.Shape.{Shape}
 use Rattle.plans.proofs as plans
 use Rattle.axes.proofs as axes

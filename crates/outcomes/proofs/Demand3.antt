@@ -1,10 +1,6 @@
 -- Demand 3 about calls of chains of swaps on r axes that follow each other through one buffer, each with its own scratch, any that is enough by its own need, or
 -- all through one. The theorems of crate axes, once over the number of axes; a call on four axes or on five is a call on r axes.
-use mathlib.Core.Path.{_≡_, refl, sym, subst, _∙_}
-use mathlib.Core.Bool.{false}
-use mathlib.Core.List.{List, _++_, reverse}
-use Prim.Native.Nat.{ℕ, _≤_}
-use lib.ListN.{length, take}
+use Rattle.lists.proofs.Kit.{_≡_, refl, sym, subst, _∙_, false, List, _++_, reverse, ℕ, _≤_, length, take}
 use Rattle.orders.specs.Chains.{named}
 use Rattle.orders.specs.Needs.{chainNeed}
 use Rattle.refusals.specs.Conditions.{badSwap}

@@ -1,8 +1,6 @@
 -- Demand 2 about calls: the passes of rows and columns, the strips and the recursive method accept the same blocks, scratch apart, and leave the same words; the reverse turn
 -- brings every word home, and so does the turn after it. Both lay the block out alike, and two outcomes of one turn are equal.
-use mathlib.Core.Path.{_≡_, sym, _∙_}
-use Prim.Native.Nat.{_≤_}
-use lib.ListN.{length}
+use Rattle.lists.proofs.Kit.{_≡_, sym, _∙_, _≤_, length}
 use Rattle.flat.specs.Turn.{sides}
 use Rattle.flat.proofs.Turn.{one-turn}
 use Rattle.refusals.specs.Scratch.{need}

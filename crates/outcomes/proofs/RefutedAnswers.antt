@@ -1,13 +1,7 @@
 -- Wrong versions of the functions that change nothing and answer alone, as tables: the plans, the count of lines, the count of repeats; the checks and the
 -- tables, whose promise is an equation with the answer. The right count of repeats stands in its entry, and the test sees that it is the least. Two bounds on
 -- the length of every plan are refuted by theorems: they are statements about all orders, and no outcome of a call.
-use mathlib.Core.Path.{_≡_, refl, sym}
-use mathlib.Core.Bool.{Bool, true, cond}
-use mathlib.Core.List.{List, [], _∷_}
-use Prim.Native.Nat.{ℕ, zero, suc, _*_, _-_, _%_, _^_, _<_, _≤_}
-use native.Mathlib.Omega.{arith}
-use lib.Dec.{T, ltb}
-use lib.ListN.{length, take}
+use Rattle.lists.proofs.Kit.{_≡_, refl, sym, Bool, true, cond, List, [], _∷_, ℕ, zero, suc, _*_, _-_, _%_, _^_, _<_, _≤_, arith, T, ltb, length, take}
 use Rattle.layout.specs.Layout.{volume, placeOf, places}
 use Rattle.numbers.specs.Gcd.{gcdOf, euclid}
 use Rattle.orders.specs.Chains.{exchange}

@@ -1,14 +1,6 @@
 -- Wrong versions of the calls that lay a block out afresh, as tables: the turns, the swap, the chains and the requests; and of clearing scratch. Of the request,
 -- that it cannot be seen whether 4 or 7 comes first: 4 never holds beside 7.
-use mathlib.Core.Path.{_≡_, refl, ap, _∙_}
-use mathlib.Core.Bool.{Bool, true, false, cond}
-use mathlib.Core.List.{List, [], _∷_}
-use Prim.Native.Nat.{ℕ, _-_}
-use native.Mathlib.Omega.{arith}
-use lib.Dec.{eqb}
-use lib.ListN.{length, take, replicate, List·getD-eq-default}
-use borrow.Author.Tests.{ltb-true, le-ltb}
-use Rattle.lists.specs.Tab.{upto}
+use Rattle.lists.proofs.Kit.{_≡_, refl, ap, _∙_, Bool, true, false, cond, List, [], _∷_, ℕ, _-_, arith, eqb, length, take, replicate, List·getD-eq-default, ltb-true, le-ltb, upto}
 use Rattle.layout.specs.Layout.{volume, at, pick, placeOf, places, coords, laid}
 use Rattle.orders.specs.Chains.{exchange, follow, named}
 use Rattle.orders.specs.Numbers.{arrangements, orders, orderOf, orderCount, rank, numberOf}

@@ -1,19 +1,7 @@
 -- Wrong versions of judging a list of cycles and of running one, as tables. The place of the first pair that differs stands in the entry of a wrong list, and the
 -- test sees that it is that. Blocks too large to list their cycles stand in tables of their own, in which the right list is not computed; that a list of none
 -- is wrong there too is a theorem.
-use mathlib.Core.Path.{_≡_, refl, sym, ap, subst, _∙_}
-use mathlib.Core.Bool.{Bool, true, false, cond, not, _&&_}
-use mathlib.Core.List.{List, [], _∷_}
-use Prim.Native.Nat.{ℕ, _*_, _<_}
-use native.Mathlib.Omega.{arith}
-use lib.Dec.{T, eqb}
-use lib.ListN.{length, take}
-use borrow.Author.Tests.{eqb-true, eqb-false}
-use Rattle.lists.specs.Same.{same}
-use Rattle.lists.specs.Tab.{upto}
-use Rattle.lists.proofs.Test.{both-left, both-right, same→eq}
-use Rattle.lists.proofs.Decide.{decided}
-use Rattle.lists.proofs.Front.{drop-end}
+use Rattle.lists.proofs.Kit.{_≡_, refl, sym, ap, subst, _∙_, Bool, true, false, cond, not, _&&_, List, [], _∷_, ℕ, _*_, _<_, arith, T, eqb, length, take, eqb-true, eqb-false, same, upto, both-left, both-right, same→eq, decided, drop-end}
 use Rattle.layout.specs.Layout.{volume, at, pick, placeOf, places, coords, laid}
 use Rattle.orders.specs.Chains.{exchange, follow, named}
 use Rattle.refusals.specs.FirstOf.{Check, firstOf}

@@ -1,15 +1,9 @@
 -- Wrong versions of the join desk, as tables: rounding around zero, a delay of zero, the ends of the common frames, the order of checks; and of choosing, ties
 -- between and within the paths, and parts that hold the right readings elsewhere. A signed number stands in a table as a natural one. Of a part that is handed
 -- back the ghost name is left open; the exchange that is chosen stands in the entry, and the test sees that it wins.
-use mathlib.Core.Path.{_≡_, refl, sym, _∙_}
-use mathlib.Core.Bool.{Bool, true, cond}
-use mathlib.Core.List.{List, [], _∷_, _++_}
-use Prim.Native.Nat.{ℕ, zero, suc, _+_, _*_, _^_}
-use native.Mathlib.Omega.{arith}
+use Rattle.lists.proofs.Kit.{_≡_, refl, sym, _∙_, Bool, true, cond, List, [], _∷_, _++_, ℕ, zero, suc, _+_, _*_, _^_, arith, T, length}
 use base.Fml.{GName}
 use denote.Ref.{RefT}
-use lib.Dec.{T}
-use lib.ListN.{length}
 use lib.IntN.{ℤ, pos, negsuc}
 use lib.Signed.{leZ, ltZ, _≤ℤ_, _<ℤ_, leZ-yes, ltZ-yes}
 use Rattle.refusals.specs.FirstOf.{firstOf}

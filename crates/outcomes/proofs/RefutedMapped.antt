@@ -1,8 +1,5 @@
 -- Wrong versions of the mapped turn, as a table: what is left of the block, its scratch and the progress word after a budget of stores.
-use mathlib.Core.Path.{refl}
-use mathlib.Core.List.{List, [], _∷_, _++_}
-use Prim.Native.Nat.{ℕ}
-use Rattle.lists.specs.Tab.{upto}
+use Rattle.lists.proofs.Kit.{refl, List, [], _∷_, _++_, ℕ, upto}
 use Rattle.layout.specs.Layout.{volume, placeOf}
 use Rattle.numbers.specs.Gcd.{gcdOf, euclid}
 use Rattle.refusals.specs.Conditions.{longest}

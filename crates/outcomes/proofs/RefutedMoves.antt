@@ -1,12 +1,6 @@
 -- Wrong versions of the calls that move words by a rule told word by word, as tables: tiles, cameras, ticks. The right words of an accepted call stand in its
 -- entry, and the test sees that they meet the rule.
-use mathlib.Core.Path.{_≡_, refl, sym, ap, _∙_}
-use mathlib.Core.List.{List, [], _∷_, _++_}
-use Prim.Native.Nat.{ℕ, suc, _+_, _*_, _-_, _/_, _%_, _≤_}
-use native.Mathlib.Omega.{arith}
-use lib.ListN.{length, getD, drop, replicate}
-use lib.Seq.{getD-drop}
-use Rattle.lists.specs.Tab.{upto}
+use Rattle.lists.proofs.Kit.{_≡_, refl, sym, ap, _∙_, List, [], _∷_, _++_, ℕ, suc, _+_, _*_, _-_, _/_, _%_, _≤_, arith, length, getD, drop, replicate, getD-drop, upto}
 use Rattle.layout.specs.Layout.{volume}
 use Rattle.numbers.specs.Gcd.{gcdOf, euclid}
 use Rattle.refusals.specs.FirstOf.{Check, firstOf}

@@ -1,14 +1,6 @@
 -- Wrong versions of the calls that move runs of words and of the turn of a block of chunks, as tables. The right words of a call that is made stand in its
 -- entry, and the test sees that they meet the rule; the turned block is computed.
-use mathlib.Core.Path.{_≡_, refl}
-use mathlib.Core.Bool.{Bool, true, false, cond, _&&_}
-use mathlib.Core.List.{List, [], _∷_}
-use mathlib.Core.Logic.{inl, ⊎-elim}
-use Prim.Native.Nat.{ℕ, suc, _+_, _*_, _≤_}
-use native.Mathlib.Omega.{arith}
-use lib.ListN.{length, getD, drop, replicate}
-use Rattle.lists.specs.Tab.{upto}
-use Rattle.lists.proofs.Test.{both-left, both-right}
+use Rattle.lists.proofs.Kit.{_≡_, refl, Bool, true, false, cond, _&&_, List, [], _∷_, inl, ⊎-elim, ℕ, suc, _+_, _*_, _≤_, arith, length, getD, drop, replicate, upto, both-left, both-right}
 use Rattle.layout.specs.Layout.{volume, at, pick, coords, placeOf, places, laid}
 use Rattle.orders.specs.Chains.{exchange, follow, named}
 use Rattle.moves.specs.Stretch.{Stretch, Traded}

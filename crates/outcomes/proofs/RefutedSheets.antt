@@ -1,9 +1,5 @@
 -- Wrong versions of the sheet readers, the writers and the whole job, as tables. Their promises are equations, so the right outcome is what they say.
-use mathlib.Core.Path.{_≡_, refl, ap, _∙_}
-use mathlib.Core.Bool.{Bool, true, false}
-use mathlib.Core.List.{List, [], _∷_, _++_}
-use Prim.Native.Nat.{ℕ}
-use lib.ListN.{length, take, drop, replicate}
+use Rattle.lists.proofs.Kit.{_≡_, refl, ap, _∙_, Bool, true, false, List, [], _∷_, _++_, ℕ, length, take, drop, replicate}
 use Rattle.layout.specs.Layout.{volume, at, pick, coords, placeOf, places, laid}
 use Rattle.orders.specs.Chains.{exchange, follow, named}
 use Rattle.orders.specs.Numbers.{arrangements, orders, rank, numberOf}

@@ -1,9 +1,6 @@
 -- Both releases about calls of direct requests on r axes: a call that names an order by a number and its release, and a call by that order's number in release 1,
 -- leave the same; only the number in the answer is the one that each was given. From the theorem of crate axes, once over the number of axes.
-use mathlib.Core.Path.{_≡_}
-use mathlib.Core.Bool.{false}
-use mathlib.Core.List.{List}
-use Prim.Native.Nat.{ℕ, _<_}
+use Rattle.lists.proofs.Kit.{_≡_, false, List, ℕ, _<_}
 use Rattle.orders.specs.Numbers.{orderCount}
 use Rattle.orders.specs.Releases.{numberBy}
 use Rattle.refusals.specs.Conditions.{noRelease}

@@ -1,15 +1,6 @@
 -- Result sheets come back: what a writer writes reads back the same, and what the reader accepts is what the writer for its release would write for
 -- those values, byte for byte. First over the promises, then about calls. From the law of accepted result sheets: all calls speak of one text.
-use mathlib.Core.Path.{_≡_, refl, sym, ap, subst, _∙_}
-use mathlib.Core.Bool.{Bool, true, false, cond}
-use mathlib.Core.List.{List, _++_}
-use mathlib.Core.Logic.{_↔_}
-use Prim.Native.Nat.{ℕ, _≤_}
-use native.Mathlib.Omega.{arith}
-use lib.Dec.{eqb}
-use lib.ListN.{length, take, drop}
-use lib.Seq.{take-at, length-take-le}
-use borrow.Author.Tests.{eqb-true, eqb-false, ne-eqb}
+use Rattle.lists.proofs.Kit.{_≡_, refl, sym, ap, subst, _∙_, Bool, true, false, cond, List, _++_, _↔_, ℕ, _≤_, arith, eqb, length, take, drop, take-at, length-take-le, eqb-true, eqb-false, ne-eqb}
 use Rattle.layout.specs.Layout.{volume}
 use Rattle.text.specs.Sheet.{orderNumbers, resultBy}
 use Rattle.text.specs.Right.{SheetNumbers, RightResult}

@@ -1,10 +1,7 @@
 -- What the checker reads of a call from the source is the call as a caller sees it: the arguments at entry, the answer and the slices at exit, by their names.
-use Prim.Native.Nat.{ℕ}
-use native.Mathlib.Omega.{arith}
-use lib.ListN.{take}
+use Rattle.lists.proofs.Kit.{ℕ, arith, take, needs}
 use contract.Lifetimes.{Lfts}
 use denote.Triple.Clauses.{AtExit}
-use borrow.Author.Needs.{needs}
 use borrow.Fn.Kinds.{endedOf, Dens, GoodsP}
 use Rattle.passes.proofs as passes
 use Rattle.strips.proofs as strips

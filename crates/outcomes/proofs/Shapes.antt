@@ -1,15 +1,7 @@
 -- The shapes that promises have, as cases of the tables. Most have one: a number that is the first of the checks; where it is 0, an answer and the right words;
 -- where it is not, a refusal and all as it was. A call's case names its promise, and shows that it has the shape. What is right where nothing is refused is
 -- computed only there.
-use mathlib.Core.Path.{_≡_, refl, ap, subst, _∙_}
-use mathlib.Core.Bool.{Bool, true, not, _&&_}
-use mathlib.Core.List.{List, []}
-use Prim.Native.Nat.{ℕ, zero, suc}
-use native.Mathlib.Omega.{arith}
-use lib.Dec.{T, ltb, nltb→le}
-use lib.ListN.{length}
-use Rattle.lists.specs.Same.{same}
-use Rattle.lists.proofs.Test.{both-left, both-right, same→eq}
+use Rattle.lists.proofs.Kit.{_≡_, refl, ap, subst, _∙_, Bool, true, not, _&&_, List, [], ℕ, zero, suc, arith, T, ltb, nltb→le, length, same, both-left, both-right, same→eq}
 use Rattle.layout.specs.Layout.{volume, Laid, laid}
 use Rattle.orders.specs.Chains.{named}
 use Rattle.orders.proofs.Layouts.{chain-once, chain-laid}

@@ -1,12 +1,5 @@
 -- Facts seen by a computed test: a test, and that the fact holds where it passes. So a right outcome that a table gives is seen to be right.
-use mathlib.Core.Path.{_≡_, refl, sym, subst}
-use mathlib.Core.Bool.{Bool, true, false, not, _&&_, _||_}
-use mathlib.Core.List.{List}
-use Prim.Native.Nat.{ℕ, _<_, _≤_}
-use lib.Dec.{T, eqb, ltb, leb, T-not, eqb→eq, ltb→lt}
-use borrow.Author.Tests.{lt-ltb, le-leb, eq-eqb, ne-eqb}
-use Rattle.lists.specs.Same.{same}
-use Rattle.lists.proofs.Test.{both-left, both-right, below, at-number, same→eq, eq→same}
+use Rattle.lists.proofs.Kit.{_≡_, refl, sym, subst, Bool, true, false, not, _&&_, _||_, List, ℕ, _<_, _≤_, T, eqb, ltb, leb, T-not, eqb→eq, ltb→lt, lt-ltb, le-leb, eq-eqb, ne-eqb, same, both-left, both-right, below, at-number, same→eq, eq→same}
 
 -- a fact with its test
 pub record Tested (P : Type 0) : Type 0 where

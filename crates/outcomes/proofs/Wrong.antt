@@ -1,16 +1,7 @@
 -- Wrong versions as tables. A row names a version, CALL/VERSION, and says what it leaves or answers on one small entry; one computed test over a table shows
 -- that the promise refutes every row of it, and names those that it does not. docs/PROMISES.md cites rows by their names.
-use mathlib.Core.Path.{_≡_, sym, ap, subst, _∙_}
-use mathlib.Core.Bool.{Bool, true, false, cond, not, _&&_}
-use mathlib.Core.List.{List, [], _∷_, List·Memᴰ·not-nil, List·Memᴰ·cases-cons}
-use mathlib.Core.Logic.{⊎-elim}
-use Prim.Native.Nat.{ℕ}
+use Rattle.lists.proofs.Kit.{_≡_, sym, ap, subst, _∙_, Bool, true, false, cond, not, _&&_, List, [], _∷_, List·Memᴰ·not-nil, List·Memᴰ·cases-cons, ⊎-elim, ℕ, arith, T, eqb, T-not, eqb-refl, eqb→eq, length, same, both-left, both-right, eq→same}
 use Prim.Native.String.{String}
-use native.Mathlib.Omega.{arith}
-use lib.Dec.{T, eqb, T-not, eqb-refl, eqb→eq}
-use lib.ListN.{length}
-use Rattle.lists.specs.Same.{same}
-use Rattle.lists.proofs.Test.{both-left, both-right, eq→same}
 use Rattle.refusals.specs.FirstOf.{Check, firstOf}
 use Rattle.refusals.specs.Conditions.{some}
 use Rattle.outcomes.specs.Wrong.{Case, Row, Refutes, Refuted}

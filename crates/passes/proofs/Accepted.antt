@@ -1,11 +1,5 @@
 -- What the calls' checks tell where none holds, and what the block's turn and the cleared scratch are then.
-use mathlib.Core.Path.{_≡_, sym, ap, _∙_}
-use mathlib.Core.List.{List, _++_}
-use Prim.Native.Nat.{ℕ, _+_, _-_}
-use native.Mathlib.Omega.{arith}
-use native.Mathlib.Nat.{le-trans}
-use lib.ListN.{drop, replicate, length-drop}
-use lib.Seq.{ext-getD, getD-drop}
+use Rattle.lists.proofs.Kit.{_≡_, sym, ap, _∙_, List, _++_, ℕ, _+_, _-_, arith, le-trans, drop, replicate, length-drop, ext-getD, getD-drop}
 use Rattle.refusals.specs.FirstOf.{firstOf}
 use Rattle.refusals.specs.Calls.{passesChecks}
 use Rattle.refusals.specs.Scratch.{need, cleared}

@@ -1,13 +1,6 @@
 -- Lines of one pass moved one after the other: T families of Q words at the offsets pos t 0, pos t 1, .., no two families sharing an offset. After t of
 -- them, those before t have moved, the others stand.
-use mathlib.Core.Path.{_≡_, refl, sym, _∙_}
-use mathlib.Core.List.{List}
-use mathlib.Core.Logic.{⊎-elim}
-use Prim.Native.Nat.{ℕ, _+_, _<_}
-use native.Mathlib.Nat.{not-suc-le-zero}
-use native.Mathlib.Omega.{arith}
-use lib.ListN.{getD}
-use Rattle.lists.proofs.Decide.{eq-or-ne}
+use Rattle.lists.proofs.Kit.{_≡_, refl, sym, _∙_, List, ⊎-elim, ℕ, _+_, _<_, not-suc-le-zero, arith, getD, eq-or-ne}
 use Rattle.passes.specs.Lines.{Moved}
 use Rattle.passes.specs.PrivateScratch.{Some}
 

@@ -1,16 +1,6 @@
 -- A loop that stores word k at place `to k`, for k = 0, 1, ..: one store more, and one group of stores more, where no two places are one. The loops over a
 -- line (gather, scatter, put back) are instances.
-use mathlib.Core.Path.{_≡_, refl, sym, ap, _∙_, subst}
-use mathlib.Core.List.{List}
-use mathlib.Core.Logic.{⊎-elim}
-use Prim.Native.Nat.{ℕ, _+_, _*_, _-_, _<_, _≤_}
-use native.Mathlib.Nat.{not-suc-le-zero, le-trans, eq-of-mul-eq-mul-left}
-use native.Mathlib.Omega.{arith}
-use lib.ListN.{length, getD, set, length-set}
-use lib.Dec.{eqb}
-use lib.Seq.{getD-set-same, getD-set-other, ext-getD}
-use borrow.Author.Tests.{eqb-true, eqb-false}
-use Rattle.lists.proofs.Decide.{eq-or-ne, lt-or-ge}
+use Rattle.lists.proofs.Kit.{_≡_, refl, sym, ap, _∙_, subst, List, ⊎-elim, ℕ, _+_, _*_, _-_, _<_, _≤_, not-suc-le-zero, le-trans, eq-of-mul-eq-mul-left, arith, length, getD, set, length-set, eqb, getD-set-same, getD-set-other, ext-getD, eqb-true, eqb-false, eq-or-ne, lt-or-ge}
 use Rattle.orbits.specs.Orbit.{first}
 use Rattle.orbits.proofs.First.{first-holds, first-least}
 use Rattle.stages.proofs.Filled.{filled, length-filled, filled-at, filled-others}

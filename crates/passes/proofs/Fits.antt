@@ -1,14 +1,5 @@
 -- Every line of a block that lies in the buffer fits: its words lie in the buffer, and scratch holds it. And what a line leaves of scratch.
-use mathlib.Core.Path.{_≡_, refl, sym, ap, _∙_, subst}
-use mathlib.Core.List.{List}
-use mathlib.Core.Logic.{⊎-elim}
-use Prim.Native.Nat.{ℕ, _+_, _-_, _<_, _≤_}
-use native.Mathlib.Omega.{arith}
-use native.Mathlib.Nat.{le-trans, mul-le-mul}
-use mathlib.Core.Bool.{Bool, true, false, cond}
-use lib.Dec.{lit<, eqb}
-use lib.ListN.{length}
-use Rattle.lists.proofs.Decide.{lt-or-ge}
+use Rattle.lists.proofs.Kit.{_≡_, refl, sym, ap, _∙_, subst, List, ⊎-elim, ℕ, _+_, _-_, _<_, _≤_, arith, le-trans, mul-le-mul, Bool, true, false, cond, lit<, eqb, length, lt-or-ge}
 use Rattle.refusals.proofs.Scratch.{need-entry}
 use Rattle.refusals.specs.Scratch.{need}
 use Rattle.flat.specs.Turn.{sides}

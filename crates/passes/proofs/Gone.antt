@@ -1,16 +1,6 @@
 -- The lines of a pass, one after the other, whether they receive their words or go home: they share no word, all of them are the pass, and the three passes
 -- are the turn.
-use mathlib.Core.Path.{_≡_, refl, sym, ap, _∙_, subst}
-use mathlib.Core.Bool.{Bool, true, false, cond}
-use mathlib.Core.List.{List}
-use mathlib.Core.Logic.{⊎-elim}
-use Prim.Native.Nat.{ℕ, _+_, _*_, _/_, _%_, _<_, _≤_}
-use native.Mathlib.Omega.{arith}
-use native.Mathlib.Nat.{mul-comm, div-eq-of-lt, add-zero, mod-eq-of-lt}
-use lib.Dec.{eqb}
-use lib.Arith.{digits-div, digits-mod, digits-lt}
-use borrow.Author.Tests.{ne-eqb}
-use Rattle.lists.proofs.Decide.{eq-or-ne}
+use Rattle.lists.proofs.Kit.{_≡_, refl, sym, ap, _∙_, subst, Bool, true, false, cond, List, ⊎-elim, ℕ, _+_, _*_, _/_, _%_, _<_, _≤_, arith, mul-comm, div-eq-of-lt, add-zero, mod-eq-of-lt, eqb, digits-div, digits-mod, digits-lt, ne-eqb, eq-or-ne}
 use Rattle.flat.specs.Turn.{Turn}
 use Rattle.flat.specs.Passes.{columnGroup, row1, column2, row3}
 use Rattle.flat.proofs.Sides.{Sides, sides-are, column2-lt}

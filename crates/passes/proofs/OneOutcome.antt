@@ -1,10 +1,6 @@
 -- Any two outcomes that one promise allows coincide: the number is a function of the entry, two right buffers are equal, and what is
 -- refused or cleared is told by the entry.
-use mathlib.Core.Path.{_≡_, sym, _∙_}
-use mathlib.Core.List.{List}
-use mathlib.Core.Logic.{⊎-elim}
-use Prim.Native.Nat.{ℕ}
-use Rattle.lists.proofs.Decide.{eq-or-ne}
+use Rattle.lists.proofs.Kit.{_≡_, sym, _∙_, List, ⊎-elim, ℕ, eq-or-ne}
 use Rattle.refusals.proofs.Promise.{one-outcome}
 use Rattle.flat.proofs.Turn.{one-turn}
 use Rattle.stages.specs.Stages.{Memory}

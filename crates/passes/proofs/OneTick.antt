@@ -1,10 +1,5 @@
 -- Any two outcomes of a tick coincide: each place of the line receives the word that its pass says, and every other word stands.
-use mathlib.Core.Path.{_≡_, sym, ap₂, _∙_}
-use mathlib.Core.List.{List}
-use mathlib.Core.Logic.{⊎-elim}
-use Prim.Native.Nat.{ℕ, _<_, _≤_}
-use lib.ListN.{getD}
-use Rattle.lists.proofs.Decide.{lt-or-ge, eq-or-ne}
+use Rattle.lists.proofs.Kit.{_≡_, sym, ap₂, _∙_, List, ⊎-elim, ℕ, _<_, _≤_, getD, lt-or-ge, eq-or-ne}
 use Rattle.refusals.specs.FirstOf.{firstOf}
 use Rattle.refusals.specs.Calls.{passesChecks}
 use Rattle.refusals.proofs.Promise.{one-outcome}

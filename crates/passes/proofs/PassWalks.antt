@@ -1,14 +1,6 @@
 -- The walks over the lines of the passes go over the places that the lines receive from, by the laws of crate walks; and where they begin, worked out or
 -- carried on from the line before.
-use mathlib.Core.Path.{_≡_, refl, sym, ap, _∙_, subst}
-use mathlib.Core.Bool.{Bool, cond}
-use mathlib.Core.Logic.{⊎-elim}
-use Prim.Native.Nat.{ℕ, _+_, _*_, _-_, _/_, _%_, _<_, _≤_}
-use native.Mathlib.Omega.{arith}
-use native.Mathlib.Nat.{mod-lt, mod-eq-of-lt, mod-self, zero-mod, mod-add-mod, add-comm, add-zero, add-mul, one-mul, zero-mul, add-mod-right, mul-comm, mul-le-mul, le-mul-of-pos-right, div-eq-of-lt, div-eq-of-lt-le, div-add-mod', div-le-self}
-use lib.Dec.{eqb}
-use Rattle.lists.proofs.Decide.{eq-or-ne}
-use borrow.Author.Tests.{ne-eqb}
+use Rattle.lists.proofs.Kit.{_≡_, refl, sym, ap, _∙_, subst, Bool, cond, ⊎-elim, ℕ, _+_, _*_, _-_, _/_, _%_, _<_, _≤_, arith, mod-lt, mod-eq-of-lt, mod-self, zero-mod, mod-add-mod, add-comm, add-zero, add-mul, one-mul, zero-mul, add-mod-right, mul-comm, mul-le-mul, le-mul-of-pos-right, div-eq-of-lt, div-eq-of-lt-le, div-add-mod', div-le-self, eqb, eq-or-ne, ne-eqb}
 use Rattle.numbers.specs.Gcd.{gcdOf}
 use Rattle.flat.specs.Passes.{rowGroup, columnGroup, row1, source2, row3}
 use Rattle.flat.proofs.Sides.{Sides, sides-are, rows1-apart, rows3-apart}

@@ -1,14 +1,6 @@
 -- The lines of a block turn it: the lines of each pass are a family, so the passes of the block are passes in the sense of
 -- crate flat, and those are the turn.
-use mathlib.Core.Path.{_≡_, refl, sym, ap, _∙_, subst}
-use mathlib.Core.Bool.{Bool, true, false, cond}
-use mathlib.Core.List.{List}
-use Prim.Native.Nat.{ℕ, zero, suc, _+_, _*_, _<_, _≤_}
-use native.Mathlib.Omega.{arith}
-use native.Mathlib.Nat.{mul-one, le-mul-of-pos-right}
-use lib.Dec.{ltb}
-use lib.ListN.{getD}
-use borrow.Author.Tests.{lt-ltb, le-ltb, ltb-false}
+use Rattle.lists.proofs.Kit.{_≡_, refl, sym, ap, _∙_, subst, Bool, true, false, cond, List, ℕ, zero, suc, _+_, _*_, _<_, _≤_, arith, mul-one, le-mul-of-pos-right, ltb, getD, lt-ltb, le-ltb, ltb-false}
 use Rattle.numbers.specs.Gcd.{gcdOf}
 use Rattle.flat.specs.Turn.{Turn}
 use Rattle.flat.specs.Passes.{columnGroup}

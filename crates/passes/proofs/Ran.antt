@@ -1,10 +1,5 @@
 -- Lines run one after the other, forwards or backwards, and cut where a pass ends.
-use mathlib.Core.Path.{_≡_, refl, sym, subst}
-use mathlib.Core.List.{List}
-use mathlib.Core.Logic.{⊎-elim}
-use Prim.Native.Nat.{ℕ, suc, _+_, _<_, _≤_}
-use native.Mathlib.Omega.{arith}
-use native.Mathlib.Nat.{eq-or-lt-of-le, lt-suc-self}
+use Rattle.lists.proofs.Kit.{_≡_, refl, sym, subst, List, ⊎-elim, ℕ, suc, _+_, _<_, _≤_, arith, eq-or-lt-of-le, lt-suc-self}
 use Rattle.passes.specs.Lines.{Moved}
 use Rattle.passes.specs.PrivateScratch.{Some}
 use Rattle.passes.proofs.Family.{Family, some-none, some-more}

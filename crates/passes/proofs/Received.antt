@@ -1,15 +1,6 @@
 -- The places that a line receives its words from: in range and different, and what has received its words has moved as its pass says. Pass 2 sends; since it
 -- permutes the columns, each has one source.
-use mathlib.Core.Path.{_≡_, refl, sym, ap, _∙_, subst}
-use mathlib.Core.Bool.{Bool, true, false, cond}
-use mathlib.Core.List.{List}
-use mathlib.Core.Logic.{⊎-elim}
-use Prim.Native.Nat.{ℕ, zero, suc, _<_}
-use native.Mathlib.Nat.{not-suc-le-zero}
-use lib.Dec.{eqb}
-use lib.ListN.{getD}
-use borrow.Author.Tests.{ne-eqb}
-use Rattle.lists.proofs.Decide.{eq-or-ne}
+use Rattle.lists.proofs.Kit.{_≡_, refl, sym, ap, _∙_, subst, Bool, true, false, cond, List, ⊎-elim, ℕ, zero, suc, _<_, not-suc-le-zero, eqb, getD, ne-eqb, eq-or-ne}
 use Rattle.orbits.specs.Orbit.{iter, Permutes}
 use Rattle.orbits.proofs.Orbit.{comes-home, iter-within}
 use Rattle.flat.specs.Passes.{row1, column2, source2, row3}

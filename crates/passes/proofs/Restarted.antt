@@ -1,14 +1,7 @@
 -- Restart: a mapped turn begun at progress 0, stopped in any way that keeps the order of stages and gone on with, leaves the flat turn once a budget is
 -- enough. Its stages can be begun again, and uncut they move the lines of the turn one after the other. A call with any budget is such a stop, and a
 -- budget of 10,000,000 is enough from every stage on.
-use mathlib.Core.Path.{_≡_, refl, sym, ap, _∙_, subst}
-use mathlib.Core.List.{List}
-use mathlib.Core.Logic.{⊎-elim}
-use Prim.Native.Nat.{ℕ, suc, _+_, _*_, _<_, _≤_}
-use native.Mathlib.Omega.{arith}
-use native.Mathlib.Nat.{eq-of-mul-eq-mul-left}
-use lib.ListN.{length}
-use Rattle.lists.proofs.Decide.{eq-or-ne}
+use Rattle.lists.proofs.Kit.{_≡_, refl, sym, ap, _∙_, subst, List, ⊎-elim, ℕ, suc, _+_, _*_, _<_, _≤_, arith, eq-of-mul-eq-mul-left, length, eq-or-ne}
 use Rattle.refusals.specs.FirstOf.{firstOf}
 use Rattle.refusals.specs.Calls.{blockChecks, passesChecks}
 use Rattle.refusals.specs.Scratch.{cleared}

@@ -1,13 +1,6 @@
 -- The outcomes of a call of the mapped turn: refused by the flat call's checks or by 23, or its stages have gone on. The checks of the flat
 -- turn come first, so 23 decides where they are passed.
-use mathlib.Core.Path.{_≡_, refl, sym, _∙_}
-use mathlib.Core.Bool.{cond}
-use mathlib.Core.List.{List, [], _∷_}
-use mathlib.Core.Logic.{⊎-elim}
-use Prim.Native.Nat.{ℕ, _+_, _*_, _<_, _≤_}
-use native.Mathlib.Omega.{arith}
-use borrow.Author.Tests.{lt-ltb, le-ltb}
-use Rattle.lists.proofs.Decide.{lt-or-ge}
+use Rattle.lists.proofs.Kit.{_≡_, refl, sym, _∙_, cond, List, [], _∷_, ⊎-elim, ℕ, _+_, _*_, _<_, _≤_, arith, lt-ltb, le-ltb, lt-or-ge}
 use Rattle.refusals.specs.FirstOf.{check, firstOf}
 use Rattle.refusals.specs.Calls.{passesChecks}
 use Rattle.refusals.proofs.FirstOf.{refused-by, passed-first, through}

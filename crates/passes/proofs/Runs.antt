@@ -1,13 +1,5 @@
 -- Runs of a line into scratch: the numbers fit, a run that does not come round is a copy, and a line that was lifted and put back has moved.
-use mathlib.Core.Path.{_≡_, sym, ap, _∙_}
-use mathlib.Core.Bool.{Bool, true, false}
-use mathlib.Core.List.{List}
-use mathlib.Core.Logic.{⊎-elim}
-use Prim.Native.Nat.{ℕ, _+_, _*_, _-_, _<_, _≤_}
-use native.Mathlib.Nat.{mul-le-mul, mul-le-mul-left, mul-add, mul-assoc, mul-one}
-use native.Mathlib.Omega.{arith}
-use lib.ListN.{length, getD}
-use Rattle.lists.proofs.Decide.{lt-or-ge}
+use Rattle.lists.proofs.Kit.{_≡_, sym, ap, _∙_, Bool, true, false, List, ⊎-elim, ℕ, _+_, _*_, _-_, _<_, _≤_, mul-le-mul, mul-le-mul-left, mul-add, mul-assoc, mul-one, arith, length, getD, lt-or-ge}
 use Rattle.walks.proofs.Steps.{walk-straight}
 use Rattle.passes.specs.Lines.{Moved, posOn}
 use Rattle.passes.specs.PrivateScratch.{Apart, Lain, Filled, Past, goesTo, comesFrom}

@@ -1,12 +1,6 @@
 -- What the functions of a mapped turn store is what its stages say: the words of a line into scratch, back, or the zeros, up to any word.
 -- A line that fits has its places apart, so the loops' outcome is the list stored into one word after the other.
-use mathlib.Core.Path.{_≡_, sym, ap, _∙_}
-use mathlib.Core.List.{List, _++_}
-use Prim.Native.Nat.{ℕ, _+_, _*_, _/_, _%_, _<_, _≤_}
-use native.Mathlib.Omega.{arith}
-use native.Mathlib.Nat.{eq-of-mul-eq-mul-left, div-lt-iff-lt-mul, le-trans}
-use lib.ListN.{length, getD, take, drop}
-use borrow.Author.Tests.{lt-ltb, le-ltb}
+use Rattle.lists.proofs.Kit.{_≡_, sym, ap, _∙_, List, _++_, ℕ, _+_, _*_, _/_, _%_, _<_, _≤_, arith, eq-of-mul-eq-mul-left, div-lt-iff-lt-mul, le-trans, length, getD, take, drop, lt-ltb, le-ltb}
 use Rattle.refusals.specs.Scratch.{need, cleared}
 use Rattle.flat.specs.Turn.{sides}
 use Rattle.stages.specs.Stages.{Memory, after}

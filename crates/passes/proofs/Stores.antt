@@ -1,12 +1,6 @@
 -- How many stores a mapped turn makes at most, from any stage on: its stages come in blocks of one size (two for each column of pass 1, each
 -- row of pass 2, each column of pass 3, and the clearing), and a block pays for each of its stages.
-use mathlib.Core.Path.{_≡_, sym, ap, _∙_}
-use mathlib.Core.Logic.{⊎-elim}
-use Prim.Native.Nat.{ℕ, suc, _+_, _*_, _-_, _/_, _<_, _≤_}
-use native.Mathlib.Omega.{arith}
-use native.Mathlib.Nat.{mul-comm, mul-le-mul-right}
-use lib.ListN.{length}
-use Rattle.lists.proofs.Decide.{lt-or-ge}
+use Rattle.lists.proofs.Kit.{_≡_, sym, ap, _∙_, ⊎-elim, ℕ, suc, _+_, _*_, _-_, _/_, _<_, _≤_, arith, mul-comm, mul-le-mul-right, length, lt-or-ge}
 use Rattle.refusals.specs.Conditions.{longest}
 use Rattle.refusals.specs.Scratch.{need}
 use Rattle.flat.specs.Turn.{sides}

@@ -1,8 +1,5 @@
 -- A turn and its reverse, either one first, restore every word. Each call has its own scratch, any that is enough.
-use mathlib.Core.Path.{_≡_, refl, sym, _∙_}
-use mathlib.Core.List.{List}
-use Prim.Native.Nat.{ℕ, _≤_}
-use lib.ListN.{length}
+use Rattle.lists.proofs.Kit.{_≡_, refl, sym, _∙_, List, ℕ, _≤_, length}
 use Rattle.refusals.specs.FirstOf.{firstOf}
 use Rattle.refusals.specs.Calls.{blockChecks, passesChecks}
 use Rattle.refusals.specs.Scratch.{need}

@@ -1,11 +1,6 @@
 -- The outcomes of a tick: refused by the flat call's checks or by 12, one line moved and scratch cleared, or none left. The checks of the
 -- flat turn come first, so 12 decides where they are passed; a line that is left fits, as it does in the whole turn.
-use mathlib.Core.Path.{_≡_, refl, sym, _∙_}
-use mathlib.Core.Bool.{cond}
-use mathlib.Core.List.{List, [], _∷_}
-use Prim.Native.Nat.{ℕ, _+_, _<_, _≤_}
-use native.Mathlib.Omega.{arith}
-use borrow.Author.Tests.{lt-ltb, le-ltb}
+use Rattle.lists.proofs.Kit.{_≡_, refl, sym, _∙_, cond, List, [], _∷_, ℕ, _+_, _<_, _≤_, arith, lt-ltb, le-ltb}
 use Rattle.refusals.specs.FirstOf.{check, firstOf}
 use Rattle.refusals.specs.Calls.{sizeChecks, passesChecks}
 use Rattle.refusals.specs.Scratch.{need, cleared}

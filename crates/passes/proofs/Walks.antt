@@ -1,13 +1,7 @@
 -- Walks, whatever they go over: a step, a run of steps, the end of a run; what each step keeps holds all along; groups of one place are one group.
-use mathlib.Core.Path.{_≡_, sym, ap, ap₂, _∙_, subst}
-use mathlib.Core.Logic.{_⊎_, inl, inr, ⊎-elim}
-use Prim.Native.Nat.{ℕ, zero, suc, _+_, _-_, _%_, _<_, _≤_}
-use native.Mathlib.Omega.{arith}
-use native.Mathlib.Numerals.{add-one}
-use borrow.Author.Tests.{eq-eqb, ne-eqb}
+use Rattle.lists.proofs.Kit.{_≡_, sym, ap, ap₂, _∙_, subst, _⊎_, inl, inr, ⊎-elim, ℕ, zero, suc, _+_, _-_, _%_, _<_, _≤_, arith, add-one, eq-eqb, ne-eqb, eq-or-ne}
 use Rattle.walks.specs.PrivateWalk.{walk}
 use Rattle.walks.proofs.Steps.{walk-start, walk-more, walk-lt}
-use Rattle.lists.proofs.Decide.{eq-or-ne}
 use Rattle.passes.specs.PrivateWalks.{begun, arrived, stepped, onward, stands, placeAt, Low, Walks, Follows, Ahead, steps, RunFits}
 use Rattle.passes.specs.declared.walk.Place.{Place}
 use Rattle.passes.specs.declared.walk.Walk.{Walk}

@@ -1,11 +1,6 @@
 -- What makes the promise of a plan, over r axes: an order number above the last is refused, and of any other the falling pairs are counted and that many swaps computed, which
 -- fit into the ten places; and what it tells: the number is one of the orders', and the plan is the computed one, since an order has one plan.
-use mathlib.Core.Path.{_≡_, refl, sym, ap, ap₂, _∙_}
-use mathlib.Core.List.{List, _++_}
-use Prim.Native.Nat.{ℕ, _-_, _<_, _≤_}
-use native.Mathlib.Omega.{arith}
-use lib.ListN.{length, replicate}
-use borrow.Author.Tests.{lt-ltb}
+use Rattle.lists.proofs.Kit.{_≡_, refl, sym, ap, ap₂, _∙_, List, _++_, ℕ, _-_, _<_, _≤_, arith, length, replicate, lt-ltb}
 use Rattle.orders.specs.Numbers.{orderCount, orderOf}
 use Rattle.orders.specs.Plans.{falling, planned, planOf, planPlaces}
 use Rattle.orders.proofs.Chains.{length-named}

@@ -1,8 +1,5 @@
 -- The promise of a plan leaves one outcome: any two that it allows coincide. Where it is given it is the order's plan; where it is refused, its number and zeros.
-use mathlib.Core.Path.{_≡_, sym, ap, _∙_}
-use mathlib.Core.Logic.{⊎-elim}
-use Prim.Native.Nat.{ℕ}
-use Rattle.lists.proofs.Decide.{eq-or-ne}
+use Rattle.lists.proofs.Kit.{_≡_, sym, ap, _∙_, ⊎-elim, ℕ, eq-or-ne}
 use Rattle.plans.specs.declared.Planned.{Planned}
 use Rattle.plans.specs.Promise.{noPlan, PlanPromise}
 use Rattle.plans.proofs.Given.{the-plan}

@@ -1,19 +1,6 @@
 -- What the loops of the plan carry, over an order of r axes: after k places, what is known and what the rest decides. Each loop has a record,
 -- and laws for its begin, one place more and its end: the equations of the definition at place k.
-use mathlib.Core.Path.{_≡_, refl, sym, ap, ap₂, _∙_}
-use mathlib.Core.Bool.{Bool, true, false, cond}
-use mathlib.Core.List.{List, _∷_, _++_, map, append-nil}
-use Prim.Native.Nat.{ℕ, zero, suc, _+_, _-_, _*_, _<_, _≤_}
-use native.Mathlib.Nat.{sub-zero, zero-sub, suc-sub-suc, mul-add, mul-one}
-use native.Mathlib.Numerals.{add-one}
-use native.Mathlib.Omega.{arith}
-use lib.Dec.{ltb}
-use lib.ListN.{length, getD, drop, set, replicate, length-map, length-drop, length-replicate}
-use lib.Seq.{getD-drop, drop-drop}
-use borrow.Author.Tests.{lt-ltb, le-ltb}
-use Rattle.lists.specs.Tab.{tab}
-use Rattle.lists.proofs.Tab.{tab-more, map-tab, tab-getD, overlaid-rest, overlaid-length}
-use Rattle.lists.proofs.Front.{drop-next, drop-end}
+use Rattle.lists.proofs.Kit.{_≡_, refl, sym, ap, ap₂, _∙_, Bool, true, false, cond, List, _∷_, _++_, map, append-nil, ℕ, zero, suc, _+_, _-_, _*_, _<_, _≤_, sub-zero, zero-sub, suc-sub-suc, mul-add, mul-one, add-one, arith, ltb, length, getD, drop, set, replicate, length-map, length-drop, length-replicate, getD-drop, drop-drop, lt-ltb, le-ltb, tab, tab-more, map-tab, tab-getD, overlaid-rest, overlaid-length, drop-next, drop-end}
 use Rattle.layout.specs.Layout.{placeOf}
 use Rattle.orders.specs.Plans.{under, falling, relabelled, firstBack, planned}
 use Rattle.orders.proofs.Counts.{place-here, place-past}

@@ -1,12 +1,6 @@
 -- A table with one row made of each row of another: the row at a place is made of the other's row at that place. By induction on the rows. And past the last
 -- order there is none.
-use mathlib.Core.Path.{_≡_, refl, ap, _∙_}
-use mathlib.Core.Bool.{Bool, true, false, cond}
-use mathlib.Core.List.{List, [], _∷_, map}
-use Prim.Native.Nat.{ℕ, zero, suc, _+_, _*_, _<_, _≤_}
-use native.Mathlib.Nat.{not-suc-le-zero, le-of-suc-le-suc}
-use lib.Dec.{eqb}
-use lib.ListN.{length, getD, List·getD-eq-default}
+use Rattle.lists.proofs.Kit.{_≡_, refl, ap, _∙_, Bool, true, false, cond, List, [], _∷_, map, ℕ, zero, suc, _+_, _*_, _<_, _≤_, not-suc-le-zero, le-of-suc-le-suc, eqb, length, getD, List·getD-eq-default}
 use Rattle.layout.specs.Layout.{placeOf, places}
 use Rattle.orders.specs.Chains.{exchange}
 use Rattle.orders.specs.Numbers.{arrangements, orders, orderCount, orderOf, rank, numberOf}

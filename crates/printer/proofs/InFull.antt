@@ -1,11 +1,5 @@
 -- A text written or not: what the answer and the bytes are where the number refuses, and where it is 0. From the definitions.
-use mathlib.Core.Path.{_≡_, ap, _∙_}
-use mathlib.Core.List.{List, _++_}
-use Prim.Native.Nat.{ℕ, _+_, _≤_}
-use native.Mathlib.Omega.{arith}
-use lib.ListN.{length, drop}
-use lib.Seq.{sets-eq}
-use borrow.Author.Tests.{ne-eqb}
+use Rattle.lists.proofs.Kit.{_≡_, ap, _∙_, List, _++_, ℕ, _+_, _≤_, arith, length, drop, sets-eq, ne-eqb}
 use Rattle.printer.specs.declared.Written.{Written}
 use Rattle.printer.specs.PrivateBytes.{Put}
 use Rattle.printer.specs.Writer.{nothingWritten, written, writtenTo}

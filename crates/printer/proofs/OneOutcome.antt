@@ -1,8 +1,6 @@
 -- Any two outcomes that one promise allows coincide: of the writers of result sheets and of the writer of a refusal. From the equations that the
 -- promises are.
-use mathlib.Core.Path.{_≡_, sym, _∙_}
-use mathlib.Core.List.{List}
-use Prim.Native.Nat.{ℕ}
+use Rattle.lists.proofs.Kit.{_≡_, sym, _∙_, List, ℕ}
 use Rattle.printer.specs.declared.Written.{Written}
 use Rattle.printer.specs.Writer.{WrittenAs, ReleaseWrittenAs}
 use Rattle.printer.specs.RefusalWriter.{RefusalWrittenAs}

@@ -1,12 +1,5 @@
 -- The lines of a result sheet one behind the other, and their lengths added. By induction on the rows and on the numbers.
-use mathlib.Core.Path.{_≡_, refl, sym, ap, _∙_}
-use mathlib.Core.Bool.{Bool, true, false, cond}
-use mathlib.Core.List.{List, [], _∷_, _++_, append-assoc}
-use Prim.Native.Nat.{ℕ, zero, suc, _+_, _-_, _*_, _<_, _≤_}
-use native.Mathlib.Omega.{arith}
-use lib.Dec.{eqb}
-use lib.ListN.{length, take, drop, getD, length-append}
-use lib.Seq.{drop-drop, take-add, take-all}
+use Rattle.lists.proofs.Kit.{_≡_, refl, sym, ap, _∙_, Bool, true, false, cond, List, [], _∷_, _++_, append-assoc, ℕ, zero, suc, _+_, _-_, _*_, _<_, _≤_, arith, eqb, length, take, drop, getD, length-append, drop-drop, take-add, take-all}
 use Rattle.layout.specs.Layout.{volume}
 use Rattle.text.specs.Print.{lineFeed, decimal, field, fields, line}
 use Rattle.text.specs.Sheet.{shapeWord, orderWord, rowWord, rowCount, rowWidth, rowsText, orderNumbers, resultBy}

@@ -1,14 +1,7 @@
 -- Texts put one behind the other: what is left to be put leads to the whole. From the law of runs of stores.
-use mathlib.Core.Path.{_≡_, refl, sym, ap, _∙_}
-use mathlib.Core.List.{List, [], _∷_, _++_, append-nil}
-use Prim.Native.Nat.{ℕ, _+_, _-_, _<_, _≤_}
-use native.Mathlib.Omega.{arith}
-use native.Mathlib.Numerals.{add-one}
-use lib.ListN.{length, set, drop, getD, length-append, length-set, drop-of-length-le}
-use lib.Seq.{sets, length-sets}
+use Rattle.lists.proofs.Kit.{_≡_, refl, sym, ap, _∙_, List, [], _∷_, _++_, append-nil, ℕ, _+_, _-_, _<_, _≤_, arith, add-one, length, set, drop, getD, length-append, length-set, drop-of-length-le, sets, length-sets, drop-next, drop-end}
 use Rattle.text.specs.Print.{tabByte, decimal, field, fields}
 use Rattle.printer.specs.PrivateBytes.{Room, Put}
-use Rattle.lists.proofs.Front.{drop-next, drop-end}
 use Rattle.text.proofs.Stores.{sets-append}
 
 -- what is left, put at p, is the whole text, put at `at`, and the whole text has room

@@ -1,10 +1,5 @@
 -- The line of a refusal: its length, its form, and what its writer promises. From the laws of lines.
-use mathlib.Core.Path.{_≡_, refl, ap, _∙_}
-use mathlib.Core.List.{List, [], _∷_}
-use Prim.Native.Nat.{ℕ, _+_, _<_, _≤_}
-use native.Mathlib.Omega.{arith}
-use lib.ListN.{length}
-use borrow.Author.Tests.{lt-ltb, le-ltb}
+use Rattle.lists.proofs.Kit.{_≡_, refl, ap, _∙_, List, [], _∷_, ℕ, _+_, _<_, _≤_, arith, length, lt-ltb, le-ltb}
 use Rattle.text.specs.Print.{fields, line}
 use Rattle.text.specs.Sheet.{refusedWord, refusalText}
 use Rattle.text.proofs.Length.{length-line}

@@ -1,15 +1,6 @@
 -- The digits of a number from the last one on: how many they are, and what is left to be put once the last is put.
 -- By induction on the digits.
-use mathlib.Core.Path.{_≡_, refl, ap, _∙_}
-use mathlib.Core.List.{List, [], _∷_, _++_}
-use mathlib.Core.Logic.{⊎-elim}
-use Prim.Native.Nat.{ℕ, zero, suc, _+_, _-_, _*_, _/_, _%_, _^_, _<_, _≤_}
-use native.Mathlib.Omega.{arith}
-use native.Mathlib.Numerals.{add-one}
-use lib.ListN.{length, set, length-append}
-use lib.Seq.{sets, set-comm}
-use borrow.Author.Tests.{lt-ltb, le-ltb}
-use Rattle.lists.proofs.Decide.{lt-or-ge}
+use Rattle.lists.proofs.Kit.{_≡_, refl, ap, _∙_, List, [], _∷_, _++_, ⊎-elim, ℕ, zero, suc, _+_, _-_, _*_, _/_, _%_, _^_, _<_, _≤_, arith, add-one, length, set, length-append, sets, set-comm, lt-ltb, le-ltb, lt-or-ge}
 use Rattle.text.specs.Print.{limit, digits, decimal}
 use Rattle.text.proofs.Numbers.{decimal-one, decimal-digit}
 use Rattle.text.proofs.Stores.{sets-append}

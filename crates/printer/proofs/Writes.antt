@@ -1,13 +1,6 @@
 -- The writers of result sheets: what they promise on each way out. Both check the block, then the numbers of their second line, then the room for the
 -- text: the laws are over the checks of those numbers. From the definitions.
-use mathlib.Core.Path.{_≡_, sym, _∙_}
-use mathlib.Core.Bool.{false}
-use mathlib.Core.List.{List, [], _∷_, _++_}
-use Prim.Native.Nat.{ℕ, _<_, _≤_}
-use native.Mathlib.Omega.{arith}
-use lib.ListN.{length}
-use lib.Dec.{T, lit<}
-use borrow.Author.Tests.{lt-ltb, le-ltb, ltb-false}
+use Rattle.lists.proofs.Kit.{_≡_, sym, _∙_, false, List, [], _∷_, _++_, ℕ, _<_, _≤_, arith, length, T, lit<, lt-ltb, le-ltb, ltb-false}
 use Rattle.layout.specs.Layout.{volume}
 use Rattle.refusals.specs.FirstOf.{Check, check, firstOf, refusing}
 use Rattle.refusals.specs.Conditions.{badLength, shortBuffer, noOrder, noRelease}

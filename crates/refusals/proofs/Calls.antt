@@ -1,11 +1,6 @@
 -- Five lists of checks whose laws callers use: 0 exactly when none of the conditions holds. And the checks of a block before the room in scratch: where the
 -- block is refused, and where scratch decides.
-use mathlib.Core.List.{List, [], _∷_}
-use mathlib.Core.Logic.{_↔_}
-use mathlib.Core.Path.{_≡_, sym, _∙_}
-use Prim.Native.Nat.{ℕ, _<_, _≤_}
-use lib.ListN.{length}
-use borrow.Author.Tests.{lt-ltb, le-ltb}
+use Rattle.lists.proofs.Kit.{List, [], _∷_, _↔_, _≡_, sym, _∙_, ℕ, _<_, _≤_, length, lt-ltb, le-ltb}
 use Rattle.refusals.specs.FirstOf.{Check, check, firstOf, Silent}
 use Rattle.refusals.specs.Conditions.{shortScratch}
 use Rattle.refusals.specs.Calls.{blockChecks, passesChecks, recursionChecks, chainChecks, requestChecks, planChecks, namedChecks}

@@ -1,13 +1,5 @@
 -- What a condition that does not hold tells: lengths in range, enough words, enough scratch, one of the orders.
-use mathlib.Core.Path.{_≡_, refl}
-use mathlib.Core.Bool.{Bool, true, false, cond}
-use mathlib.Core.List.{List, [], _∷_, _++_}
-use Prim.Native.Nat.{ℕ, _*_, _-_, _<_, _≤_}
-use native.Mathlib.Nat.{pos-of-ne-zero, le-antisymm, mul-pos}
-use native.Mathlib.Omega.{arith}
-use lib.Dec.{ltb, eqb, lit<}
-use lib.ListN.{length, getD}
-use borrow.Author.Tests.{ltb-false, eqb-false, ne-eqb, lt-ltb, le-ltb}
+use Rattle.lists.proofs.Kit.{_≡_, refl, Bool, true, false, cond, List, [], _∷_, _++_, ℕ, _*_, _-_, _<_, _≤_, pos-of-ne-zero, le-antisymm, mul-pos, arith, ltb, eqb, lit<, length, getD, ltb-false, eqb-false, ne-eqb, lt-ltb, le-ltb}
 use Rattle.layout.specs.Layout.{volume}
 use Rattle.orders.specs.Numbers.{orderCount}
 use Rattle.orders.proofs.Distinct.{count-pos}

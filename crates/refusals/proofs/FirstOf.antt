@@ -1,14 +1,6 @@
 -- The laws of `firstOf`: it is 0 exactly when no condition holds, and k exactly when k's condition holds and none before
 -- it does. By induction on the list of checks, of which no number is 0: that is computed.
-use mathlib.Core.Path.{_≡_, refl, sym, ap, _∙_}
-use mathlib.Core.Bool.{Bool, true, false, cond}
-use mathlib.Core.List.{List, [], _∷_, _++_}
-use mathlib.Core.Logic.{_↔_, ⊎-elim}
-use Prim.Native.Nat.{ℕ, _<_}
-use native.Mathlib.Omega.{arith}
-use lib.Dec.{T, ltb, ltb→lt}
-use Rattle.lists.proofs.Decide.{decided, eq-or-ne}
-use Rattle.lists.proofs.Test.{both-left, both-right}
+use Rattle.lists.proofs.Kit.{_≡_, refl, sym, ap, _∙_, Bool, true, false, cond, List, [], _∷_, _++_, _↔_, ⊎-elim, ℕ, _<_, arith, T, ltb, ltb→lt, decided, eq-or-ne, both-left, both-right}
 use Rattle.refusals.specs.FirstOf.{Check, firstOf, refusing, Silent, First, Exactly}
 
 pub silent-zero : {cs : List Check} → Silent cs → firstOf cs ≡ 0

@@ -1,15 +1,7 @@
 -- Scratch. What callers use of `need`: no axis is longer, a swap needs what a flat block with the sides of its axes needs, and no chain needs more
 -- than the longest axis. These laws and the code that measures an axis are all that opens its definition. And what clearing scratch
 -- leaves: as many words, those past it, and what clearing it twice comes to.
-use mathlib.Core.Path.{_≡_, refl, ap, _∙_}
-use mathlib.Core.List.{List, [], _∷_, _++_}
-use mathlib.Core.Logic.{⊎-elim}
-use Prim.Native.Nat.{ℕ, zero, suc, _+_, _-_, _<_, _≤_, zero-le, max}
-use native.Mathlib.Nat.{not-suc-le-zero, le-of-suc-le-suc, max-zero, max-le, max-eq-left, max-eq-right}
-use native.Mathlib.Omega.{arith}
-use lib.ListN.{length, getD, drop, replicate, length-append, length-replicate, length-drop}
-use lib.Seq.{drop-drop, drop-append-add}
-use Rattle.lists.proofs.Decide.{lt-or-ge}
+use Rattle.lists.proofs.Kit.{_≡_, refl, ap, _∙_, List, [], _∷_, _++_, ⊎-elim, ℕ, zero, suc, _+_, _-_, _<_, _≤_, zero-le, max, not-suc-le-zero, le-of-suc-le-suc, max-zero, max-le, max-eq-left, max-eq-right, arith, length, getD, drop, replicate, length-append, length-replicate, length-drop, drop-drop, drop-append-add, lt-or-ge}
 use Rattle.orders.specs.Needs.{swapNeed, chainNeed}
 use Rattle.orders.proofs.Needs.{exchanged-two, need-at-entry, entryNeed}
 use Rattle.refusals.specs.Conditions.{longest}

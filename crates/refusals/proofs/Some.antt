@@ -1,13 +1,6 @@
 -- A test over the entries of a list: what it says from one entry on, what it says of each entry, and where the first entry is at which
 -- it holds. From the definitions of `some` and `firstPlace`, by induction on the list.
-use mathlib.Core.Path.{_≡_, refl}
-use mathlib.Core.Bool.{Bool, true, false, cond, _||_}
-use mathlib.Core.List.{List, [], _∷_}
-use Prim.Native.Nat.{ℕ, zero, suc, _+_, _<_, _≤_}
-use native.Mathlib.Nat.{not-suc-le-zero, le-of-suc-le-suc}
-use native.Mathlib.Omega.{arith}
-use lib.ListN.{length, drop, getD}
-use Rattle.lists.proofs.Front.{drop-next, drop-end}
+use Rattle.lists.proofs.Kit.{_≡_, refl, Bool, true, false, cond, _||_, List, [], _∷_, ℕ, zero, suc, _+_, _<_, _≤_, not-suc-le-zero, le-of-suc-le-suc, arith, length, drop, getD, drop-next, drop-end}
 use Rattle.refusals.specs.Conditions.{some, firstPlace}
 
 pub either-false : (a b : Bool) → (a || b) ≡ false → (a ≡ false) × (b ≡ false)

@@ -1,14 +1,6 @@
 -- The adjacent swap: what its checks tell where none holds, and that any two outcomes that its promise allows coincide, because a chain of one
 -- swap names its order and the outcome of a chain is one.
-use mathlib.Core.Path.{_≡_, refl, _∙_}
-use mathlib.Core.Bool.{false, _||_}
-use mathlib.Core.List.{List, [], _∷_, _++_}
-use Prim.Native.Nat.{ℕ, _*_, _<_, _≤_}
-use native.Mathlib.Nat.{pos-of-ne-zero}
-use native.Mathlib.Omega.{arith}
-use lib.Dec.{eqb, lit<}
-use lib.ListN.{length}
-use borrow.Author.Tests.{ltb-false, eqb-false}
+use Rattle.lists.proofs.Kit.{_≡_, refl, _∙_, false, _||_, List, [], _∷_, _++_, ℕ, _*_, _<_, _≤_, pos-of-ne-zero, arith, eqb, lit<, length, ltb-false, eqb-false}
 use Rattle.layout.specs.Layout.{volume, Laid}
 use Rattle.orders.specs.Chains.{named, follow, exchange}
 use Rattle.orders.proofs.Layouts.{chain-once}

@@ -1,11 +1,6 @@
 -- The whole sheet from its steps, whatever its second line is: the first step that refuses is the outcome, and where none does the
 -- sheet is accepted; what the function that both readers call then promises; and what each of the readers makes of it. From the definitions.
-use mathlib.Core.Path.{_≡_, refl, sym, ap, _∙_}
-use mathlib.Core.List.{List, [], _∷_, _++_}
-use Prim.Native.Nat.{ℕ, _+_, _<_, _≤_}
-use native.Mathlib.Omega.{arith}
-use lib.ListN.{length, drop, getD}
-use lib.Seq.{sets-eq}
+use Rattle.lists.proofs.Kit.{_≡_, refl, sym, ap, _∙_, List, [], _∷_, _++_, ℕ, _+_, _<_, _≤_, arith, length, drop, getD, sets-eq}
 use Rattle.blocks.specs.Private.{OnSheet}
 use Rattle.text.specs.Sheet.{rowCount, rowWidth}
 use Rattle.text.specs.Meaning.{Verdict, Outcome, shapeLine, chainLine, orderLine, rowLines, meaningBy}

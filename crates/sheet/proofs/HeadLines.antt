@@ -1,13 +1,5 @@
 -- Lines 1 and 2, way out by way out: what each condition that holds, and none before it, makes of the step. From the definitions.
-use mathlib.Core.Path.{_≡_, refl, sym, ap, ap₂, _∙_}
-use mathlib.Core.Bool.{Bool, true, false, cond, not}
-use mathlib.Core.List.{List, [], _∷_, _++_}
-use Prim.Native.Nat.{ℕ, zero, suc, _+_, _-_, _<_, _≤_}
-use native.Mathlib.Omega.{arith}
-use lib.Dec.{ltb, eqb}
-use lib.ListN.{length, take, drop, replicate}
-use lib.Seq.{take-at}
-use borrow.Author.Tests.{not-true, not-false, lt-ltb, le-ltb}
+use Rattle.lists.proofs.Kit.{_≡_, refl, sym, ap, ap₂, _∙_, Bool, true, false, cond, not, List, [], _∷_, _++_, ℕ, zero, suc, _+_, _-_, _<_, _≤_, arith, ltb, eqb, length, take, drop, replicate, take-at, not-true, not-false, lt-ltb, le-ltb}
 use Rattle.refusals.specs.FirstOf.{check, firstOf}
 use Rattle.refusals.specs.Conditions.{badLength, shortBuffer, noSwap, badSwap, noOrder, firstPlace}
 use Rattle.refusals.proofs.Some.{found-place, no-place}

@@ -1,23 +1,10 @@
 -- Words, tabs and lines at a place of the bytes: what the byte at the place says of what is read there, and the ways out of reading a
 -- line. From the definitions.
-use mathlib.Core.Path.{_≡_, sym, ap, _∙_}
-use mathlib.Core.Bool.{Bool, true, false, not, _&&_}
-use mathlib.Core.List.{List, _∷_}
-use mathlib.Core.Logic.{⊎-elim}
-use Prim.Native.Nat.{ℕ, suc, _+_, _-_, _<_, _≤_}
-use native.Mathlib.Omega.{arith}
-use lib.Dec.{T, eqb}
-use lib.ListN.{length, take, drop, getD, length-take, length-drop, drop-of-length-le, List·getD-eq-default}
-use lib.Seq.{drop-drop, drop-length}
-use borrow.Author.Tests.{not-true, not-false, eq-eqb, ne-eqb}
-use Rattle.lists.specs.Same.{same}
-use Rattle.lists.proofs.Test.{same→eq}
-use Rattle.lists.proofs.Decide.{decided, lt-or-ge}
+use Rattle.lists.proofs.Kit.{_≡_, sym, ap, _∙_, Bool, true, false, not, _&&_, List, _∷_, ⊎-elim, ℕ, suc, _+_, _-_, _<_, _≤_, arith, T, eqb, length, take, drop, getD, length-take, length-drop, drop-of-length-le, List·getD-eq-default, drop-drop, drop-length, not-true, not-false, eq-eqb, ne-eqb, same, same→eq, decided, lt-or-ge, drop-next}
 use Rattle.text.specs.Print.{tabByte, lineFeed}
 use Rattle.text.specs.Read.{Reading, after, readFields, closed, readLine, tabs}
 use Rattle.text.proofs.Lines.{after-found, closed-found}
 use Rattle.sheet.specs.Private.{At, numbersOf}
-use Rattle.lists.proofs.Front.{drop-next}
 use Rattle.sheet.proofs.Places.{at-found, at-none}
 use Rattle.sheet.proofs.Runs.{got}
 

@@ -1,14 +1,6 @@
 -- Reading at a place of the bytes: one byte more of a number, and what is read at a place by the byte that stands there.
 -- From the definitions, the bytes dropped to a place being the byte there and the bytes dropped to the next.
-use mathlib.Core.Path.{_≡_, _∙_}
-use mathlib.Core.Bool.{Bool, true, false}
-use mathlib.Core.List.{List}
-use Prim.Native.Nat.{ℕ, _+_, _-_, _*_, _<_, _≤_}
-use native.Mathlib.Omega.{arith}
-use lib.Dec.{leb}
-use lib.ListN.{length, drop, getD, drop-of-length-le}
-use borrow.Author.Tests.{le-ltb, lt-ltb, le-leb, lt-leb, ne-eqb}
-use Rattle.lists.proofs.Front.{drop-next}
+use Rattle.lists.proofs.Kit.{_≡_, _∙_, Bool, true, false, List, ℕ, _+_, _-_, _*_, _<_, _≤_, arith, leb, length, drop, getD, drop-of-length-le, le-ltb, lt-ltb, le-leb, lt-leb, ne-eqb, drop-next}
 use Rattle.text.specs.Print.{limit, tabByte}
 use Rattle.text.specs.Read.{Reading, isDigit, readMore, readNumber, readField}
 use Rattle.text.proofs.Numbers.{both-true}

@@ -1,10 +1,6 @@
 -- Exactly when each reader answers a number other than 0, and with which place: one condition a number, every step before it in the reading order having
 -- gone on. From the exact laws of refused sheets, since the answer to a refusal is its number and place, and the answer to any other sheet is 0.
-use mathlib.Core.Path.{_≡_, refl, sym, ap, ap₂, _∙_}
-use mathlib.Core.List.{List}
-use mathlib.Core.Logic.{_↔_}
-use Prim.Native.Nat.{ℕ, _<_}
-use native.Mathlib.Omega.{arith}
+use Rattle.lists.proofs.Kit.{_≡_, refl, sym, ap, ap₂, _∙_, List, _↔_, ℕ, _<_, arith}
 use Rattle.text.specs.Meaning.{Outcome, meaning, resultMeaning}
 use Rattle.text.specs.Refused.{Refused, RefusedResult}
 use Rattle.text.proofs.Refused.{refused-exactly, refused-result-exactly}

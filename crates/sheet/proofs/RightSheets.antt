@@ -1,9 +1,5 @@
 -- The reader's number is 0 exactly when the bytes are the text of what it answers. From the law of accepted sheets.
-use mathlib.Core.Path.{_≡_, refl, ap, _∙_}
-use mathlib.Core.List.{List, _++_}
-use Prim.Native.Nat.{ℕ}
-use native.Mathlib.Omega.{arith}
-use lib.ListN.{length, drop}
+use Rattle.lists.proofs.Kit.{_≡_, refl, ap, _∙_, List, _++_, ℕ, arith, length, drop}
 use Rattle.text.specs.Meaning.{Outcome, meaning}
 use Rattle.text.specs.Right.{Right}
 use Rattle.text.proofs.SecondLines.{accepted-exactly}

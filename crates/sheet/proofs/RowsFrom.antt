@@ -1,15 +1,6 @@
 -- Rows from a line on: one row more, a wrong row, the end of the rows; and what is stored of them. From the definitions, the count
 -- of rows left going down by one.
-use mathlib.Core.Path.{_≡_, refl, sym, ap, _∙_}
-use mathlib.Core.Bool.{Bool, true, false, not}
-use mathlib.Core.List.{List, [], _∷_, _++_, append-assoc}
-use Prim.Native.Nat.{ℕ, suc, _+_, _-_, _<_, _≤_}
-use native.Mathlib.Omega.{arith}
-use lib.ListN.{length, drop, getD, drop-of-length-le}
-use lib.Seq.{sets}
-use mathlib.Core.Logic.{⊎-elim}
-use Rattle.lists.proofs.Decide.{lt-or-ge}
-use borrow.Author.Tests.{not-true, not-false}
+use Rattle.lists.proofs.Kit.{_≡_, refl, sym, ap, _∙_, Bool, true, false, not, List, [], _∷_, _++_, append-assoc, ℕ, suc, _+_, _-_, _<_, _≤_, arith, length, drop, getD, drop-of-length-le, sets, ⊎-elim, lt-or-ge, not-true, not-false, drop-next}
 use Rattle.text.specs.Print.{lineFeed}
 use Rattle.text.specs.Read.{Reading, readFields, readLine}
 use Rattle.text.specs.Sheet.{rowWord, rowCount, rowWidth}
@@ -17,7 +8,6 @@ use Rattle.text.specs.Meaning.{Verdict, behind, ended, rowLines}
 use Rattle.text.proofs.Lines.{fields-text}
 use Rattle.text.proofs.Steps.{behind-go}
 use Rattle.sheet.specs.Private.{At, RowsAt, RowsThere, RowsTaken, There, wordsOf, numbersOf}
-use Rattle.lists.proofs.Front.{drop-next}
 use Rattle.sheet.proofs.LinesAt.{line-fields}
 
 rows-right : {what : Verdict} {ws : List ℕ} → what ≡ Verdict.go ws [] → RowsAt what 0

@@ -1,15 +1,6 @@
 -- A run of fields, one field more or none: what a loop over fields carries. By induction on the fields read so far.
-use mathlib.Core.Path.{_≡_, refl, sym, ap, _∙_}
-use mathlib.Core.List.{List, [], _∷_, _++_}
-use Prim.Native.Nat.{ℕ, zero, suc, _+_, _<_}
-use native.Mathlib.Omega.{arith}
-use native.Mathlib.Nat.{le-of-suc-le-suc}
-use native.Mathlib.Numerals.{add-one}
-use lib.ListN.{drop}
-use mathlib.Core.Bool.{Bool, false, true, not}
-use borrow.Author.Tests.{not-true, not-false}
+use Rattle.lists.proofs.Kit.{_≡_, refl, sym, ap, _∙_, List, [], _∷_, _++_, ℕ, zero, suc, _+_, _<_, arith, le-of-suc-le-suc, add-one, drop, Bool, false, true, not, not-true, not-false, decided}
 use Rattle.text.specs.Read.{Reading, after, readField, readFields}
-use Rattle.lists.proofs.Decide.{decided}
 use Rattle.text.proofs.Lines.{after-found}
 use Rattle.sheet.specs.Private.{At, There, numbersOf}
 use Rattle.sheet.proofs.Places.{at-none}

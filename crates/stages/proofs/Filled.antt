@@ -1,16 +1,5 @@
 -- Stores in rising place into one list, and what the list then holds: by induction over how many they are.
-use mathlib.Core.Path.{_≡_, refl, sym, ap, _∙_}
-use mathlib.Core.List.{List, [], _∷_, _++_}
-use mathlib.Core.Logic.{⊎-elim}
-use Prim.Native.Nat.{ℕ, zero, suc, _+_, _<_, _≤_, min}
-use native.Mathlib.Omega.{arith}
-use native.Mathlib.Numerals.{add-one}
-use native.Mathlib.Nat.{not-suc-le-zero, eq-or-lt-of-le, min-eq-left, min-eq-right}
-use lib.ListN.{length, getD, set, take, drop, length-append, length-set}
-use lib.Seq.{take-all, take-append-le, getD-set-same, getD-set-other}
-use Rattle.lists.specs.Tab.{tab}
-use Rattle.lists.proofs.Tab.{tab-more}
-use Rattle.lists.proofs.Decide.{lt-or-ge, eq-or-ne}
+use Rattle.lists.proofs.Kit.{_≡_, refl, sym, ap, _∙_, List, [], _∷_, _++_, ⊎-elim, ℕ, zero, suc, _+_, _<_, _≤_, min, arith, add-one, not-suc-le-zero, eq-or-lt-of-le, min-eq-left, min-eq-right, length, getD, set, take, drop, length-append, length-set, take-all, take-append-le, getD-set-same, getD-set-other, tab, tab-more, lt-or-ge, eq-or-ne}
 use Rattle.stages.specs.Stages.{Memory, Store, withBuffer, withScratch, put, after}
 use Rattle.stages.specs.Stages.Store.{toBuffer, toScratch}
 use Rattle.stages.specs.Lines.{each}

@@ -1,17 +1,6 @@
 -- The stages of lines can be begun again: a stage that lifts or clears reads the buffer alone and stores into scratch alone,
 -- one that returns the other way round.
-use mathlib.Core.Path.{_≡_, refl, ap, _∙_}
-use mathlib.Core.Bool.{Bool, true, false, cond}
-use mathlib.Core.List.{List, [], _∷_, _++_}
-use mathlib.Core.Logic.{⊎-elim}
-use Prim.Native.Nat.{ℕ, zero, suc, _*_, _/_, _%_, _<_, _≤_, min}
-use native.Mathlib.Omega.{arith}
-use native.Mathlib.Nat.{not-suc-le-zero}
-use lib.Dec.{ltb, eqb}
-use lib.ListN.{length, getD, take, List·getD-append}
-use lib.Seq.{getD-append-seam}
-use borrow.Author.Tests.{lt-ltb, le-ltb, eq-eqb, ne-eqb}
-use Rattle.lists.proofs.Decide.{lt-or-ge}
+use Rattle.lists.proofs.Kit.{_≡_, refl, ap, _∙_, Bool, true, false, cond, List, [], _∷_, _++_, ⊎-elim, ℕ, zero, suc, _*_, _/_, _%_, _<_, _≤_, min, arith, not-suc-le-zero, ltb, eqb, length, getD, take, List·getD-append, getD-append-seam, lt-ltb, le-ltb, eq-eqb, ne-eqb, lt-or-ge}
 use Rattle.stages.specs.Stages.{Memory, Store, withBuffer, withScratch, after}
 use Rattle.stages.specs.Stages.Store.{toBuffer, toScratch, toProgress}
 use Rattle.stages.specs.Stops.{intoBuffer, intoScratch, Without, Torn}

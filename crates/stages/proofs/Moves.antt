@@ -1,12 +1,5 @@
 -- The stages of lines, uncut: every line has moved, one after the other, and scratch is cleared.
-use mathlib.Core.Path.{_≡_, refl, sym, ap, ap₂, _∙_, subst}
-use mathlib.Core.List.{List, _∷_, _++_}
-use Prim.Native.Nat.{ℕ, zero, suc, _+_, _*_, _/_, _%_, _<_, _≤_}
-use native.Mathlib.Omega.{arith}
-use lib.Arith.{digits-div, digits-mod}
-use lib.ListN.{length, getD, drop, replicate}
-use lib.Seq.{drop-set-lt}
-use Rattle.lists.specs.Tab.{tab}
+use Rattle.lists.proofs.Kit.{_≡_, refl, sym, ap, ap₂, _∙_, subst, List, _∷_, _++_, ℕ, zero, suc, _+_, _*_, _/_, _%_, _<_, _≤_, arith, digits-div, digits-mod, length, getD, drop, replicate, drop-set-lt, tab}
 use Rattle.stages.specs.Stages.{Memory, Store, withBuffer, withScratch, put, after, stage, remaining, call, finish, run}
 use Rattle.stages.specs.Stages.Store.{toProgress}
 use Rattle.stages.specs.Lines.{Lines, lifting, returning, stagesOf}

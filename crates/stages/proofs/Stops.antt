@@ -1,12 +1,6 @@
 -- Stops of which the order of stages alone is kept are made good: a stage would store the same words again whatever stands at its own places, and then
 -- overwrites all of them. A call that its budget stops is such a stop.
-use mathlib.Core.Path.{_≡_, refl, sym, ap, ap₂, _∙_, subst}
-use mathlib.Core.List.{List, [], _∷_, _++_}
-use mathlib.Core.Logic.{⊎-elim}
-use Prim.Native.Nat.{ℕ, suc, _+_, _-_, _<_, _≤_}
-use native.Mathlib.Omega.{arith}
-use lib.ListN.{length, length-append}
-use Rattle.lists.proofs.Decide.{lt-or-ge}
+use Rattle.lists.proofs.Kit.{_≡_, refl, sym, ap, ap₂, _∙_, subst, List, [], _∷_, _++_, ⊎-elim, ℕ, suc, _+_, _-_, _<_, _≤_, arith, length, length-append, lt-or-ge}
 use Rattle.stages.specs.Stages.{Memory, Store, after, Stages, wordsNow, stage, remaining, call, finish}
 use Rattle.stages.specs.Stages.Store.{toProgress}
 use Rattle.stages.specs.Stops.{Torn, Stop, Stops}

@@ -1,15 +1,5 @@
 -- A memory torn at the places of some stores: the stores, made, overwrite all of it; and some first ones of them leave it so.
-use mathlib.Core.Path.{_≡_, refl, sym, ap, ap₂, _∙_}
-use mathlib.Core.Bool.{Bool, false}
-use mathlib.Core.List.{List, [], _∷_}
-use mathlib.Core.Logic.{⊎-elim}
-use Prim.Native.Nat.{ℕ, zero, suc, _<_, _≤_, suc-le-suc}
-use native.Mathlib.Omega.{arith}
-use native.Mathlib.Nat.{not-suc-le-zero, le-of-suc-le-suc}
-use lib.ListN.{length, getD, set, take, length-set, List·getD-eq-default}
-use lib.Seq.{ext-getD, getD-set-same, getD-set-other}
-use borrow.Author.Tests.{eqb-false, ne-eqb}
-use Rattle.lists.proofs.Decide.{lt-or-ge, eq-or-ne}
+use Rattle.lists.proofs.Kit.{_≡_, refl, sym, ap, ap₂, _∙_, Bool, false, List, [], _∷_, ⊎-elim, ℕ, zero, suc, _<_, _≤_, suc-le-suc, arith, not-suc-le-zero, le-of-suc-le-suc, length, getD, set, take, length-set, List·getD-eq-default, ext-getD, getD-set-same, getD-set-other, eqb-false, ne-eqb, lt-or-ge, eq-or-ne}
 use Rattle.stages.specs.Stages.{Memory, Store, put, after, Stages}
 use Rattle.stages.specs.Stages.Store.{toBuffer, toScratch, toProgress}
 use Rattle.stages.specs.Stops.{intoBuffer, intoScratch, Without, Torn}

@@ -1,14 +1,6 @@
 -- The sizes of strips: a tile takes 8 to 64 lines, the long side is cut in as many lines and a rest, and what is left over, the tiles and the marks have room.
-use mathlib.Core.Path.{_≡_, refl, ap, subst, _∙_}
-use mathlib.Core.List.{List, _++_}
-use mathlib.Core.Logic.{_⊎_, inl, inr, ⊎-elim}
-use Prim.Native.Nat.{ℕ, _+_, _*_, _-_, _/_, _%_, _<_, _≤_}
-use native.Mathlib.Nat.{mod-lt, div-add-mod', div-lt-iff-lt-mul, mul-le-mul, mul-le-mul-right, le-mul-of-pos-right, mul-pos}
-use native.Mathlib.Omega.{arith}
-use lib.ListN.{length, getD, take, drop, replicate, length-replicate}
-use lib.Seq.{length-take-le}
+use Rattle.lists.proofs.Kit.{_≡_, refl, ap, subst, _∙_, List, _++_, _⊎_, inl, inr, ⊎-elim, ℕ, _+_, _*_, _-_, _/_, _%_, _<_, _≤_, mod-lt, div-add-mod', div-lt-iff-lt-mul, mul-le-mul, mul-le-mul-right, le-mul-of-pos-right, mul-pos, arith, length, getD, take, drop, replicate, length-replicate, length-take-le, lt-or-ge}
 use borrow.Rule.Slice.PartMut.{midOf, mid-len}
-use Rattle.lists.proofs.Decide.{lt-or-ge}
 use Rattle.grids.specs.Promises.{Turnable}
 use Rattle.halves.proofs.Parts.{whole}
 use Rattle.strips.specs.PrivateBounds.{Held, From, Lines, Strip, Narrow}

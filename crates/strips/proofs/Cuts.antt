@@ -1,12 +1,5 @@
 -- The sizes of large blocks: a side cut in strips of 32 to 64 words or in halves, the strips, the marks of their grid and the lines left over have room.
-use mathlib.Core.Path.{_≡_, ap, subst, _∙_}
-use mathlib.Core.List.{List}
-use mathlib.Core.Logic.{_⊎_, inl, inr, ⊎-elim}
-use Prim.Native.Nat.{ℕ, _+_, _*_, _-_, _/_, _%_, _<_, _≤_}
-use native.Mathlib.Nat.{div-add-mod', div-lt-iff-lt-mul, mod-lt, mul-le-mul, mul-le-mul-left, mul-le-mul-right, le-mul-of-pos-right, mul-pos}
-use native.Mathlib.Omega.{arith}
-use lib.ListN.{length}
-use Rattle.lists.proofs.Decide.{lt-or-ge}
+use Rattle.lists.proofs.Kit.{_≡_, ap, subst, _∙_, List, _⊎_, inl, inr, ⊎-elim, ℕ, _+_, _*_, _-_, _/_, _%_, _<_, _≤_, div-add-mod', div-lt-iff-lt-mul, mod-lt, mul-le-mul, mul-le-mul-left, mul-le-mul-right, le-mul-of-pos-right, mul-pos, arith, length, lt-or-ge}
 use Rattle.grids.specs.Promises.{Turnable}
 use Rattle.strips.specs.PrivateBounds.{From, Waiting, Narrow, Thin, Cut, Large}
 use Rattle.grids.specs.Grids.{GridTurned}

@@ -1,13 +1,5 @@
 -- Words apart from one another, filled one by one: those that are passed hold their values, every other one stands.
-use mathlib.Core.Path.{_≡_, refl, sym, ap, _∙_}
-use mathlib.Core.List.{List}
-use mathlib.Core.Logic.{⊎-elim}
-use Prim.Native.Nat.{ℕ, _+_, _*_, _<_, _≤_}
-use native.Mathlib.Nat.{mul-le-mul-right, add-mul, one-mul}
-use native.Mathlib.Omega.{arith}
-use lib.ListN.{length, getD, set, length-set}
-use lib.Seq.{getD-set-same, getD-set-other}
-use Rattle.lists.proofs.Decide.{eq-or-ne}
+use Rattle.lists.proofs.Kit.{_≡_, refl, sym, ap, _∙_, List, ⊎-elim, ℕ, _+_, _*_, _<_, _≤_, mul-le-mul-right, add-mul, one-mul, arith, length, getD, set, length-set, getD-set-same, getD-set-other, eq-or-ne}
 use Rattle.strips.specs.PrivateMoves.{Scattered}
 
 -- the words that are passed are filled

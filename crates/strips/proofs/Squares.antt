@@ -1,13 +1,6 @@
 -- A square turned across its diagonal: row by row, each element before the diagonal trades places with the one that mirrors it. After i rows the elements of the
 -- first i rows and columns stand turned, and the others stand where they stood.
-use mathlib.Core.Path.{_≡_, refl, sym, ap, _∙_}
-use mathlib.Core.List.{List}
-use mathlib.Core.Logic.{_⊎_, inl, inr, ⊎-elim}
-use Prim.Native.Nat.{ℕ, _+_, _*_, _/_, _%_, _<_, _≤_}
-use native.Mathlib.Omega.{arith}
-use lib.Arith.{digits-div, digits-mod, digits-lt}
-use lib.ListN.{length, getD}
-use Rattle.lists.proofs.Decide.{eq-or-ne, lt-or-ge}
+use Rattle.lists.proofs.Kit.{_≡_, refl, sym, ap, _∙_, List, _⊎_, inl, inr, ⊎-elim, ℕ, _+_, _*_, _/_, _%_, _<_, _≤_, arith, digits-div, digits-mod, digits-lt, length, getD, eq-or-ne, lt-or-ge}
 use Rattle.moves.specs.Stretch.{Outside, Traded}
 use Rattle.grids.specs.Grids.{GridTurned}
 use Rattle.strips.specs.PrivateBounds.{Square}

@@ -1,15 +1,7 @@
 -- A small block is lifted into the tile, its rows apart, and written back row by row or column by column: column j of the tile is the stretch of m words
 -- from j·m on. Blocks so turned one after the other, each a part of the buffer, are the layout whose two axes in the middle are exchanged.
-use mathlib.Core.Path.{_≡_, refl, sym, ap, ap₂, _∙_}
-use mathlib.Core.Logic.{⊎-elim}
-use mathlib.Core.List.{List}
-use Prim.Native.Nat.{ℕ, _+_, _*_, _-_, _/_, _%_, _<_, _≤_}
-use native.Mathlib.Nat.{zero-mul, mul-comm, mul-le-mul-right, add-mul, one-mul, le-mul-of-pos-right}
-use native.Mathlib.Omega.{arith}
-use lib.Arith.{digits-div, digits-mod, digits-lt}
-use lib.ListN.{length, getD}
+use Rattle.lists.proofs.Kit.{_≡_, refl, sym, ap, ap₂, _∙_, ⊎-elim, List, ℕ, _+_, _*_, _-_, _/_, _%_, _<_, _≤_, zero-mul, mul-comm, mul-le-mul-right, add-mul, one-mul, le-mul-of-pos-right, arith, digits-div, digits-mod, digits-lt, length, getD, eq-or-ne}
 use borrow.Rule.Slice.PartMut.{midOf, putMid, mid-len}
-use Rattle.lists.proofs.Decide.{eq-or-ne}
 use Rattle.halves.proofs.Blocks.{laid-turned, part-turned, TurnedTo, turned-more, all-turned}
 use Rattle.moves.specs.Stretch.{Stretch}
 use Rattle.strips.specs.PrivateMoves.{Scattered, RowsOut, Lifted}

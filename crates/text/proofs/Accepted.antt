@@ -1,14 +1,7 @@
 -- A sheet is accepted exactly when its bytes are the text of lengths, numbers of a second line and words that pass the checks, and
 -- those are the ones answered; whatever the second line is, if it is read exactly where its text stands. Each step of the meaning is
 -- taken apart by the laws of steps, each line by the law of lines.
-use mathlib.Core.Path.{_≡_, sym, ap, _∙_}
-use mathlib.Core.Bool.{Bool, false}
-use mathlib.Core.List.{List, [], _∷_, _++_}
-use mathlib.Core.Logic.{_↔_}
-use Prim.Native.Nat.{ℕ, _≤_}
-use native.Mathlib.Omega.{arith}
-use lib.ListN.{length}
-use borrow.Author.Tests.{ltb-false, le-ltb}
+use Rattle.lists.proofs.Kit.{_≡_, sym, ap, _∙_, Bool, false, List, [], _∷_, _++_, _↔_, ℕ, _≤_, arith, length, ltb-false, le-ltb}
 use Rattle.layout.specs.Layout.{volume}
 use Rattle.refusals.specs.Conditions.{some, outOfRange, badLength, shortBuffer}
 use Rattle.text.specs.Print.{limit, line}

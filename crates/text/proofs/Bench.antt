@@ -1,9 +1,6 @@
 -- The definitions computed at small cases: a number printed and read, leading zeros, the limit, a line and its tabs, sheets and result
 -- sheets. By computation.
-use mathlib.Core.Path.{_≡_, refl}
-use mathlib.Core.List.{List, [], _∷_, _++_}
-use Prim.Native.Nat.{ℕ}
-use lib.ListN.{replicate}
+use Rattle.lists.proofs.Kit.{_≡_, refl, List, [], _∷_, _++_, ℕ, replicate}
 use Rattle.text.specs.Print.{digits, decimal, field, fields, line}
 use Rattle.text.specs.Read.{Reading, readMore, readNumber, readField, readFields, closed, readLine, tabs}
 use Rattle.layout.specs.Layout.{volume}

@@ -1,12 +1,6 @@
 -- A refusal's number is 1 to 24 and its place fits a number of a sheet, so that its line can be written. The places are 0, a line
 -- number, at most the rows and 3, or the place of a swap in a chain of at most 32.
-use mathlib.Core.Path.{_≡_, refl}
-use mathlib.Core.Bool.{Bool, true, false, cond}
-use mathlib.Core.List.{List, [], _∷_}
-use Prim.Native.Nat.{ℕ, zero, suc, _+_, _<_, _≤_}
-use native.Mathlib.Omega.{arith}
-use lib.ListN.{length}
-use borrow.Author.Tests.{ltb-false}
+use Rattle.lists.proofs.Kit.{_≡_, refl, Bool, true, false, cond, List, [], _∷_, ℕ, zero, suc, _+_, _<_, _≤_, arith, length, ltb-false}
 use Rattle.refusals.specs.Conditions.{badLength, shortBuffer, longChain, badSwap, noSwap, noOrder, firstPlace}
 use Rattle.text.specs.Print.{limit}
 use Rattle.text.specs.Read.{Reading, readLine, tabs}

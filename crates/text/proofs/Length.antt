@@ -1,16 +1,6 @@
 -- The result sheet of at most 1,024 words has at most 16,384 bytes: a number has at most ten digits, a row at least one word.
 -- By induction on the numbers and on the rows.
-use mathlib.Core.Path.{_≡_, ap, _∙_}
-use mathlib.Core.Bool.{Bool, true, false, cond}
-use mathlib.Core.List.{List, [], _∷_, _++_}
-use mathlib.Core.Logic.{⊎-elim}
-use Prim.Native.Nat.{ℕ, zero, suc, _+_, _-_, _*_, _/_, _%_, _<_, _≤_}
-use native.Mathlib.Omega.{arith}
-use native.Mathlib.Nat.{mul-le-mul-left}
-use lib.Dec.{eqb}
-use lib.ListN.{length, take, drop, length-append, length-take}
-use borrow.Author.Tests.{lt-ltb, le-ltb}
-use Rattle.lists.proofs.Decide.{lt-or-ge}
+use Rattle.lists.proofs.Kit.{_≡_, ap, _∙_, Bool, true, false, cond, List, [], _∷_, _++_, ⊎-elim, ℕ, zero, suc, _+_, _-_, _*_, _/_, _%_, _<_, _≤_, arith, mul-le-mul-left, eqb, length, take, drop, length-append, length-take, lt-ltb, le-ltb, lt-or-ge}
 use Rattle.layout.specs.Layout.{volume}
 use Rattle.refusals.specs.Conditions.{badLength}
 use Rattle.text.specs.Print.{lineFeed, digits, decimal, field, fields, line}

@@ -1,14 +1,6 @@
 -- A number is read exactly where its decimal stands. Printing goes by the last digit and reading by the first, so both are
 -- taken to one law: the decimal of v * 10 + d is that of v and the digit d. By induction on the digits and on the bytes.
-use mathlib.Core.Path.{_≡_, refl, sym, ap, _∙_}
-use mathlib.Core.Bool.{Bool, true, false, cond, _&&_}
-use mathlib.Core.List.{List, [], _∷_, _++_, append-assoc}
-use mathlib.Core.Logic.{⊎-elim}
-use Prim.Native.Nat.{ℕ, zero, suc, _+_, _-_, _*_, _/_, _%_, _^_, _<_, _≤_}
-use native.Mathlib.Omega.{arith}
-use lib.Dec.{ltb, leb, eqb}
-use borrow.Author.Tests.{ltb-false, leb-true, leb-false, eqb-true, eqb-false, lt-ltb, le-ltb, le-leb, ne-eqb}
-use Rattle.lists.proofs.Decide.{decided, lt-or-ge}
+use Rattle.lists.proofs.Kit.{_≡_, refl, sym, ap, _∙_, Bool, true, false, cond, _&&_, List, [], _∷_, _++_, append-assoc, ⊎-elim, ℕ, zero, suc, _+_, _-_, _*_, _/_, _%_, _^_, _<_, _≤_, arith, ltb, leb, eqb, ltb-false, leb-true, leb-false, eqb-true, eqb-false, lt-ltb, le-ltb, le-leb, ne-eqb, decided, lt-or-ge}
 use Rattle.text.specs.Print.{limit, digits, decimal}
 use Rattle.text.specs.Read.{Reading, isDigit, readMore, readNumber}
 

@@ -1,14 +1,6 @@
 -- Exactly when a sheet is refused, with which number and at which place, for both readers: one constructor a number, with its condition and with what
 -- every step before it in the reading order let through. Each step of the meaning by cases, one way and back; the rows by induction on their count.
-use mathlib.Core.Path.{_≡_, refl, sym, ap, _∙_}
-use mathlib.Core.Bool.{Bool, true, false, cond, _||_}
-use mathlib.Core.List.{List, [], _∷_, _++_}
-use mathlib.Core.Logic.{_↔_, _⊎_, inl, inr, ⊎-elim}
-use Prim.Native.Nat.{ℕ, zero, suc, _<_}
-use native.Mathlib.Omega.{arith}
-use lib.Dec.{eqb}
-use lib.ListN.{length, getD}
-use borrow.Author.Tests.{ltb-true, ltb-false, lt-ltb, le-ltb, eqb-true, eqb-false}
+use Rattle.lists.proofs.Kit.{_≡_, refl, sym, ap, _∙_, Bool, true, false, cond, _||_, List, [], _∷_, _++_, _↔_, _⊎_, inl, inr, ⊎-elim, ℕ, zero, suc, _<_, arith, eqb, length, getD, ltb-true, ltb-false, lt-ltb, le-ltb, eqb-true, eqb-false}
 use Rattle.layout.specs.Layout.{volume}
 use Rattle.refusals.specs.Conditions.{some, badLength, shortBuffer, longChain, noSwap, badSwap, noOrder, noRelease, firstPlace}
 use Rattle.text.specs.Print.{line}

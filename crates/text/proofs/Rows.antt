@@ -1,11 +1,5 @@
 -- Rows are read exactly where their text stands, with nothing after them. By induction on the count of rows, each by the law of lines.
-use mathlib.Core.Path.{_≡_, refl, sym, ap, _∙_}
-use mathlib.Core.List.{List, [], _∷_, _++_}
-use Prim.Native.Nat.{ℕ, zero, suc, _+_, _-_, _*_, _<_, _≤_}
-use native.Mathlib.Omega.{arith}
-use native.Mathlib.Nat.{mul-assoc}
-use lib.ListN.{length, take, drop, getD, length-append, length-drop, take-append-drop}
-use lib.Seq.{take-add, take-at, drop-at, length-take-le}
+use Rattle.lists.proofs.Kit.{_≡_, refl, sym, ap, _∙_, List, [], _∷_, _++_, ℕ, zero, suc, _+_, _-_, _*_, _<_, _≤_, arith, mul-assoc, length, take, drop, getD, length-append, length-drop, take-append-drop, take-add, take-at, drop-at, length-take-le}
 use Rattle.layout.specs.Layout.{volume}
 use Rattle.text.specs.Print.{limit, line}
 use Rattle.text.specs.Read.{readLine}

@@ -1,15 +1,6 @@
 -- The second line of a sheet and that of a result sheet are read exactly where their text stands; so a sheet is accepted exactly when it
 -- is the text of what it is answered with, and so is a result sheet. From the law of lines and the law of accepted sheets.
-use mathlib.Core.Path.{_≡_, refl, sym, ap, subst, _∙_}
-use mathlib.Core.Bool.{Bool, true, false, cond}
-use mathlib.Core.List.{List, [], _∷_, _++_}
-use mathlib.Core.Logic.{_↔_}
-use Prim.Native.Nat.{ℕ, zero, suc, _≤_}
-use native.Mathlib.Omega.{arith}
-use lib.Dec.{T, eqb}
-use lib.ListN.{length}
-use borrow.Author.Tests.{ltb-false, le-ltb, eqb-true, eqb-false, ne-eqb}
-use Rattle.lists.proofs.Decide.{decided}
+use Rattle.lists.proofs.Kit.{_≡_, refl, sym, ap, subst, _∙_, Bool, true, false, cond, List, [], _∷_, _++_, _↔_, ℕ, zero, suc, _≤_, arith, T, eqb, length, ltb-false, le-ltb, eqb-true, eqb-false, ne-eqb, decided}
 use Rattle.refusals.specs.Conditions.{longChain, noSwap, badSwap, noOrder, noRelease, firstPlace}
 use Rattle.text.specs.Print.{limit, line}
 use Rattle.text.specs.Read.{readLine, tabs}

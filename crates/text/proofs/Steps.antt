@@ -1,9 +1,5 @@
 -- What a step that went on says of the steps it was made of: each went on, and no condition on the way held. By cases on the step.
-use mathlib.Core.Path.{_≡_, refl, sym, ap}
-use mathlib.Core.Bool.{Bool, true, false}
-use mathlib.Core.List.{List, [], _∷_, _++_}
-use Prim.Native.Nat.{ℕ}
-use native.Mathlib.Omega.{arith}
+use Rattle.lists.proofs.Kit.{_≡_, refl, sym, ap, Bool, true, false, List, [], _∷_, _++_, ℕ, arith}
 use Rattle.text.specs.Read.{Reading}
 use Rattle.text.specs.Meaning.{Verdict, Outcome, refuseIf, onLine, onward, behind, conclude, ended}
 

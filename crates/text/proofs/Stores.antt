@@ -1,11 +1,5 @@
 -- Stores of several numbers in a row, and numbers followed by zeros. By induction on the numbers.
-use mathlib.Core.Path.{_≡_, sym, ap, _∙_}
-use mathlib.Core.List.{List, [], _∷_, _++_}
-use Prim.Native.Nat.{ℕ, suc, _+_, _-_, _<_}
-use native.Mathlib.Omega.{arith}
-use native.Mathlib.Nat.{add-zero}
-use lib.ListN.{length, set, replicate}
-use lib.Seq.{sets, set-at, append-snoc}
+use Rattle.lists.proofs.Kit.{_≡_, sym, ap, _∙_, List, [], _∷_, _++_, ℕ, suc, _+_, _-_, _<_, arith, add-zero, length, set, replicate, sets, set-at, append-snoc}
 
 pub sets-append : (l : List ℕ) (i : ℕ) (us vs : List ℕ) → sets l i (us ++ vs) ≡ sets (sets l i us) (i + length us) vs
 sets-append l i [] vs = rw (add-zero i)

@@ -1,7 +1,5 @@
 -- Any two outcomes that the promise of a step allows coincide: a step is a tick, whose outcomes coincide, and its record is the lines done.
-use mathlib.Core.Path.{_≡_, ap}
-use mathlib.Core.List.{List}
-use Prim.Native.Nat.{ℕ}
+use Rattle.lists.proofs.Kit.{_≡_, ap, List, ℕ}
 use Rattle.passes.specs.declared.Ticked.{Ticked}
 use Rattle.passes.proofs.OneTick.{tick-once}
 use Rattle.ticks.specs.declared.LineRecord.{LineRecord}

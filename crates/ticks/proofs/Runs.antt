@@ -1,15 +1,7 @@
 -- Any run of calls from a record at 0, by one induction over the calls: the lines named so far have moved, one after the other, so that after k
 -- accepted calls the record is the smaller of k and the line count, and at the line count the buffer holds the flat turn; a call after
 -- that changes neither. A player may stop and go on whenever it likes.
-use mathlib.Core.Path.{_≡_, refl, sym, ap, _∙_, subst}
-use mathlib.Core.List.{List}
-use mathlib.Core.Logic.{_↔_, ⊎-elim}
-use Prim.Native.Nat.{ℕ, suc, _+_, _<_, _≤_, min}
-use native.Mathlib.Nat.{not-suc-le-zero}
-use native.Mathlib.Omega.{arith}
-use lib.ListN.{length}
-use borrow.Author.Tests.{lt-ltb, le-ltb}
-use Rattle.lists.proofs.Decide.{lt-or-ge, eq-or-ne}
+use Rattle.lists.proofs.Kit.{_≡_, refl, sym, ap, _∙_, subst, List, _↔_, ⊎-elim, ℕ, suc, _+_, _<_, _≤_, min, not-suc-le-zero, arith, length, lt-ltb, le-ltb, lt-or-ge, eq-or-ne}
 use Rattle.refusals.specs.FirstOf.{firstOf}
 use Rattle.refusals.specs.Calls.{passesChecks}
 use Rattle.flat.specs.Turn.{sides, Turn}

@@ -1,13 +1,5 @@
 -- What the checks of a conversion tell where none holds, and which check answers where one does.
-use mathlib.Core.Path.{_≡_, sym, _∙_}
-use mathlib.Core.Bool.{true, false, cond}
-use mathlib.Core.List.{List, [], _∷_, _++_}
-use Prim.Native.Nat.{ℕ, _*_, _<_, _≤_}
-use native.Mathlib.Nat.{pos-of-ne-zero}
-use native.Mathlib.Omega.{arith}
-use lib.Dec.{eqb, ltb, lit<}
-use lib.ListN.{length}
-use borrow.Author.Tests.{ltb-false, eqb-false, lt-ltb, le-ltb}
+use Rattle.lists.proofs.Kit.{_≡_, sym, _∙_, true, false, cond, List, [], _∷_, _++_, ℕ, _*_, _<_, _≤_, pos-of-ne-zero, arith, eqb, ltb, lit<, length, ltb-false, eqb-false, lt-ltb, le-ltb}
 use Rattle.layout.specs.Layout.{volume}
 use Rattle.refusals.specs.FirstOf.{Check, check, firstOf}
 use Rattle.refusals.specs.Conditions.{shortScratch}

@@ -1,12 +1,6 @@
 -- A block moved band by band. A band that was lifted into scratch and laid back has moved; bands that have moved stay while the next one does,
 -- because it lies past them; at the end the block is in tiles, or the tiles are a block.
-use mathlib.Core.Path.{_≡_, refl, sym, ap, _∙_}
-use mathlib.Core.Bool.{Bool, true, false, cond}
-use mathlib.Core.List.{List}
-use Prim.Native.Nat.{ℕ, _+_, _*_, _-_, _/_, _%_, _<_, _≤_, min}
-use native.Mathlib.Nat.{div-add-mod', mul-assoc, add-mul, zero-mul, mul-le-mul-right}
-use native.Mathlib.Omega.{arith}
-use lib.ListN.{getD}
+use Rattle.lists.proofs.Kit.{_≡_, refl, sym, ap, _∙_, Bool, true, false, cond, List, ℕ, _+_, _*_, _-_, _/_, _%_, _<_, _≤_, min, div-add-mod', mul-assoc, add-mul, zero-mul, mul-le-mul-right, arith, getD}
 use Rattle.passes.specs.PrivateScratch.{Apart, Filled, Past}
 use Rattle.passes.proofs.Filled.{filled-none, filled-on}
 use Rattle.wall.specs.Tiles.{part, tilePlace, Tiled}

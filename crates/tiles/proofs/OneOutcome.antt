@@ -1,9 +1,6 @@
 -- Any two outcomes that a conversion allows coincide, and what a caller sees of a conversion: each undoes the other; a tile at least as wide as the
 -- block leaves every word in place; a tile taller than the block leaves the words that one as tall leaves. From the laws of the tiles.
-use mathlib.Core.Path.{_≡_, refl, sym, _∙_}
-use mathlib.Core.List.{List}
-use Prim.Native.Nat.{ℕ, _≤_}
-use lib.ListN.{length}
+use Rattle.lists.proofs.Kit.{_≡_, refl, sym, _∙_, List, ℕ, _≤_, length}
 use Rattle.refusals.specs.FirstOf.{firstOf}
 use Rattle.refusals.proofs.Promise.{one-accepted}
 use Rattle.wall.specs.Tiles.{Tiled}

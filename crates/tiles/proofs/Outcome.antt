@@ -1,11 +1,5 @@
 -- The outcome of an accepted conversion: the block has moved, scratch is cleared.
-use mathlib.Core.Path.{_≡_, _∙_}
-use mathlib.Core.Bool.{true, false}
-use mathlib.Core.List.{List}
-use Prim.Native.Nat.{ℕ, _*_, _≤_}
-use native.Mathlib.Omega.{arith}
-use lib.ListN.{length}
-use borrow.Author.Tests.{le-ltb}
+use Rattle.lists.proofs.Kit.{_≡_, _∙_, true, false, List, ℕ, _*_, _≤_, arith, length, le-ltb}
 use Rattle.refusals.specs.FirstOf.{firstOf}
 use Rattle.refusals.specs.Scratch.{cleared}
 use Rattle.refusals.proofs.Promise.{accepted}

@@ -1,11 +1,5 @@
 -- Rows stored one after the other: no two words share an offset, because the rows are at least as far apart as they are long, and one row more.
-use mathlib.Core.Path.{_≡_, sym, ap, ap₂, subst, _∙_}
-use mathlib.Core.List.{List}
-use Prim.Native.Nat.{ℕ, _+_, _*_, _/_, _%_, _<_, _≤_}
-use native.Mathlib.Nat.{mod-lt, div-add-mod', add-mul, one-mul, zero-mul, mul-le-mul-right}
-use native.Mathlib.Omega.{arith}
-use lib.Arith.{digits-div, digits-mod}
-use lib.ListN.{getD}
+use Rattle.lists.proofs.Kit.{_≡_, sym, ap, ap₂, subst, _∙_, List, ℕ, _+_, _*_, _/_, _%_, _<_, _≤_, mod-lt, div-add-mod', add-mul, one-mul, zero-mul, mul-le-mul-right, arith, digits-div, digits-mod, getD}
 use Rattle.passes.specs.PrivateScratch.{Apart, Filled}
 use Rattle.passes.proofs.Filled.{filled-none, filled-on}
 use Rattle.wall.proofs.Places.{one-cell}

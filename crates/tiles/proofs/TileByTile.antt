@@ -1,12 +1,6 @@
 -- A band laid tile by tile. The offsets of the tile that starts at column j are those from h·j on, h the band's height, and each, read back, is a
 -- word of a row of the tile; so the rows that are copied are the tile's words, and tile after tile the band's.
-use mathlib.Core.Path.{_≡_, refl, sym, ap, subst, _∙_}
-use mathlib.Core.Bool.{Bool, true, false, cond}
-use mathlib.Core.List.{List}
-use Prim.Native.Nat.{ℕ, _+_, _*_, _-_, _/_, _%_, _<_, _≤_, min}
-use native.Mathlib.Nat.{mod-lt, div-add-mod', div-lt-iff-lt-mul, mul-add, mul-comm, mul-le-mul-left, mul-le-mul-right, mul-zero, le-mul-of-pos-right}
-use native.Mathlib.Omega.{arith}
-use lib.ListN.{getD}
+use Rattle.lists.proofs.Kit.{_≡_, refl, sym, ap, subst, _∙_, Bool, true, false, cond, List, ℕ, _+_, _*_, _-_, _/_, _%_, _<_, _≤_, min, mod-lt, div-add-mod', div-lt-iff-lt-mul, mul-add, mul-comm, mul-le-mul-left, mul-le-mul-right, mul-zero, le-mul-of-pos-right, arith, getD}
 use Rattle.passes.specs.PrivateScratch.{Apart, Filled}
 use Rattle.passes.proofs.Filled.{filled-none, filled-on}
 use Rattle.wall.specs.Tiles.{part}

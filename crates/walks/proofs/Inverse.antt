@@ -1,9 +1,6 @@
 -- Inverses by Euclid's algorithm: beside each of its two numbers goes one whose product with a leaves it modulo b, and a step
 -- carries that on.
-use mathlib.Core.Path.{_≡_, sym, ap, _∙_}
-use Prim.Native.Nat.{ℕ, _+_, _*_, _-_, _/_, _%_, _<_}
-use native.Mathlib.Omega.{arith}
-use native.Mathlib.Nat.{mod-lt, mod-add-mod, div-add-mod', mul-assoc, mul-comm, add-mul, one-mul, add-mul-mod-self-right, le-mul-of-pos-right}
+use Rattle.lists.proofs.Kit.{_≡_, sym, ap, _∙_, ℕ, _+_, _*_, _-_, _/_, _%_, _<_, arith, mod-lt, mod-add-mod, div-add-mod', mul-assoc, mul-comm, add-mul, one-mul, add-mul-mod-self-right, le-mul-of-pos-right}
 use Rattle.walks.proofs.Remainders.{add-same, times-same}
 
 -- a part that two sums of one remainder share can be left out

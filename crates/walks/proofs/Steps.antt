@@ -1,8 +1,5 @@
 -- One step of a walk: what a loop carries from place to place. A remainder below twice the modulus is a test and a difference.
-use mathlib.Core.Path.{_≡_, sym, ap, _∙_}
-use Prim.Native.Nat.{ℕ, _+_, _*_, _-_, _/_, _%_, _<_, _≤_}
-use native.Mathlib.Omega.{arith}
-use native.Mathlib.Nat.{mul-le-mul-left, mul-add, mul-one, mod-lt, mod-eq-of-lt, mod-eq-sub-mod, mod-add-mod, add-mod-mod, add-mul, mul-comm, zero-mul, add-zero, one-mul, add-assoc, div-add-mod', mul-right-comm, mul-add-mod-self-right}
+use Rattle.lists.proofs.Kit.{_≡_, sym, ap, _∙_, ℕ, _+_, _*_, _-_, _/_, _%_, _<_, _≤_, arith, mul-le-mul-left, mul-add, mul-one, mod-lt, mod-eq-of-lt, mod-eq-sub-mod, mod-add-mod, add-mod-mod, add-mul, mul-comm, zero-mul, add-zero, one-mul, add-assoc, div-add-mod', mul-right-comm, mul-add-mod-self-right}
 use Rattle.walks.specs.PrivateWalk.{walk}
 
 -- the next place, where the step does not reach the modulus and where it does

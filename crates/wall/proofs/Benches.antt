@@ -1,9 +1,5 @@
 -- The benches hold: one computed test over the table, turned into the rule at each row.
-use mathlib.Core.Bool.{Bool}
-use Prim.Native.Nat.{_*_}
-use Rattle.lists.specs.Same.{same}
-use Rattle.lists.specs.Tab.{upto}
-use Rattle.lists.proofs.Test.{at-entry, same→eq}
+use Rattle.lists.proofs.Kit.{Bool, _*_, same, upto, at-entry, same→eq}
 use Rattle.wall.specs.Tiles.{part}
 use Rattle.wall.specs.Bands.{joined, parts, tileWords, bandWords, tilesOf}
 use Rattle.wall.specs.Benches.{Row, benches, Benches}

@@ -1,16 +1,6 @@
 -- The tiles listed as document 02 tells them are the tiles of the promise: before a band, a tile or a row stand only whole ones, so that its first word
 -- stands at their number times their length; and all of them together are as long as the block.
-use mathlib.Core.Path.{_≡_, sym, ap, ap₂, subst, _∙_}
-use mathlib.Core.List.{List, []}
-use mathlib.Core.Logic.{_↔_, ⊎-elim}
-use Prim.Native.Nat.{ℕ, zero, suc, _+_, _*_, _-_, _/_, _%_, _<_, _≤_}
-use native.Mathlib.Nat.{not-suc-le-zero, le-of-suc-le-suc, mod-lt, div-add-mod', mul-comm, zero-mul, mul-le-mul-right}
-use native.Mathlib.Omega.{arith}
-use lib.ListN.{length, getD, length-append, List·getD-append}
-use lib.Seq.{getD-append-add}
-use lib.Arith.{digits-lt}
-use Rattle.lists.proofs.Tab.{length-tab, getD-tab}
-use Rattle.lists.proofs.Decide.{lt-or-ge}
+use Rattle.lists.proofs.Kit.{_≡_, sym, ap, ap₂, subst, _∙_, List, [], _↔_, ⊎-elim, ℕ, zero, suc, _+_, _*_, _-_, _/_, _%_, _<_, _≤_, not-suc-le-zero, le-of-suc-le-suc, mod-lt, div-add-mod', mul-comm, zero-mul, mul-le-mul-right, arith, length, getD, length-append, List·getD-append, getD-append-add, digits-lt, length-tab, getD-tab, lt-or-ge}
 use Rattle.wall.specs.Tiles.{part, bandPlace, tilePlace, Tiled}
 use Rattle.wall.specs.Bands.{joined, parts, tileWords, bandWords, tilesOf}
 use Rattle.wall.proofs.Parts.{part-whole, part-last, in-part}

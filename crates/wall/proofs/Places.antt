@@ -1,10 +1,6 @@
 -- The places of a block as tiles are one to one: each word has its place in the block, each offset of the block is the place of one word, and no
 -- two words share one. Band by band, from the places of a band: the offsets of band b are those from b·r·n on.
-use mathlib.Core.Path.{_≡_, sym, ap, ap₂, _∙_}
-use Prim.Native.Nat.{ℕ, _+_, _*_, _/_, _%_, _<_, _≤_}
-use native.Mathlib.Nat.{mod-lt, div-add-mod', mul-assoc, mul-comm, add-mul, mul-pos, mul-le-mul-right, lt-of-mul-lt-mul-right}
-use native.Mathlib.Omega.{arith}
-use lib.Arith.{digits-div, digits-mod}
+use Rattle.lists.proofs.Kit.{_≡_, sym, ap, ap₂, _∙_, ℕ, _+_, _*_, _/_, _%_, _<_, _≤_, mod-lt, div-add-mod', mul-assoc, mul-comm, add-mul, mul-pos, mul-le-mul-right, lt-of-mul-lt-mul-right, arith, digits-div, digits-mod}
 use Rattle.wall.specs.Tiles.{part, bandPlace, tilePlace}
 use Rattle.wall.specs.Private.{bandHome, tileHome}
 use Rattle.wall.proofs.Parts.{part-le, part-within, in-part, of-part, at-part}

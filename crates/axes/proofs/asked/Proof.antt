@@ -12,4 +12,5 @@ returns-2 c =
     rw (e .if1 .left)
 
 pub asked-spec : {M : Type 1} → statement M
-asked-spec = tie.close (tie.spec returns returns-2)
+asked-spec = tie.close (tie.spec
+    returns returns-2)

@@ -1,13 +1,5 @@
 -- `axes::chain_on` meets its promise: a refusal changes nothing, and what is accepted runs.
-use mathlib.Core.Path.{_≡_, sym, ap, _∙_}
-use mathlib.Core.List.{List}
-use Prim.Native.Nat.{ℕ}
-use native.Mathlib.Omega.{arith}
-use lib.ListN.{length, take}
-use lib.Seq.{length-take-le}
-use borrow.Author.Needs.{needs}
-use borrow.Author.Tests.{ne-eqb}
-use Rattle.lists.proofs.Via.{via}
+use Rattle.lists.proofs.Kit.{_≡_, sym, ap, _∙_, List, ℕ, arith, length, take, length-take-le, needs, ne-eqb, via}
 use Rattle.refusals.specs.FirstOf.{firstOf}
 use Rattle.refusals.specs.Calls.{chainChecks}
 use Rattle.axes.specs.Answers.{refusedPlace}
@@ -52,23 +44,12 @@ returns-2 c =
     chain-refused (x .args .axes) (c .refusal2 .ensures) (t .if2 .taken) (answered x (n .chain-number .ensures)) nowhere
 
 pub chain-on-spec : {M : Type 1} → statement M
-chain-on-spec =
-    tie.close
-    (tie.spec
+chain-on-spec = tie.close (tie.spec
     (λ c. let x : tie.Start = search in omega (arith, five x, x .pre .1))
     (λ c. sym (axes (search)))
     (λ c κs. let x : tie.Start = search in omega (arith, axes x, x .pre .0))
-    (search needs)
-    (search needs)
-    (search needs)
-    (search needs)
-    (search needs)
-    returns
-    (search needs)
-    (search needs)
-    (search needs)
-    returns-2
+    (search needs) (search needs) (search needs) (search needs) (search needs) returns
+    (search needs) (search needs) (search needs) returns-2
     (λ c κs. let n : tie.After-chain-number = search in let x : tie.Start = search in (x .pre, via (answered x (n .chain-number .ensures)) (search)))
-    (search needs)
-    (search needs)
+    (search needs) (search needs)
     (λ c. let r : tie.After-run = search in r .run .ensures))

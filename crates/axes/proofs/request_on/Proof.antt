@@ -1,15 +1,6 @@
 -- `axes::request_on` meets its promise: a refusal changes nothing, and the chain of the plan of the order that the number names by its release answers as
 -- the request does, but for the number.
-use mathlib.Core.Path.{_≡_, refl, sym, _∙_}
-use mathlib.Core.List.{List, [], _∷_, _++_}
-use mathlib.Core.Logic.{⊎-elim}
-use Prim.Native.Nat.{ℕ, _≤_}
-use native.Mathlib.Omega.{arith}
-use lib.ListN.{length, take}
-use lib.Seq.{length-take-le}
-use borrow.Author.Needs.{needs}
-use Rattle.lists.proofs.Via.{via}
-use Rattle.lists.proofs.Decide.{eq-or-ne}
+use Rattle.lists.proofs.Kit.{_≡_, refl, sym, _∙_, List, [], _∷_, _++_, ⊎-elim, ℕ, _≤_, arith, length, take, length-take-le, needs, via, eq-or-ne}
 use Rattle.orders.specs.Plans.{planPlaces}
 use Rattle.orders.specs.Needs.{planNeed}
 use Rattle.refusals.specs.FirstOf.{Check, check, firstOf}
@@ -113,26 +104,9 @@ returns-3 c =
     (r .chain-on .ensures) (c .asked .ensures)
 
 pub request-on-spec : {M : Type 1} → statement M
-request-on-spec =
-    tie.close
-    (tie.spec
+request-on-spec = tie.close (tie.spec
     (λ c. let x : tie.Start = search in omega (arith, five x, x .pre .1))
-    (λ c. sym (axes (search)))
-    (search needs)
-    (search needs)
-    (search needs)
-    returns
-    (search needs)
-    (search needs)
-    (search needs)
-    (search needs)
-    returns-2
-    (search needs)
-    (search needs)
-    array-share-prefix-swaps
-    slice-aggregate-chain-on
-    (search needs)
-    (search needs)
-    (search needs)
-    (search needs)
+    (λ c. sym (axes (search))) (search needs) (search needs) (search needs) returns
+    (search needs) (search needs) (search needs) (search needs) returns-2 (search needs) (search needs)
+    array-share-prefix-swaps slice-aggregate-chain-on (search needs) (search needs) (search needs) (search needs)
     returns-3)

@@ -1,6 +1,5 @@
 -- `sheet_number` meets its contract: each test is that of a check.
-use borrow.Author.Needs.{needs}
-use Rattle.lists.proofs.Via.{via}
+use Rattle.lists.proofs.Kit.{needs, via}
 use Rattle.blocks.proofs.Block.{number-1, number-11, number-3, number-0}
 use Rattle.blocks.proofs.sheet_number.Statement.{statement}
 use Rattle.blocks.proofs.sheet_number.Tie as tie
@@ -27,4 +26,5 @@ returns-4 c =
     number-0 (x .args .lens .now) (x .args .words .now) (search via) (w .words-of .ensures) (search) (search)
 
 pub sheet-number-spec : {M : Type 1} → statement M
-sheet-number-spec = tie.close (tie.spec (search needs) returns (search needs) returns-2 returns-3 returns-4)
+sheet-number-spec = tie.close (tie.spec
+    (search needs) returns (search needs) returns-2 returns-3 returns-4)

@@ -1,7 +1,5 @@
 -- `add` meets its contract: refused by the checks, or the rows open for the column.
-use mathlib.Core.Path.{_≡_}
-use borrow.Author.Needs.{needs}
-use Rattle.lists.proofs.Via.{via}
+use Rattle.lists.proofs.Kit.{_≡_, needs, via}
 use Rattle.refusals.specs.FirstOf.{firstOf}
 use Rattle.cameras.specs.Promises.{addChecks}
 use Rattle.cameras.proofs.Accepted.{Adds, adds, refused, accepted}
@@ -17,12 +15,7 @@ returns-2 : tie.Need-returns-2
 returns-2 c = let o : tie.After-open = search in accepted (search via) (o .open .ensures)
 
 pub add-spec : {M : Type 1} → statement M
-add-spec =
-    tie.close
-    (tie.spec
-    (search needs)
-    (search needs)
-    (λ c. search refused)
+add-spec = tie.close (tie.spec
+    (search needs) (search needs) (λ c. search refused)
     (λ c κs. let h = checked (search) (search via) in (h .some, h .any, h .low, h .thin, h .fits, h .long))
-    (search needs)
-    returns-2)
+    (search needs) returns-2)

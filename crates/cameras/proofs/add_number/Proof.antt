@@ -1,15 +1,5 @@
 -- `add_number` meets its contract: each test is that of a check, in its order; the words before and after are products.
-use mathlib.Core.Path.{_≡_, refl, sym, _∙_}
-use mathlib.Core.Bool.{Bool, true, false, cond, _||_}
-use mathlib.Core.List.{List, [], _∷_}
-use Prim.Native.Nat.{ℕ, _+_, _*_, _<_, _≤_}
-use native.Mathlib.Nat.{mul-le-mul}
-use native.Mathlib.Omega.{arith}
-use lib.Dec.{ltb}
-use lib.ListN.{length}
-use borrow.Author.Needs.{needs}
-use borrow.Author.Tests.{lt-ltb, le-ltb, eq-eqb, ne-eqb}
-use Rattle.lists.proofs.Via.{via}
+use Rattle.lists.proofs.Kit.{_≡_, refl, sym, _∙_, Bool, true, false, cond, _||_, List, [], _∷_, ℕ, _+_, _*_, _<_, _≤_, mul-le-mul, arith, ltb, length, needs, lt-ltb, le-ltb, eq-eqb, ne-eqb, via}
 use Rattle.layout.specs.Layout.{volume}
 use Rattle.refusals.specs.FirstOf.{Check, check, firstOf}
 use Rattle.refusals.specs.Conditions.{outOfRange, shortBuffer}
@@ -129,17 +119,8 @@ module _ (s : tie.Start) (good : badCameras (s .args .frames) (s .args .cameras)
         accepted h = sym (last ∙ rw (eq-eqb (length (s .args .words .now)) f h))
 
 pub add-number-spec : {M : Type 1} → statement M
-add-number-spec =
-    tie.close
-    (tie.spec
-    returns
-    (search needs)
-    (search needs)
-    (search needs)
-    returns-2
-    mul-size
-    add-room
-    returns-3
+add-number-spec = tie.close (tie.spec
+    returns (search needs) (search needs) (search needs) returns-2 mul-size add-room returns-3
     (λ c. short (search) (search via) (omega arith) (omega arith))
     (λ c. no-column (search) (search via) (omega arith) (omega arith) (omega arith))
     (λ c. no-room (search) (search via) (omega arith) (omega arith) (omega arith) (omega arith))

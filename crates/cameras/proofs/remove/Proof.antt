@@ -1,9 +1,5 @@
 -- `remove` meets its contract: refused by the checks, or the rows close up and the freed words are zeroed.
-use mathlib.Core.Path.{_≡_}
-use Prim.Native.Nat.{_-_}
-use native.Mathlib.Omega.{arith}
-use borrow.Author.Needs.{needs}
-use Rattle.lists.proofs.Via.{via}
+use Rattle.lists.proofs.Kit.{_≡_, _-_, arith, needs, via}
 use Rattle.refusals.specs.FirstOf.{firstOf}
 use Rattle.cameras.specs.Promises.{removeChecks}
 use Rattle.cameras.proofs.Accepted.{Removes, removes, refused, accepted}
@@ -29,16 +25,9 @@ returns-2 c =
     accepted (search via) (removed (r .close .ensures) (z .zero .ensures .inside (omega (arith, h, r .close .ensures .same))))
 
 pub remove-spec : {M : Type 1} → statement M
-remove-spec =
-    tie.close
-    (tie.spec
-    (search needs)
-    (search needs)
-    (λ c. search refused)
+remove-spec = tie.close (tie.spec
+    (search needs) (search needs) (λ c. search refused)
     (λ c. omega (arith, checked (search) (search via)))
     (λ c κs. let h = checked (search) (search via) in (h .some, h .any, h .low, h .thin, h .fits))
     (λ c. omega (arith, checked (search) (search via)))
-    mul-zero
-    (search needs)
-    (search needs)
-    returns-2)
+    mul-zero (search needs) (search needs) returns-2)

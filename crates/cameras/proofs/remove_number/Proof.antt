@@ -1,12 +1,5 @@
 -- `remove_number` meets its contract: each test is that of a check, in its order; the cut count of words is the count where it is not cut.
-use mathlib.Core.Path.{_≡_, sym, ap, _∙_}
-use mathlib.Core.Bool.{Bool, true, false}
-use Prim.Native.Nat.{ℕ, _-_}
-use native.Mathlib.Omega.{arith}
-use lib.ListN.{length}
-use borrow.Author.Needs.{needs}
-use borrow.Author.Tests.{lt-ltb, le-ltb}
-use Rattle.lists.proofs.Via.{via}
+use Rattle.lists.proofs.Kit.{_≡_, sym, ap, _∙_, Bool, true, false, ℕ, _-_, arith, length, needs, lt-ltb, le-ltb, via}
 use Rattle.layout.specs.Layout.{volume}
 use Rattle.checks.proofs.Capped.{cut}
 use Rattle.flat.specs.Turn.{sides}
@@ -75,16 +68,6 @@ returns-5 c =
     )
 
 pub remove-number-spec : {M : Type 1} → statement M
-remove-number-spec =
-    tie.close
-    (tie.spec
-    (search needs)
-    (search needs)
-    (search needs)
-    returns
-    (search needs)
-    (search needs)
-    returns-2
-    returns-3
-    returns-4
+remove-number-spec = tie.close (tie.spec
+    (search needs) (search needs) (search needs) returns (search needs) (search needs) returns-2 returns-3 returns-4
     returns-5)

@@ -1,12 +1,6 @@
 -- `block_number` meets its contract: where the size is refused, so is the block; else the cut count of words is the count, and the last
 -- two tests are those of 3 and 13.
-use mathlib.Core.Path.{_≡_}
-use mathlib.Core.List.{[]}
-use native.Mathlib.Omega.{arith}
-use lib.ListN.{length}
-use borrow.Author.Needs.{needs}
-use borrow.Author.Tests.{lt-ltb, le-ltb}
-use Rattle.lists.proofs.Via.{via}
+use Rattle.lists.proofs.Kit.{_≡_, [], arith, length, needs, lt-ltb, le-ltb, via}
 use Rattle.layout.specs.Layout.{volume}
 use Rattle.refusals.specs.FirstOf.{firstOf}
 use Rattle.refusals.specs.Calls.{sizeChecks, exactChecks, blockChecks}
@@ -58,4 +52,5 @@ returns-4 c =
     rw (size-passed s (search via), not-short lens buffer exact, not-long lens buffer exact)
 
 pub block-number-spec : {M : Type 1} → statement M
-block-number-spec = tie.close (tie.spec (search needs) returns (search needs) returns-2 returns-3 returns-4)
+block-number-spec = tie.close (tie.spec
+    (search needs) returns (search needs) returns-2 returns-3 returns-4)

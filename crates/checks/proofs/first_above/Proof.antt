@@ -1,11 +1,5 @@
 -- `first_above` meets its contract. The loop's invariant: the entries passed and the first place from there on are the first place.
-use mathlib.Core.Path.{_≡_}
-use Prim.Native.Nat.{_+_, _≤_, _-_}
-use native.Mathlib.Omega.{arith}
-use lib.Dec.{ltb}
-use lib.ListN.{length, drop, getD}
-use borrow.Author.Needs.{needs}
-use borrow.Author.Tests.{lt-ltb, le-ltb}
+use Rattle.lists.proofs.Kit.{_≡_, _+_, _≤_, _-_, arith, ltb, length, drop, getD, needs, lt-ltb, le-ltb}
 use Rattle.refusals.specs.Conditions.{firstPlace}
 use Rattle.refusals.proofs.Some.{first-here, first-past, first-end}
 use Rattle.checks.proofs.first_above.Statement.{statement}
@@ -17,43 +11,29 @@ Inv-loop numbers last k₀ k-end k = (k ≤ length numbers) × (firstPlace (ltb 
 abbrev μ-loop : tie.MeasureT-loop
 μ-loop numbers last k₀ k-end k = length numbers - k
 
-abbrev Loop : Type 0
-Loop = tie.At-loop Inv-loop μ-loop
-
 loop-holds : tie.Need-loop-holds Inv-loop μ-loop
 loop-holds c = (omega arith, omega arith)
 
 returns : tie.Need-returns Inv-loop μ-loop
 returns c =
-    let l : Loop = search in
+    let l : tie.At-loop Inv-loop μ-loop = search in
     let s : tie.Start Inv-loop μ-loop = search in
     let xs = s .args .numbers .now in
     omega (arith, first-here (ltb (s .args .last)) xs (l .loop .k) (omega arith) (lt-ltb (s .args .last) (getD xs (l .loop .k) 0) (search)))
 
 loop-again : tie.Need-loop-again Inv-loop μ-loop
 loop-again c =
-    let l : Loop = search in
+    let l : tie.At-loop Inv-loop μ-loop = search in
     let s : tie.Start Inv-loop μ-loop = search in
     let xs = s .args .numbers .now in
     (omega arith, omega (arith, first-past (ltb (s .args .last)) xs (l .loop .k) (omega arith) (le-ltb (s .args .last) (getD xs (l .loop .k) 0) (search))))
 
 returns-2 : tie.Need-returns-2 Inv-loop μ-loop
 returns-2 c =
-    let l : Loop = search in
+    let l : tie.At-loop Inv-loop μ-loop = search in
     let s : tie.Start Inv-loop μ-loop = search in
     omega (arith, first-end (ltb (s .args .last)) (s .args .numbers .now) (l .loop .k) (omega arith))
 
 pub first-above-spec : {M : Type 1} → statement M
-first-above-spec =
-    tie.close
-    (tie.spec
-    Inv-loop
-    μ-loop
-    loop-holds
-    (search needs)
-    (search needs)
-    returns
-    (search needs)
-    (search needs)
-    loop-again
-    returns-2)
+first-above-spec = tie.close (tie.spec
+    Inv-loop μ-loop loop-holds (search needs) (search needs) returns (search needs) (search needs) loop-again returns-2)

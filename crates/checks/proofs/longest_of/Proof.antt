@@ -1,11 +1,5 @@
 -- `longest_of` meets its contract. The loop's invariant: the longest so far and the longest of the rest give the longest.
-use mathlib.Core.Path.{_≡_}
-use mathlib.Core.List.{List}
-use Prim.Native.Nat.{ℕ, _+_, _<_, _≤_, _-_, max}
-use native.Mathlib.Omega.{arith}
-use lib.ListN.{length, drop, getD}
-use borrow.Author.Needs.{needs}
-use Rattle.lists.proofs.Front.{drop-next, drop-end}
+use Rattle.lists.proofs.Kit.{_≡_, List, ℕ, _+_, _<_, _≤_, _-_, max, arith, length, drop, getD, needs, drop-next, drop-end}
 use Rattle.refusals.specs.Conditions.{longest}
 use Rattle.checks.proofs.longest_of.Statement.{statement}
 use Rattle.checks.proofs.longest_of.Tie as tie
@@ -15,9 +9,6 @@ Inv-loop lens most₀ k₀ k-end most k = (k ≤ length lens) × (max most (long
 
 abbrev μ-loop : tie.MeasureT-loop
 μ-loop lens most₀ k₀ k-end most k = length lens - k
-
-abbrev Loop : Type 0
-Loop = tie.At-loop Inv-loop μ-loop
 
 longest-next : (lens : List ℕ) (k : ℕ) → k < length lens → longest (drop k lens) ≡ max (getD lens k 0) (longest (drop (k + 1) lens))
 unfolding longest
@@ -32,27 +23,17 @@ loop-holds c = (omega arith, omega arith)
 
 loop-again : tie.Need-loop-again Inv-loop μ-loop
 loop-again c =
-    let l : Loop = search in
+    let l : tie.At-loop Inv-loop μ-loop = search in
     let s : tie.Start Inv-loop μ-loop = search in
     (omega arith, omega (arith, longest-next (s .args .lens .now) (l .loop .k) (omega arith)))
 
 returns : tie.Need-returns Inv-loop μ-loop
 returns c =
-    let l : Loop = search in
+    let l : tie.At-loop Inv-loop μ-loop = search in
     let s : tie.Start Inv-loop μ-loop = search in
     omega (arith, longest-none (s .args .lens .now) (l .loop .k) (omega arith))
 
 pub longest-of-spec : {M : Type 1} → statement M
-longest-of-spec =
-    tie.close
-    (tie.spec
-    Inv-loop
-    μ-loop
-    loop-holds
-    (search needs)
-    (search needs)
-    (search needs)
-    (search needs)
-    (search needs)
-    loop-again
+longest-of-spec = tie.close (tie.spec
+    Inv-loop μ-loop loop-holds (search needs) (search needs) (search needs) (search needs) (search needs) loop-again
     returns)

@@ -1,10 +1,5 @@
 -- `named_number` meets its contract: the release is tested first, then the number.
-use mathlib.Core.Path.{_≡_}
-use mathlib.Core.Bool.{true, false}
-use native.Mathlib.Omega.{arith}
-use borrow.Author.Needs.{needs}
-use borrow.Author.Tests.{lt-ltb, le-ltb}
-use Rattle.lists.proofs.Via.{via}
+use Rattle.lists.proofs.Kit.{_≡_, true, false, arith, needs, lt-ltb, le-ltb, via}
 use Rattle.refusals.specs.Conditions.{noRelease}
 use Rattle.checks.proofs.named_number.Statement.{statement}
 use Rattle.checks.proofs.named_number.Tie as tie
@@ -28,4 +23,5 @@ returns-3 c =
     rw (good, le-ltb (x .args .last) (x .args .order) (omega arith))
 
 pub named-number-spec : {M : Type 1} → statement M
-named-number-spec = tie.close (tie.spec (search needs) returns returns-2 returns-3)
+named-number-spec = tie.close (tie.spec
+    (search needs) returns returns-2 returns-3)

@@ -10,4 +10,5 @@ returns-2 : tie.Need-returns-2
 returns-2 c = rw (ne-eqb (c .before .args .release) 1 (c .if1 .left))
 
 pub no-release-spec : {M : Type 1} → statement M
-no-release-spec = tie.close (tie.spec returns returns-2)
+no-release-spec = tie.close (tie.spec
+    returns returns-2)

@@ -1,6 +1,5 @@
 -- `out_of_range` meets its contract: its two tests are those of the definition.
-use mathlib.Core.Path.{sym}
-use borrow.Author.Tests.{ne-eqb}
+use Rattle.lists.proofs.Kit.{sym, ne-eqb}
 use Rattle.refusals.proofs.Conditions.{range-zero}
 use Rattle.checks.proofs.out_of_range.Statement.{statement}
 use Rattle.checks.proofs.out_of_range.Tie as tie
@@ -12,4 +11,5 @@ returns-2 : tie.Need-returns-2
 returns-2 c = rw (ne-eqb (c .before .args .axis) 0 (c .if1 .left))
 
 pub out-of-range-spec : {M : Type 1} → statement M
-out-of-range-spec = tie.close (tie.spec returns returns-2)
+out-of-range-spec = tie.close (tie.spec
+    returns returns-2)

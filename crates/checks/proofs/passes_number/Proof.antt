@@ -1,7 +1,5 @@
 -- `passes_number` meets its contract: the checks 1, 2, 3 and 13 come first, then scratch is measured.
-use native.Mathlib.Omega.{arith}
-use borrow.Author.Needs.{needs}
-use Rattle.lists.proofs.Via.{via}
+use Rattle.lists.proofs.Kit.{arith, needs, via}
 use Rattle.refusals.proofs.Calls.{block-refused, short-refused, room-passed}
 use Rattle.checks.proofs.passes_number.Statement.{statement}
 use Rattle.checks.proofs.passes_number.Tie as tie
@@ -19,4 +17,5 @@ returns-3 : tie.Need-returns-3
 returns-3 c = let x : tie.Start = search in room-passed (x .args .lens .now) (x .args .buf .now) (x .args .scratch .now) (search via) (omega arith)
 
 pub passes-number-spec : {M : Type 1} → statement M
-passes-number-spec = tie.close (tie.spec (search needs) returns (search needs) returns-2 returns-3)
+passes-number-spec = tie.close (tie.spec
+    (search needs) returns (search needs) returns-2 returns-3)

@@ -1,10 +1,5 @@
 -- `size_number` meets its contract: each test is that of a check, and a cut count of words decides the second as the count itself does.
-use mathlib.Core.Path.{_≡_, _∙_}
-use mathlib.Core.Bool.{true, false}
-use native.Mathlib.Omega.{arith}
-use borrow.Author.Needs.{needs}
-use borrow.Author.Tests.{lt-ltb, le-ltb}
-use Rattle.lists.proofs.Via.{via}
+use Rattle.lists.proofs.Kit.{_≡_, _∙_, true, false, arith, needs, lt-ltb, le-ltb, via}
 use Rattle.layout.specs.Layout.{volume}
 use Rattle.refusals.specs.Conditions.{badLength}
 use Rattle.checks.proofs.Capped.{cut}
@@ -36,4 +31,5 @@ returns-3 c =
     rw (good, le-ltb 1048576 v (omega arith))
 
 pub size-number-spec : {M : Type 1} → statement M
-size-number-spec = tie.close (tie.spec (search needs) returns (search needs) returns-2 returns-3)
+size-number-spec = tie.close (tie.spec
+    (search needs) returns (search needs) returns-2 returns-3)

@@ -1,8 +1,5 @@
 -- `times` meets its contract: each test tells on which side of the limit the product lies.
-use mathlib.Core.Path.{sym, ap, _∙_}
-use Prim.Native.Nat.{ℕ, _*_, _≤_}
-use native.Mathlib.Nat.{mul-le-mul}
-use native.Mathlib.Omega.{arith}
+use Rattle.lists.proofs.Kit.{sym, ap, _∙_, ℕ, _*_, _≤_, mul-le-mul, arith}
 use Rattle.checks.specs.Words.{capped}
 use Rattle.checks.proofs.Capped.{capped-few, capped-many}
 use Rattle.checks.proofs.times.Statement.{statement}
@@ -38,4 +35,5 @@ returns-4 c =
     sym (capped-few (s .args .words * s .args .axis) (search))
 
 pub times-spec : {M : Type 1} → statement M
-times-spec = tie.close (tie.spec returns returns-2 mul-product returns-3 returns-4)
+times-spec = tie.close (tie.spec
+    returns returns-2 mul-product returns-3 returns-4)

@@ -1,12 +1,5 @@
 -- `words_of` meets its contract. The loop's invariant: the words so far times the rest, cut, are the words of the block, cut.
-use mathlib.Core.Path.{_≡_, sym, ap, _∙_}
-use mathlib.Core.List.{List}
-use Prim.Native.Nat.{ℕ, _+_, _<_, _≤_, _-_, _*_}
-use native.Mathlib.Nat.{mul-assoc, mul-one, one-mul}
-use native.Mathlib.Omega.{arith}
-use lib.ListN.{length, drop, getD}
-use borrow.Author.Needs.{needs}
-use Rattle.lists.proofs.Front.{drop-next, drop-end}
+use Rattle.lists.proofs.Kit.{_≡_, sym, ap, _∙_, List, ℕ, _+_, _<_, _≤_, _-_, _*_, mul-assoc, mul-one, one-mul, arith, length, drop, getD, needs, drop-next, drop-end}
 use Rattle.layout.specs.Layout.{volume}
 use Rattle.checks.specs.Words.{capped}
 use Rattle.checks.proofs.Capped.{cut, capped-low, capped-times}
@@ -18,9 +11,6 @@ Inv-loop lens words₀ k₀ k-end words k = (k ≤ length lens) × (words ≤ 10
 
 abbrev μ-loop : tie.MeasureT-loop
 μ-loop lens words₀ k₀ k-end words k = length lens - k
-
-abbrev Loop : Type 0
-Loop = tie.At-loop Inv-loop μ-loop
 
 volume-next : (lens : List ℕ) (k : ℕ) → k < length lens → volume (drop k lens) ≡ getD lens k 0 * volume (drop (k + 1) lens)
 unfolding volume
@@ -36,7 +26,7 @@ loop-holds c = (omega arith, omega arith, rw one-mul)
 loop-again : tie.Need-loop-again Inv-loop μ-loop
 loop-again c =
     let a : tie.After-times Inv-loop μ-loop = search in
-    let l : Loop = search in
+    let l : tie.At-loop Inv-loop μ-loop = search in
     let s : tie.Start Inv-loop μ-loop = search in
     let lens = s .args .lens .now in
     let k = l .loop .k in
@@ -53,23 +43,13 @@ loop-again c =
 
 returns : tie.Need-returns Inv-loop μ-loop
 returns c =
-    let l : Loop = search in
+    let l : tie.At-loop Inv-loop μ-loop = search in
     let s : tie.Start Inv-loop μ-loop = search in
     let w = l .loop .words in
     let none : volume (drop (l .loop .k) (s .args .lens .now)) ≡ 1 = volume-none (s .args .lens .now) (l .loop .k) (omega arith) in
     sym (sym (l .loop .inv .2) ∙ rw (none, mul-one w) (capped-low w (l .loop .inv .1)))
 
 pub words-of-spec : {M : Type 1} → statement M
-words-of-spec =
-    tie.close
-    (tie.spec
-    Inv-loop
-    μ-loop
-    loop-holds
-    (search needs)
-    (search needs)
-    (search needs)
-    (search needs)
-    (search needs)
-    loop-again
+words-of-spec = tie.close (tie.spec
+    Inv-loop μ-loop loop-holds (search needs) (search needs) (search needs) (search needs) (search needs) loop-again
     returns)

@@ -1,11 +1,7 @@
 -- `choose` meets its contract: the empty start of the first run where it is refused, else the part that is the
 -- exchange that was chosen, of the run that holds it.
-use mathlib.Core.Path.{_≡_, refl, sym, _∙_}
-use mathlib.Core.List.{List}
-use mathlib.Core.Logic.{⊎-elim}
-use native.Mathlib.Omega.{arith}
+use Rattle.lists.proofs.Kit.{_≡_, refl, sym, _∙_, List, ⊎-elim, arith, needs}
 use lib.IntN.{ℤ}
-use borrow.Author.Needs.{needs}
 use Rattle.refusals.specs.FirstOf.{firstOf}
 use Rattle.choice.specs.declared.paths.Place.{Place}
 use Rattle.choice.specs.Choice.{FirstWins, SecondWins}
@@ -70,4 +66,5 @@ returns-3 c =
     }
 
 pub choose-spec : {M : Type 1} → statement M
-choose-spec = tie.close (tie.spec (search needs) (search needs) returns exchange-of-requires returns-2 exchange-of-requires-2 returns-3)
+choose-spec = tie.close (tie.spec
+    (search needs) (search needs) returns exchange-of-requires returns-2 exchange-of-requires-2 returns-3)

@@ -1,6 +1,5 @@
 -- `judge` meets its contract: refused by the size of the block, or compared with the right list.
-use borrow.Author.Needs.{needs}
-use Rattle.lists.proofs.Via.{via}
+use Rattle.lists.proofs.Kit.{needs, via}
 use Rattle.cycles.proofs.Judging.{small, judge-refused, judge-accepted}
 use Rattle.cycles.proofs.judge.Statement.{statement}
 use Rattle.cycles.proofs.judge.Tie as tie
@@ -17,4 +16,5 @@ returns-2 : tie.Need-returns-2
 returns-2 c = judge-accepted _ _ _ (search via) (c .compare .ensures)
 
 pub judge-spec : {M : Type 1} → statement M
-judge-spec = tie.close (tie.spec (search needs) (λ c κs. search needs) returns compare-requires returns-2)
+judge-spec = tie.close (tie.spec
+    (search needs) (λ c κs. search needs) returns compare-requires returns-2)

@@ -1,8 +1,5 @@
 -- `length_of` meets its contract. The loop's invariant: it follows the cycle, above x so far; the measure is what is left of the period.
-use mathlib.Core.Bool.{true, false}
-use mathlib.Core.Path.{_≡_, refl}
-use Prim.Native.Nat.{ℕ, _*_, _-_}
-use native.Mathlib.Omega.{arith}
+use Rattle.lists.proofs.Kit.{true, false, _≡_, refl, ℕ, _*_, _-_, arith}
 use Rattle.orbits.specs.Orbit.{period}
 use Rattle.orbits.specs.Cycles.{takes, isLeast}
 use Rattle.orbits.proofs.Takes.{takes-permutes}
@@ -26,66 +23,49 @@ Inv-loop m n inverse x at₀ count₀ at count = Followed (takes m n) (m * n) x 
 abbrev μ-loop : tie.MeasureT-loop
 μ-loop m n inverse x at₀ count₀ at count = period (takes m n) (m * n) x - count
 
-abbrev Loop : Type 0
-Loop = tie.At-loop Inv-loop μ-loop
-
-abbrev Begin : Type 0
-Begin = tie.Start Inv-loop μ-loop
-
 step-requires : tie.Need-step-requires Inv-loop μ-loop
 step-requires c κs = c .pre
 
 loop-holds : tie.Need-loop-holds Inv-loop μ-loop
-loop-holds c = let s : Begin = search in starts (takes-permutes (s .args .m) (s .args .n)) (s .args .x) (s .pre .2) (c .step .ensures)
+loop-holds c = let s : tie.Start Inv-loop μ-loop = search in starts (takes-permutes (s .args .m) (s .args .n)) (s .args .x) (s .pre .2) (c .step .ensures)
 
 step-requires-2 : tie.Need-step-requires-2 Inv-loop μ-loop
 step-requires-2 c κs =
-    let l : Loop = search in
-    let s : Begin = search in
+    let l : tie.At-loop Inv-loop μ-loop = search in
+    let s : tie.Start Inv-loop μ-loop = search in
     (s .pre .0, s .pre .1, low (takes-permutes (s .args .m) (s .args .n)) (s .args .x) (s .pre .2) (l .loop .inv))
 
 add-count : tie.Need-add-count Inv-loop μ-loop
 add-count c =
-    let l : Loop = search in
-    let s : Begin = search in
+    let l : tie.At-loop Inv-loop μ-loop = search in
+    let s : tie.Start Inv-loop μ-loop = search in
     omega (arith, l .loop .inv .before, most (takes-permutes (s .args .m) (s .args .n)) (s .args .x) (s .pre .2))
 
 loop-less : tie.Need-loop-less Inv-loop μ-loop
 loop-less c =
-    let l : Loop = search in
-    let s : Begin = search in
+    let l : tie.At-loop Inv-loop μ-loop = search in
+    let s : tie.Start Inv-loop μ-loop = search in
     omega (arith, goes-on (takes-permutes (s .args .m) (s .args .n)) (s .args .x) (s .pre .2) (l .loop .inv) (search) refl .before)
 
 loop-again : tie.Need-loop-again Inv-loop μ-loop
 loop-again c =
-    let l : Loop = search in
-    let s : Begin = search in
+    let l : tie.At-loop Inv-loop μ-loop = search in
+    let s : tie.Start Inv-loop μ-loop = search in
     goes-on (takes-permutes (s .args .m) (s .args .n)) (s .args .x) (s .pre .2) (l .loop .inv) (search) (c .step2 .ensures)
 
 returns : tie.Need-returns Inv-loop μ-loop
 returns c =
-    let l : Loop = search in
-    let s : Begin = search in
+    let l : tie.At-loop Inv-loop μ-loop = search in
+    let s : tie.Start Inv-loop μ-loop = search in
     not-least-length (s .args .m) (s .args .n) (s .args .x) (below-not-least (takes-permutes (s .args .m) (s .args .n)) (s .args .x) (s .pre .2) (l .loop .inv) (search))
 
 returns-2 : tie.Need-returns-2 Inv-loop μ-loop
 returns-2 c =
-    let l : Loop = search in
-    let s : Begin = search in
+    let l : tie.At-loop Inv-loop μ-loop = search in
+    let s : tie.Start Inv-loop μ-loop = search in
     let p = takes-permutes (s .args .m) (s .args .n) in
     least-length (s .args .m) (s .args .n) (s .args .x) (home-least p (s .args .x) (s .pre .2) (l .loop .inv) (omega arith)) (home-whole p (s .args .x) (s .pre .2) (l .loop .inv) (omega arith))
 
 pub length-of-spec : {M : Type 1} → statement M
-length-of-spec =
-    tie.close
-    (tie.spec
-    Inv-loop
-    μ-loop
-    step-requires
-    loop-holds
-    step-requires-2
-    add-count
-    loop-less
-    loop-again
-    returns
-    returns-2)
+length-of-spec = tie.close (tie.spec
+    Inv-loop μ-loop step-requires loop-holds step-requires-2 add-count loop-less loop-again returns returns-2)

@@ -1,9 +1,5 @@
 -- `pair_is` meets its contract: the two words of the pair are compared, where both are there.
-use mathlib.Core.Path.{sym, ap, _∙_}
-use Prim.Native.Nat.{ℕ}
-use native.Mathlib.Omega.{arith}
-use lib.Dec.{eqb}
-use borrow.Author.Needs.{needs}
+use Rattle.lists.proofs.Kit.{sym, ap, _∙_, ℕ, arith, eqb, needs}
 use Rattle.orbits.proofs.Pairs.{pair-short, other-start, same-start}
 use Rattle.cycles.proofs.pair_is.Statement.{statement}
 use Rattle.cycles.proofs.pair_is.Tie as tie
@@ -25,18 +21,6 @@ returns-3 c =
     ∙ sym (same-start (s .args .place) (s .args .start) (s .args .count) (s .args .list .now) (omega arith) (omega (arith, w .wide .ensures)))
 
 pub pair-is-spec : {M : Type 1} → statement M
-pair-is-spec =
-    tie.close
-    (tie.spec
-    (search needs)
-    (search needs)
-    returns
-    (search needs)
-    (search needs)
-    (λ c κs. search needs)
-    returns-2
-    (search needs)
-    (search needs)
-    (search needs)
-    (λ c κs. search needs)
-    returns-3)
+pair-is-spec = tie.close (tie.spec
+    (search needs) (search needs) returns (search needs) (search needs) (λ c κs. search needs) returns-2
+    (search needs) (search needs) (search needs) (λ c κs. search needs) returns-3)

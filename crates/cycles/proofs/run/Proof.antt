@@ -1,6 +1,5 @@
 -- `run` meets its contract: refused by the block, refused by the list, or moved along the cycles of the right list, which is the turn.
-use borrow.Author.Needs.{needs}
-use Rattle.lists.proofs.Via.{via}
+use Rattle.lists.proofs.Kit.{needs, via}
 use Rattle.cycles.proofs.Judging.{block-small, run-refused, run-other, run-right}
 use Rattle.cycles.proofs.run.Statement.{statement}
 use Rattle.cycles.proofs.run.Tie as tie
@@ -32,6 +31,5 @@ returns-3 c =
     run-right _ _ _ _ (search via) (k .compare .ensures) (search) (a .all .ensures)
 
 pub run-spec : {M : Type 1} → statement M
-run-spec =
-    tie.close
-    (tie.spec (search needs) (λ c κs. search needs) (search needs) returns compare-requires (search needs) returns-2 all-requires (search needs) returns-3)
+run-spec = tie.close (tie.spec
+    (search needs) (λ c κs. search needs) (search needs) returns compare-requires (search needs) returns-2 all-requires (search needs) returns-3)

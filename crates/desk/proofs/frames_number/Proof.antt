@@ -1,7 +1,5 @@
 -- `frames_number` meets its contract: each test is that of a check, in its order.
-use mathlib.Core.Path.{sym, _∙_}
-use borrow.Author.Needs.{needs}
-use borrow.Author.Tests.{eq-eqb, ne-eqb, lt-ltb, le-ltb}
+use Rattle.lists.proofs.Kit.{sym, _∙_, needs, eq-eqb, ne-eqb, lt-ltb, le-ltb}
 use mir.Facts.{toZ-ofZ}
 use Rattle.desk.proofs.frames_number.Statement.{statement}
 use Rattle.desk.proofs.frames_number.Tie as tie
@@ -33,4 +31,5 @@ returns-4 c =
     rw (ne-eqb _ _ (e1 .if1 .left), le-ltb _ _ (e2 .if2 .left), sym found ∙ c .if3 .left)
 
 pub frames-number-spec : {M : Type 1} → statement M
-frames-number-spec = tie.close (tie.spec returns returns-2 (search needs) returns-3 returns-4)
+frames-number-spec = tie.close (tie.spec
+    returns returns-2 (search needs) returns-3 returns-4)

@@ -1,16 +1,10 @@
 -- `join` meets its contract: refused by its counts or shifts, or by the two ends; the ends of near shifts fit 64 bits, so the machine's are these.
-use mathlib.Core.Path.{_≡_, sym, ap, ap₂, _∙_}
-use mathlib.Core.Bool.{Bool, true, false, cond}
-use mathlib.Core.List.{List, [], _∷_}
-use Prim.Native.Nat.{ℕ, _≤_, _^_}
-use native.Mathlib.Omega.{arith}
+use Rattle.lists.proofs.Kit.{_≡_, sym, ap, ap₂, _∙_, Bool, true, false, cond, List, [], _∷_, ℕ, _≤_, _^_, arith, needs, via}
 use lib.Signed.{ltZ, leZ}
 use lib.IntN.{ℤ, pos, natAbs, _+ℤ_}
-use borrow.Author.Needs.{needs}
 use mir.Syntax.{w64}
 use mir.Val.{SFits, toZ, ofZ}
 use mir.Facts.{toZ-ofZ, toZ-pos}
-use Rattle.lists.proofs.Via.{via}
 use Rattle.refusals.specs.FirstOf.{check, firstOf}
 use Rattle.refusals.proofs.FirstOf.{refused-by}
 use Rattle.signed.proofs.Ends.{near-sum, small}
@@ -120,4 +114,5 @@ returns-3 c =
     accepted (number _ _ g false (tested _ _ g _ _ (e .0) (e .1) false (c .if2 .left))) (ends-kept _ _ g _ _ (e .0) (e .1))
 
 pub join-spec : {M : Type 1} → statement M
-join-spec = tie.close (tie.spec (search needs) returns span-of-requires cast-end add-end returns-2 returns-3)
+join-spec = tie.close (tie.spec
+    (search needs) returns span-of-requires cast-end add-end returns-2 returns-3)

@@ -1,9 +1,5 @@
 -- `measure_number` meets its contract: each test is that of a check, in its order.
-use borrow.Author.Needs.{needs}
-use borrow.Author.Tests.{eq-eqb, ne-eqb}
-use mathlib.Core.Path.{_≡_}
-use mathlib.Core.Bool.{true, false}
-use Rattle.lists.proofs.Via.{via}
+use Rattle.lists.proofs.Kit.{needs, eq-eqb, ne-eqb, _≡_, true, false, via}
 use Rattle.desk.specs.Conditions.{farReading}
 use Rattle.desk.proofs.measure_number.Statement.{statement}
 use Rattle.desk.proofs.measure_number.Tie as tie
@@ -26,4 +22,5 @@ returns-3 c =
     rw (eq-eqb _ _ (f .if1 .left), near)
 
 pub measure-number-spec : {M : Type 1} → statement M
-measure-number-spec = tie.close (tie.spec returns (search needs) returns-2 returns-3)
+measure-number-spec = tie.close (tie.spec
+    returns (search needs) returns-2 returns-3)

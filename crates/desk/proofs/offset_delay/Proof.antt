@@ -1,17 +1,10 @@
 -- `offset_delay` meets its contract: refused by its number, or given from the four readings. The checks have found them near, so no difference
 -- or sum overflows, and what the machine reads back from the bits of each is what it is.
-use mathlib.Core.Path.{_≡_}
-use mathlib.Core.List.{List}
-use Prim.Native.Nat.{ℕ, _^_, _<_, _≤_}
-use native.Mathlib.Omega.{arith}
-use lib.Dec.{lit<}
-use lib.ListN.{length}
+use Rattle.lists.proofs.Kit.{_≡_, List, ℕ, _^_, _<_, _≤_, arith, lit<, length, needs, via}
 use lib.IntN.{ℤ, natAbs, _+ℤ_, _-ℤ_}
-use borrow.Author.Needs.{needs}
 use mir.Syntax.{w64}
 use mir.Val.{SFits, toZ, ofZ}
 use mir.Facts.{toZ-ofZ}
-use Rattle.lists.proofs.Via.{via}
 use Rattle.refusals.specs.FirstOf.{firstOf}
 use Rattle.desk.specs.Exchange.{reading}
 use Rattle.desk.specs.Conditions.{measureChecks}
@@ -53,11 +46,8 @@ returns-2 c =
     (simp (reading-kept run n, difference-kept run n, toZ-ofZ (twice-fits run n), toZ-ofZ (offset-fits run n), toZ-ofZ (delay-fits run n)))
 
 pub offset-delay-spec : {M : Type 1} → statement M
-offset-delay-spec =
-    tie.close
-    (tie.spec
-    (search needs)
-    (λ c. search refused)
+offset-delay-spec = tie.close (tie.spec
+    (search needs) (λ c. search refused)
     (λ c. let s : tie.Start = search in place (s .args .run .now) (search via) 0 (lit< tt))
     (λ c. let s : tie.Start = search in place (s .args .run .now) (search via) 1 (lit< tt))
     (λ c. let s : tie.Start = search in place (s .args .run .now) (search via) 2 (lit< tt))

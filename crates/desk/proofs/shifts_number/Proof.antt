@@ -1,10 +1,5 @@
 -- `shifts_number` meets its contract: each test is that of a check, in its order.
-use mathlib.Core.Path.{_≡_}
-use mathlib.Core.Bool.{true, false}
-use mathlib.Core.List.{[], _∷_}
-use lib.ListN.{length}
-use borrow.Author.Needs.{needs}
-use Rattle.lists.proofs.Via.{via}
+use Rattle.lists.proofs.Kit.{_≡_, true, false, [], _∷_, length, needs, via}
 use Rattle.refusals.specs.Conditions.{some, badLength}
 use Rattle.desk.specs.Conditions.{farShift}
 use Rattle.desk.proofs.shifts_number.Statement.{statement}
@@ -31,4 +26,5 @@ returns-3 c =
     rw (right, near)
 
 pub shifts-number-spec : {M : Type 1} → statement M
-shifts-number-spec = tie.close (tie.spec (search needs) (search needs) returns (search needs) returns-2 returns-3)
+shifts-number-spec = tie.close (tie.spec
+    (search needs) (search needs) returns (search needs) returns-2 returns-3)

@@ -1,13 +1,9 @@
 -- `to_frames` meets its contract: refused by its number, or rounded; inside the bounds no sum overflows, so what the machine adds is the sum.
-use mathlib.Core.Path.{_≡_, _∙_}
-use Prim.Native.Nat.{ℕ, _+_, _≤_, _<_, _^_}
-use native.Mathlib.Omega.{arith}
+use Rattle.lists.proofs.Kit.{_≡_, _∙_, ℕ, _+_, _≤_, _<_, _^_, arith, needs, via}
 use lib.IntN.{ℤ, pos, natAbs, _+ℤ_}
-use borrow.Author.Needs.{needs}
 use mir.Syntax.{w64}
 use mir.Val.{SFits, toZ, ofZ}
 use mir.Facts.{toZ-ofZ, toZ-pos}
-use Rattle.lists.proofs.Via.{via}
 use Rattle.refusals.specs.FirstOf.{firstOf}
 use Rattle.signed.proofs.Ends.{near-sum, small, back, le}
 use Rattle.desk.specs.Conditions.{framesChecks}

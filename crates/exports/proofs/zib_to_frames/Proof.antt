@@ -10,4 +10,5 @@ returns c =
     rw (toZ-ofZ (s .fits .offset)) at (c .to-frames .ensures)
 
 pub zib-to-frames-spec : {M : Type 1} → statement M
-zib-to-frames-spec = tie.close (tie.spec (search needs) returns)
+zib-to-frames-spec = tie.close (tie.spec
+    (search needs) returns)

@@ -1,12 +1,5 @@
 -- `refused` meets its contract: each of the conditions is tested, the room of the buffer by a division, so that no product is too large.
-use mathlib.Core.Path.{sym}
-use mathlib.Core.Bool.{true≢false}
-use mathlib.Core.Logic.{⊎-elim}
-use Prim.Native.Nat.{ℕ, _*_, _/_, _<_, _≤_}
-use native.Mathlib.Nat.{mul-le-mul, div-lt-iff-lt-mul, mul-comm}
-use native.Mathlib.Omega.{arith}
-use borrow.Author.Needs.{needs}
-use Rattle.lists.proofs.Decide.{lt-or-ge}
+use Rattle.lists.proofs.Kit.{sym, true≢false, ⊎-elim, ℕ, _*_, _/_, _<_, _≤_, mul-le-mul, div-lt-iff-lt-mul, mul-comm, arith, needs, lt-or-ge}
 use Rattle.grids.proofs.refused.Statement.{statement}
 use Rattle.grids.proofs.refused.Tie as tie
 
@@ -52,9 +45,7 @@ returns-7 c =
     )
 
 pub refused-spec : {M : Type 1} → statement M
-refused-spec =
-    tie.close
-    (tie.spec
+refused-spec = tie.close (tie.spec
     (search needs)
     (λ c. let b : tie.After-bad-side = search in (λ e. absurd (true≢false e), λ e t. omega (arith, b .bad-side .ensures .1 (search) (t .some-rows), t .far-rows)))
     (search needs)
@@ -63,10 +54,8 @@ refused-spec =
     (λ c. (λ e. absurd (true≢false e), λ e t. omega (arith, t .few)))
     (λ c. (λ e. absurd (true≢false e), λ e t. omega (arith, t .some-words)))
     (λ c.
-    let b : tie.After-bad-side2 = search in
-    let a : tie.After-bad-side = search in
+    let b : tie.After-bad-side2 = search in let a : tie.After-bad-side = search in
     omega (arith, some (a .bad-side .ensures .0 (search) .0) (b .bad-side2 .ensures .0 (search) .0)))
-    returns-5
-    (search needs)
+    returns-5 (search needs)
     (λ c. (λ e. absurd (true≢false e), λ e t. omega (arith, t .marked)))
     returns-7)

@@ -1,9 +1,5 @@
 -- `turn_grid` meets its contract: a block that cannot be turned is left, others are turned and the marks zeroed.
-use mathlib.Core.Path.{refl, ap, _∙_}
-use Prim.Native.Nat.{ℕ}
-use native.Mathlib.Omega.{arith}
-use lib.ListN.{replicate}
-use borrow.Author.Needs.{needs}
+use Rattle.lists.proofs.Kit.{refl, ap, _∙_, ℕ, arith, replicate, needs}
 use Rattle.grids.proofs.Bits.{all-zero}
 use Rattle.grids.proofs.turn_grid.Statement.{statement}
 use Rattle.grids.proofs.turn_grid.Tie as tie
@@ -24,15 +20,7 @@ returns-2 c =
     }
 
 pub turn-grid-spec : {M : Type 1} → statement M
-turn-grid-spec =
-    tie.close
-    (tie.spec
-    (search needs)
-    (search needs)
-    (search needs)
-    returns
+turn-grid-spec = tie.close (tie.spec
+    (search needs) (search needs) (search needs) returns
     (λ c κs. let t : tie.After-refused = search in t .refused .ensures .0 (search))
-    (search needs)
-    (search needs)
-    (search needs)
-    returns-2)
+    (search needs) (search needs) (search needs) returns-2)

@@ -1,8 +1,5 @@
 -- `turn` meets its promise: where a check holds nothing is touched, and where none does the buffer is a block and is turned.
-use mathlib.Core.Path.{_≡_}
-use native.Mathlib.Omega.{arith}
-use borrow.Author.Needs.{needs}
-use Rattle.lists.proofs.Via.{via}
+use Rattle.lists.proofs.Kit.{_≡_, arith, needs, via}
 use Rattle.refusals.specs.FirstOf.{firstOf}
 use Rattle.refusals.specs.Calls.{recursionChecks}
 use Rattle.flat.specs.Turn.{sides}
@@ -22,16 +19,8 @@ returns-3 : tie.Need-returns-3
 returns-3 c = let t : tie.After-wide = search in turn-accepted (search via) (t .wide .ensures)
 
 pub turn-spec : {M : Type 1} → statement M
-turn-spec =
-    tie.close
-    (tie.spec
-    (search needs)
-    (search needs)
-    (search needs)
-    (λ c. search turn-refused)
+turn-spec = tie.close (tie.spec
+    (search needs) (search needs) (search needs) (λ c. search turn-refused)
     (λ c κs. (checked (search) (search via), omega arith))
     (λ c κs. (checked (search) (search via), omega arith))
-    (search needs)
-    returns-2
-    (search needs)
-    returns-3)
+    (search needs) returns-2 (search needs) returns-3)

@@ -1,7 +1,5 @@
 -- `repeats` meets its contract: refused by the size of the block, or counted.
-use mathlib.Core.Path.{_≡_, refl, sym}
-use borrow.Author.Needs.{needs}
-use Rattle.lists.proofs.Via.{via}
+use Rattle.lists.proofs.Kit.{_≡_, refl, sym, needs, via}
 use Rattle.refusals.specs.FirstOf.{firstOf}
 use Rattle.refusals.specs.Calls.{sizeChecks}
 use Rattle.refusals.proofs.Conditions.{sized-two}
@@ -20,4 +18,5 @@ returns-2 c =
     record { number-is = sym accepted; counted = λ _. k .count-of .ensures; refused = λ n. absurd (n refl) }
 
 pub repeats-spec : {M : Type 1} → statement M
-repeats-spec = tie.close (tie.spec (search needs) (search needs) (search needs) count-of-requires returns-2)
+repeats-spec = tie.close (tie.spec
+    (search needs) (search needs) (search needs) count-of-requires returns-2)

@@ -1,8 +1,5 @@
 -- `job` meets its contract: what the reader answers says which outcome it is, and each outcome has its law.
-use mathlib.Core.Path.{_≡_, sym}
-use native.Mathlib.Omega.{arith}
-use lib.ListN.{length}
-use borrow.Author.Needs.{needs}
+use Rattle.lists.proofs.Kit.{_≡_, sym, arith, length, needs}
 use Rattle.job.proofs.Parts.{first-four}
 use Rattle.job.proofs.Readings.{turned-away, taken}
 use Rattle.job.proofs.Done.{run-asks, met-refused, met-accepted}
@@ -41,19 +38,6 @@ returns-2 c =
     (c .write-result .ensures)
 
 pub job-spec : {M : Type 1} → statement M
-job-spec =
-    tie.close
-    (tie.spec
-    (search needs)
-    cast-write-refusal
-    (search needs)
-    returns
-    array-share-prefix-swaps
-    slice-aggregate-run
-    run-requires
-    (search needs)
-    (search needs)
-    (search needs)
-    (search needs)
-    (search needs)
-    returns-2)
+job-spec = tie.close (tie.spec
+    (search needs) cast-write-refusal (search needs) returns array-share-prefix-swaps slice-aggregate-run run-requires
+    (search needs) (search needs) (search needs) (search needs) (search needs) returns-2)

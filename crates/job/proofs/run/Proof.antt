@@ -1,7 +1,5 @@
 -- `run` meets its contract: the block's part is lent with its four lengths and a fifth that is not read, and the chain's promise about it is the contract's.
-use mathlib.Core.Path.{_≡_}
-use lib.ListN.{length}
-use borrow.Author.Needs.{needs}
+use Rattle.lists.proofs.Kit.{_≡_, length, needs}
 use Rattle.job.proofs.Parts.{of-four, inside, as-long, ran-on}
 use Rattle.job.proofs.run.Statement.{statement}
 use Rattle.job.proofs.run.Tie as tie
@@ -29,18 +27,6 @@ returns c =
     ran-on _ _ (x .pre .0) (x .pre .1) (w .words-of .ensures) (of-four (x .args .t3) (four x)) (r .chain .ensures)
 
 pub run-spec : {M : Type 1} → statement M
-run-spec =
-    tie.close
-    (tie.spec
-    (search needs)
-    (search needs)
-    (search needs)
-    (search needs)
-    (search needs)
-    (search needs)
-    slice-relend-prefix-chain
-    slice-aggregate-chain
-    (search needs)
-    (search needs)
-    (search needs)
-    returns)
+run-spec = tie.close (tie.spec
+    (search needs) (search needs) (search needs) (search needs) (search needs) (search needs) slice-relend-prefix-chain
+    slice-aggregate-chain (search needs) (search needs) (search needs) returns)

@@ -12,13 +12,10 @@ returns-3 c =
     made (p .past .ensures .0 (search), q .past2 .ensures .0 (search)) (m .copied .ensures)
 
 pub copy-spec : {M : Type 1} → statement M
-copy-spec =
-    tie.close
-    (tie.spec
+copy-spec = tie.close (tie.spec
     (search needs)
     (λ c. let p : tie.After-past = search in unmade (λ f. p .past .ensures .1 (search) (f .0)))
     (search needs)
     (λ c. let p : tie.After-past2 = search in unmade (λ f. p .past2 .ensures .1 (search) (f .1)))
     (λ c κs. let q : tie.After-past2 = search in let p : tie.After-past = search in (p .past .ensures .0 (search), q .past2 .ensures .0 (search)))
-    (search needs)
-    returns-3)
+    (search needs) returns-3)

@@ -20,13 +20,9 @@ returns-3 c =
     made (inside .0, inside .1, t .behind .ensures .0 (search)) (m .fallen .ensures)
 
 pub fall-spec : {M : Type 1} → statement M
-fall-spec =
-    tie.close
-    (tie.spec
+fall-spec = tie.close (tie.spec
     (search needs)
     (λ c. let o : tie.After-outside = search in unmade (λ f. o .outside .ensures .1 (search) (f .0, f .1)))
     (search needs)
     (λ c. let t : tie.After-behind = search in unmade (λ f. t .behind .ensures .1 (search) (f .2)))
-    fallen-requires
-    (search needs)
-    returns-3)
+    fallen-requires (search needs) returns-3)

@@ -20,13 +20,9 @@ returns-3 c =
     made (inside .0, inside .1, t .overlap .ensures .0 (search)) (m .fallen .ensures)
 
 pub hand-spec : {M : Type 1} → statement M
-hand-spec =
-    tie.close
-    (tie.spec
+hand-spec = tie.close (tie.spec
     (search needs)
     (λ c. let o : tie.After-outside = search in unmade (λ f. o .outside .ensures .1 (search) (f .0, f .1)))
     (search needs)
     (λ c. let t : tie.After-overlap = search in unmade (λ f. t .overlap .ensures .1 (search) (f .2)))
-    fallen-requires
-    (search needs)
-    returns-3)
+    fallen-requires (search needs) returns-3)

@@ -1,6 +1,5 @@
 -- `outside` meets its contract: both runs lie inside where the one that begins later does.
-use native.Mathlib.Omega.{arith}
-use borrow.Author.Needs.{needs}
+use Rattle.lists.proofs.Kit.{arith, needs}
 use Rattle.moves.proofs.outside.Statement.{statement}
 use Rattle.moves.proofs.outside.Tie as tie
 
@@ -12,4 +11,5 @@ returns c =
     (λ e. (omega (arith, q .0 e, m .larger .ensures), omega (arith, q .0 e, m .larger .ensures)), λ e f. q .1 e (omega (arith, f .0, f .1, m .larger .ensures)))
 
 pub outside-spec : {M : Type 1} → statement M
-outside-spec = tie.close (tie.spec (search needs) (search needs) returns)
+outside-spec = tie.close (tie.spec
+    (search needs) (search needs) returns)

@@ -1,10 +1,5 @@
 -- `overlap` meets its contract: two runs lie apart where they lie as far apart as they are long.
-use mathlib.Core.Logic.{_⊎_, inl, inr, ⊎-elim}
-use Prim.Native.Nat.{_<_, _≤_}
-use native.Mathlib.Omega.{arith}
-use borrow.Author.Needs.{needs}
-use borrow.Author.Tests.{ltb-true, ltb-false}
-use Rattle.lists.proofs.Decide.{lt-or-ge}
+use Rattle.lists.proofs.Kit.{_⊎_, inl, inr, ⊎-elim, _<_, _≤_, arith, needs, ltb-true, ltb-false, lt-or-ge}
 use Rattle.moves.proofs.overlap.Statement.{statement}
 use Rattle.moves.proofs.overlap.Tie as tie
 
@@ -27,4 +22,5 @@ returns c =
     )
 
 pub overlap-spec : {M : Type 1} → statement M
-overlap-spec = tie.close (tie.spec (search needs) returns)
+overlap-spec = tie.close (tie.spec
+    (search needs) returns)

@@ -20,13 +20,9 @@ returns-3 c =
     made (inside .0, inside .1, t .overlap .ensures .0 (search)) (m .trade-words .ensures)
 
 pub trade-spec : {M : Type 1} → statement M
-trade-spec =
-    tie.close
-    (tie.spec
+trade-spec = tie.close (tie.spec
     (search needs)
     (λ c. let o : tie.After-outside = search in unmade (λ f. o .outside .ensures .1 (search) (f .0, f .1)))
     (search needs)
     (λ c. let t : tie.After-overlap = search in unmade (λ f. t .overlap .ensures .1 (search) (f .2)))
-    trade-words-requires
-    (search needs)
-    returns-3)
+    trade-words-requires (search needs) returns-3)

@@ -21,4 +21,5 @@ returns-2 c =
     made (p .past .ensures .0 (search)) (z .zero-words .ensures)
 
 pub zero-spec : {M : Type 1} → statement M
-zero-spec = tie.close (tie.spec (search needs) returns zero-words-requires (search needs) returns-2)
+zero-spec = tie.close (tie.spec
+    (search needs) returns zero-words-requires (search needs) returns-2)

@@ -1,8 +1,5 @@
 -- `clear` meets its contract: 4 by the test of the length, else the first words are zeroed.
-use mathlib.Core.Path.{refl}
-use native.Mathlib.Omega.{arith}
-use borrow.Author.Tests.{lt-ltb, le-ltb}
-use borrow.Author.Needs.{needs}
+use Rattle.lists.proofs.Kit.{refl, arith, lt-ltb, le-ltb, needs}
 use Rattle.passes.proofs.clear.Statement.{statement}
 use Rattle.passes.proofs.clear.Tie as tie
 
@@ -24,4 +21,5 @@ returns-2 c =
     }
 
 pub clear-spec : {M : Type 1} → statement M
-clear-spec = tie.close (tie.spec returns (search needs) (search needs) returns-2)
+clear-spec = tie.close (tie.spec
+    returns (search needs) (search needs) returns-2)

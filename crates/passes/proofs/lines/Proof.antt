@@ -1,7 +1,5 @@
 -- `lines` meets its contract: refused by the checks of a block's size, or the sides are grouped and their lines counted.
-use mathlib.Core.Path.{refl, sym}
-use borrow.Author.Needs.{needs}
-use Rattle.lists.proofs.Via.{via}
+use Rattle.lists.proofs.Kit.{refl, sym, needs, via}
 use Rattle.passes.proofs.Ticks.{sized-sides, counted}
 use Rattle.passes.proofs.lines.Statement.{statement}
 use Rattle.passes.proofs.lines.Tie as tie
@@ -21,4 +19,5 @@ returns-2 c =
     record { number-is = sym (search via); given = λ _. counted (s .group-sides .ensures) (l .line-count .ensures); refusal = λ k. absurd (k refl) }
 
 pub lines-spec : {M : Type 1} → statement M
-lines-spec = tie.close (tie.spec (search needs) (search needs) returns group-sides-requires (search needs) returns-2)
+lines-spec = tie.close (tie.spec
+    (search needs) (search needs) returns group-sides-requires (search needs) returns-2)

@@ -1,7 +1,5 @@
 -- `resume` meets its contract: refused by the checks of the flat turn or by 23; else the stages have gone on.
-use native.Mathlib.Omega.{arith}
-use borrow.Author.Needs.{needs}
-use Rattle.lists.proofs.Via.{via}
+use Rattle.lists.proofs.Kit.{arith, needs, via}
 use Rattle.passes.proofs.Accepted.{flat-accepted}
 use Rattle.stages.specs.Stages.{Memory}
 use Rattle.passes.specs.Restart.{memory}
@@ -49,20 +47,7 @@ returns-3 c =
     resumed (s .group-sides .ensures) (search via) (omega (arith, t .stage-count .ensures)) (g .go-on .ensures)
 
 pub resume-spec : {M : Type 1} → statement M
-resume-spec =
-    tie.close
-    (tie.spec
-    (search needs)
-    (λ c κs. search needs)
-    (search needs)
-    (search needs)
-    returns
-    group-sides-requires
-    (λ c κs. search needs)
-    (search needs)
-    (search needs)
-    returns-2
-    go-on-requires
-    (search needs)
-    (search needs)
+resume-spec = tie.close (tie.spec
+    (search needs) (λ c κs. search needs) (search needs) (search needs) returns group-sides-requires
+    (λ c κs. search needs) (search needs) (search needs) returns-2 go-on-requires (search needs) (search needs)
     returns-3)

@@ -1,9 +1,6 @@
 -- `tick` meets its contract: refused by the checks of the flat turn or by 12; none left; or the next line has moved. Scratch is cleared at
 -- the end of both accepted ways.
-use mathlib.Core.Path.{_≡_}
-use native.Mathlib.Omega.{arith}
-use borrow.Author.Needs.{needs}
-use Rattle.lists.proofs.Via.{via}
+use Rattle.lists.proofs.Kit.{_≡_, arith, needs, via}
 use Rattle.refusals.specs.FirstOf.{firstOf}
 use Rattle.refusals.specs.Calls.{passesChecks}
 use Rattle.flat.specs.Turn.{sides}
@@ -58,27 +55,11 @@ returns-4 c =
     tick-moved (s .group-sides .ensures) _ _ (search via) (omega arith) (moved .0) (moved .1) (z .clear-longest2 .ensures)
 
 pub tick-spec : {M : Type 1} → statement M
-tick-spec =
-    tie.close
-    (tie.spec
-    (search needs)
-    (search needs)
-    (search needs)
-    (search needs)
-    returns
+tick-spec = tie.close (tie.spec
+    (search needs) (search needs) (search needs) (search needs) returns
     (λ c κs. omega (arith, checked (search) (search via)))
-    (search needs)
-    (search needs)
-    (search needs)
-    returns-2
+    (search needs) (search needs) (search needs) returns-2
     (λ c κs. omega (arith, checked (search) (search via)))
-    (search needs)
-    (search needs)
-    returns-3
-    (search needs)
-    forth-requires
+    (search needs) (search needs) returns-3 (search needs) forth-requires
     (λ c κs. omega (arith, checked (search) (search via)))
-    (search needs)
-    (search needs)
-    (search needs)
-    returns-4)
+    (search needs) (search needs) (search needs) returns-4)

@@ -1,8 +1,5 @@
 -- `turn` meets its contract: refused by the checks, or the block is turned and scratch cleared.
-use mathlib.Core.Path.{_≡_}
-use native.Mathlib.Omega.{arith}
-use borrow.Author.Needs.{needs}
-use Rattle.lists.proofs.Via.{via}
+use Rattle.lists.proofs.Kit.{_≡_, arith, needs, via}
 use Rattle.refusals.specs.FirstOf.{firstOf}
 use Rattle.refusals.specs.Calls.{passesChecks}
 use Rattle.refusals.proofs.Promise.{refused}
@@ -24,17 +21,9 @@ returns-2 c =
     turn-outcome (s .group-sides .ensures) (search via) (z .clear-longest .ensures) (t .turn-at .ensures)
 
 pub turn-spec : {M : Type 1} → statement M
-turn-spec =
-    tie.close
-    (tie.spec
-    (search needs)
-    (search needs)
-    (search needs)
-    (search needs)
-    (λ c. search refused)
+turn-spec = tie.close (tie.spec
+    (search needs) (search needs) (search needs) (search needs) (λ c. search refused)
     (λ c κs. omega (arith, checked (search) (search via)))
     (λ c κs. let s : tie.After-group-sides = search in flat-asked (s .group-sides .ensures) (checked (search) (search via)))
     (λ c κs. omega (arith, checked (search) (search via)))
-    (search needs)
-    (search needs)
-    returns-2)
+    (search needs) (search needs) returns-2)

@@ -1,8 +1,5 @@
 -- `turn_back` meets its contract: as `turn`, with the passes undone; a turn of the block at exit gives the block at entry.
-use mathlib.Core.Path.{_≡_}
-use native.Mathlib.Omega.{arith}
-use borrow.Author.Needs.{needs}
-use Rattle.lists.proofs.Via.{via}
+use Rattle.lists.proofs.Kit.{_≡_, arith, needs, via}
 use Rattle.refusals.specs.FirstOf.{firstOf}
 use Rattle.refusals.specs.Calls.{passesChecks}
 use Rattle.refusals.proofs.Promise.{refused}
@@ -24,17 +21,9 @@ returns-2 c =
     turn-back-outcome (s .group-sides .ensures) (search via) (z .clear-longest .ensures) (t .turn-home-at .ensures)
 
 pub turn-back-spec : {M : Type 1} → statement M
-turn-back-spec =
-    tie.close
-    (tie.spec
-    (search needs)
-    (search needs)
-    (search needs)
-    (search needs)
-    (λ c. search refused)
+turn-back-spec = tie.close (tie.spec
+    (search needs) (search needs) (search needs) (search needs) (λ c. search refused)
     (λ c κs. omega (arith, checked (search) (search via)))
     (λ c κs. let s : tie.After-group-sides = search in flat-asked (s .group-sides .ensures) (checked (search) (search via)))
     (λ c κs. omega (arith, checked (search) (search via)))
-    (search needs)
-    (search needs)
-    returns-2)
+    (search needs) (search needs) returns-2)

@@ -1,6 +1,5 @@
 -- `plans::plan5` meets its promise: its test is check 7, and the plan is that of the table's order.
-use native.Mathlib.Omega.{arith}
-use borrow.Author.Needs.{needs}
+use Rattle.lists.proofs.Kit.{arith, needs}
 use Rattle.plans.proofs.Given.{refused, fits, given}
 use Rattle.plans.proofs.plan5.Statement.{statement}
 use Rattle.plans.proofs.plan5.Tie as tie
@@ -19,12 +18,7 @@ returns-2 c =
     given 5 (x .args .order) (omega arith) (t .order-of5 .ensures) (p .plan-of .ensures)
 
 pub plan5-spec : {M : Type 1} → statement M
-plan5-spec =
-    tie.close
-    (tie.spec
+plan5-spec = tie.close (tie.spec
     (search needs)
     (λ c. let x : tie.Start = search in refused 5 (x .args .order) (omega arith) (c .no-plan .ensures))
-    (search needs)
-    (search needs)
-    plan-of-requires
-    returns-2)
+    (search needs) (search needs) plan-of-requires returns-2)

@@ -11,4 +11,5 @@ returns c =
     as-planned _ (f .falling-pairs .ensures) (p .planned-swaps .ensures)
 
 pub plan-of-spec : {M : Type 1} → statement M
-plan-of-spec = tie.close (tie.spec (search needs) (search needs) (search needs) returns)
+plan-of-spec = tie.close (tie.spec
+    (search needs) (search needs) (search needs) returns)

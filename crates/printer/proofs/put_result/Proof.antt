@@ -1,10 +1,5 @@
 -- `put_result` meets its contract: 24 where the buffer is shorter than the measured text; else the thin writer puts the text.
-use mathlib.Core.Path.{_≡_, _∙_}
-use mathlib.Core.List.{List}
-use Prim.Native.Nat.{ℕ}
-use native.Mathlib.Omega.{arith}
-use lib.ListN.{length}
-use borrow.Author.Needs.{needs}
+use Rattle.lists.proofs.Kit.{_≡_, _∙_, List, ℕ, arith, length, needs}
 use Rattle.text.specs.Sheet.{resultBy}
 use Rattle.blocks.proofs.Block.{Counts, counts, first-three, rows-fit}
 use Rattle.printer.proofs.Puts.{put-length}
@@ -65,18 +60,6 @@ returns-2 c =
     (w .words-of .ensures ∙ known x .rows) (r .result .ensures))
 
 pub put-result-spec : {M : Type 1} → statement M
-put-result-spec =
-    tie.close
-    (tie.spec
-    result-len-requires
-    (search needs)
-    returns
-    shape-line-requires
-    order-line-requires
-    (search needs)
-    three
-    (search needs)
-    (search needs)
-    result-requires
-    same-length
-    returns-2)
+put-result-spec = tie.close (tie.spec
+    result-len-requires (search needs) returns shape-line-requires order-line-requires (search needs) three
+    (search needs) (search needs) result-requires same-length returns-2)

@@ -1,10 +1,5 @@
 -- `result_len` meets its contract: the bytes of the two lines, of the words' fields, and four more in each row.
-use mathlib.Core.Path.{_≡_, sym, ap, _∙_}
-use Prim.Native.Nat.{ℕ, _≤_}
-use native.Mathlib.Omega.{arith}
-use lib.ListN.{length, take}
-use lib.Seq.{length-take-le}
-use borrow.Author.Needs.{needs}
+use Rattle.lists.proofs.Kit.{_≡_, sym, ap, _∙_, ℕ, _≤_, arith, length, take, length-take-le, needs}
 use Rattle.layout.specs.Layout.{volume}
 use Rattle.checks.specs.Words.{capped}
 use Rattle.text.specs.Print.{fields}
@@ -70,22 +65,7 @@ returns c =
     omega (arith, known x, length-measured (x .args .t1) (x .args .release) (x .args .order) (x .args .words .now) (four x))
 
 pub result-len-spec : {M : Type 1} → statement M
-result-len-spec =
-    tie.close
-    (tie.spec
-    (search needs)
-    (search needs)
-    (search needs)
-    three
-    (search needs)
-    shape-line-requires
-    head-len-requires
-    order-line-requires
-    head-len-requires-2
-    (search needs)
-    (λ c. omega (arith, known (search)))
-    (λ c. omega (arith, known (search)))
-    part
-    words-len-requires
-    (λ c. omega (arith, known (search)))
-    returns)
+result-len-spec = tie.close (tie.spec
+    (search needs) (search needs) (search needs) three (search needs) shape-line-requires head-len-requires
+    order-line-requires head-len-requires-2 (search needs) (λ c. omega (arith, known (search)))
+    (λ c. omega (arith, known (search))) part words-len-requires (λ c. omega (arith, known (search))) returns)

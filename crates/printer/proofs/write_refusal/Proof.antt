@@ -1,7 +1,5 @@
 -- `write_refusal` meets its contract: 24 where the buffer is shorter than the measured line, else the line is put at its start.
-use native.Mathlib.Omega.{arith}
-use mathlib.Core.List.{[], _∷_}
-use borrow.Author.Needs.{needs}
+use Rattle.lists.proofs.Kit.{arith, [], _∷_, needs}
 use Rattle.text.specs.Sheet.{refusedWord}
 use Rattle.text.proofs.Length.{length-line}
 use Rattle.printer.proofs.Puts.{put-length}
@@ -30,16 +28,6 @@ returns-2 c =
     (rw refusal-line (p .put-line .ensures))
 
 pub write-refusal-spec : {M : Type 1} → statement M
-write-refusal-spec =
-    tie.close
-    (tie.spec
-    (search needs)
-    (search needs)
-    (search needs)
-    (search needs)
-    returns
-    (search needs)
-    (search needs)
-    put-line-requires
-    same-length
-    returns-2)
+write-refusal-spec = tie.close (tie.spec
+    (search needs) (search needs) (search needs) (search needs) returns (search needs) (search needs) put-line-requires
+    same-length returns-2)

@@ -1,7 +1,5 @@
 -- `write_release` meets its contract: the first check that holds is its number; where none of those before 24 does, `put_result` answers.
-use native.Mathlib.Omega.{arith}
-use borrow.Author.Needs.{needs}
-use Rattle.lists.proofs.Via.{via}
+use Rattle.lists.proofs.Kit.{arith, needs, via}
 use Rattle.text.proofs.SecondLines.{one-of-two}
 use Rattle.text.specs.Right.{SheetNumbers}
 use Rattle.text.proofs.Rows.{words-held}
@@ -29,16 +27,6 @@ returns-3 : tie.Need-returns-3
 returns-3 c = let r : tie.After-put-result = search in accepted-by (held (search)) (search via) (search via) (r .put-result .ensures)
 
 pub write-release-spec : {M : Type 1} → statement M
-write-release-spec =
-    tie.close
-    (tie.spec
-    (search needs)
-    (search needs)
-    (search needs)
-    returns
-    (search needs)
-    (search needs)
-    returns-2
-    put-result-requires
-    (search needs)
-    returns-3)
+write-release-spec = tie.close (tie.spec
+    (search needs) (search needs) (search needs) returns (search needs) (search needs) returns-2 put-result-requires
+    (search needs) returns-3)

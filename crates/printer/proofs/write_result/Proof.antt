@@ -1,7 +1,5 @@
 -- `write_result` meets its contract: the first check that holds is its number; where none of those before 24 does, `put_result` answers.
-use native.Mathlib.Omega.{arith}
-use borrow.Author.Needs.{needs}
-use Rattle.lists.proofs.Via.{via}
+use Rattle.lists.proofs.Kit.{arith, needs, via}
 use Rattle.text.specs.Right.{SheetNumbers}
 use Rattle.text.proofs.Rows.{words-held}
 use Rattle.blocks.proofs.Block.{on-sheet}
@@ -25,15 +23,6 @@ returns-3 : tie.Need-returns-3
 returns-3 c = let r : tie.After-put-result = search in accepted (held (search)) (search via) (search) (r .put-result .ensures)
 
 pub write-result-spec : {M : Type 1} → statement M
-write-result-spec =
-    tie.close
-    (tie.spec
-    (search needs)
-    (search needs)
-    (search needs)
-    returns
-    (search needs)
-    returns-2
-    put-result-requires
-    (search needs)
+write-result-spec = tie.close (tie.spec
+    (search needs) (search needs) (search needs) returns (search needs) returns-2 put-result-requires (search needs)
     returns-3)

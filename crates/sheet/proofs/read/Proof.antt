@@ -8,4 +8,5 @@ returns : tie.Need-returns
 returns c = let p : tie.After-read-page = search in as-sheet (p .read-page .ensures)
 
 pub read-spec : {M : Type 1} → statement M
-read-spec = tie.close (tie.spec (search needs) (search needs) returns)
+read-spec = tie.close (tie.spec
+    (search needs) (search needs) returns)

@@ -11,4 +11,5 @@ returns-2 : tie.Need-returns-2
 returns-2 c = let p : tie.After-read-page = search in as-result (p .read-page .ensures) (search)
 
 pub read-result-spec : {M : Type 1} → statement M
-read-result-spec = tie.close (tie.spec (search needs) (search needs) (search needs) (search needs) returns (search needs) (search needs) returns-2)
+read-result-spec = tie.close (tie.spec
+    (search needs) (search needs) (search needs) (search needs) returns (search needs) (search needs) returns-2)

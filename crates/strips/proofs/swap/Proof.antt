@@ -1,7 +1,5 @@
 -- `swap` meets its contract: refused by its checks, or every block is turned and scratch cleared.
-use mathlib.Core.Path.{_≡_, refl}
-use borrow.Author.Needs.{needs}
-use Rattle.lists.proofs.Via.{via}
+use Rattle.lists.proofs.Kit.{_≡_, refl, needs, via}
 use Rattle.refusals.specs.FirstOf.{firstOf}
 use Rattle.refusals.specs.Calls.{swapChecks}
 use Rattle.refusals.proofs.Promise.{refused, accepted}
@@ -24,18 +22,7 @@ returns-2 c =
     accepted (search via) (t .blocks2 .ensures .0) (cleared-words (n .longest-of .ensures) (k .room) (z .zero .ensures))
 
 pub swap-spec : {M : Type 1} → statement M
-swap-spec =
-    tie.close
-    (tie.spec
-    (λ c κs. search needs)
-    (search needs)
-    (search needs)
-    (λ c. search refused)
-    (search needs)
+swap-spec = tie.close (tie.spec
+    (λ c κs. search needs) (search needs) (search needs) (λ c. search refused) (search needs)
     (λ c κs. swap-blocks (checked (search) (search via)) refl)
-    (search needs)
-    (λ c κs. search needs)
-    (λ c κs. search needs)
-    (search needs)
-    (search needs)
-    returns-2)
+    (search needs) (λ c κs. search needs) (λ c κs. search needs) (search needs) (search needs) returns-2)

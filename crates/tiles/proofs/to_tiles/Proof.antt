@@ -1,8 +1,5 @@
 -- `to_tiles` meets its contract: refused by the checks, or the bands go into tiles and scratch is cleared.
-use mathlib.Core.Path.{_≡_}
-use native.Mathlib.Omega.{arith}
-use borrow.Author.Needs.{needs}
-use Rattle.lists.proofs.Via.{via}
+use Rattle.lists.proofs.Kit.{_≡_, arith, needs, via}
 use Rattle.refusals.specs.FirstOf.{firstOf}
 use Rattle.refusals.proofs.Promise.{refused}
 use Rattle.tiles.specs.Promises.{tileChecks}
@@ -25,16 +22,7 @@ returns-2 c =
     to-outcome (x .args .m) (x .args .n) (x .args .r) (x .args .s) (search via) (z .clear .ensures) (v .convert .ensures)
 
 pub to-tiles-spec : {M : Type 1} → statement M
-to-tiles-spec =
-    tie.close
-    (tie.spec
-    (search needs)
-    (search needs)
-    (search needs)
-    (λ c. search refused)
-    (λ c κs. checked (search) (search via))
+to-tiles-spec = tie.close (tie.spec
+    (search needs) (search needs) (search needs) (λ c. search refused) (λ c κs. checked (search) (search via))
     (λ c. record { fits = omega (arith, checked (search) (search via)) })
-    (search needs)
-    (search needs)
-    (search needs)
-    returns-2)
+    (search needs) (search needs) (search needs) returns-2)

@@ -22,21 +22,7 @@ slice-aggregate-write-all c =
     sym (length-take-le (j .result .count) (j .last .1 .1 .1 .0) (text-inside (j .ensures)))
 
 pub main-spec : {M : Type 1} → statement M
-main-spec =
-    tie.close
-    (tie.spec
-    (search needs)
-    (search needs)
-    (search needs)
-    (search needs)
-    (search needs)
-    (search needs)
-    slice-aggregate-job
-    (search needs)
-    array-share-prefix-out
-    slice-aggregate-write-all
-    (search needs)
-    (search needs)
-    (search needs)
-    (search needs)
-    (search needs))
+main-spec = tie.close (tie.spec
+    (search needs) (search needs) (search needs) (search needs) (search needs) (search needs) slice-aggregate-job
+    (search needs) array-share-prefix-out slice-aggregate-write-all
+    (search needs) (search needs) (search needs) (search needs) (search needs))

@@ -1,9 +1,5 @@
 -- `axes::Shape::first` meets its contract. The loop's invariant: the lengths passed are 0.
-use mathlib.Core.Path.{_≡_}
-use Prim.Native.Nat.{_-_}
-use native.Mathlib.Omega.{arith}
-use lib.ListN.{length}
-use borrow.Author.Needs.{needs}
+use Rattle.lists.proofs.Kit.{_≡_, _-_, arith, length, needs}
 use Rattle.axes.proofs.Five.{all-five, Cleared, clear-none, clear-next, all-cleared}
 use Rattle.axes.proofs.Shape.first.Statement.{statement}
 use Rattle.axes.proofs.Shape.first.Tie as tie
@@ -18,16 +14,9 @@ five : (x : tie.Start Inv-loop μ-loop) → length (x .args .self .lengths) ≡ 
 five x = search needs
 
 pub first-spec : {M : Type 1} → statement M
-first-spec =
-    tie.close
-    (tie.spec
-    Inv-loop
-    μ-loop
+first-spec = tie.close (tie.spec
+    Inv-loop μ-loop
     (λ c. let x : tie.Start Inv-loop μ-loop = search in all-five {r = x .args .axes} _ (five x) (omega arith))
-    (λ c. clear-none (five (search)) (omega arith))
-    (search needs)
-    (search needs)
-    (search needs)
-    (search needs)
+    (λ c. clear-none (five (search)) (omega arith)) (search needs) (search needs) (search needs) (search needs)
     (λ c. let l : tie.At-loop Inv-loop μ-loop = search in clear-next (l .loop .inv) (omega arith))
     (λ c. let l : tie.At-loop Inv-loop μ-loop = search in all-cleared (l .loop .inv) (omega arith)))

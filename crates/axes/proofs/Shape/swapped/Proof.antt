@@ -1,9 +1,5 @@
 -- `axes::Shape::swapped` meets its contract: the places are exchanged where the axes have them; where they have not there is nothing to exchange.
-use mathlib.Core.Path.{_≡_}
-use mathlib.Core.Logic.{inl, inr}
-use native.Mathlib.Omega.{arith}
-use lib.ListN.{length}
-use borrow.Author.Needs.{needs}
+use Rattle.lists.proofs.Kit.{_≡_, inl, inr, arith, length, needs}
 use Rattle.axes.proofs.Five.{two-exchanged, none-exchanged}
 use Rattle.axes.proofs.Shape.swapped.Statement.{statement}
 use Rattle.axes.proofs.Shape.swapped.Tie as tie
@@ -34,13 +30,7 @@ returns-3 c =
     two-exchanged (x .args .axes) (x .args .k) (x .args .self .lengths) (five x) (f .first .ensures) (omega arith) (omega arith) (e .exchange-at .ensures)
 
 pub swapped-spec : {M : Type 1} → statement M
-swapped-spec =
-    tie.close
-    (tie.spec
-    (search needs)
-    returns
-    (search needs)
-    returns-2
-    (λ c. search needs)
+swapped-spec = tie.close (tie.spec
+    (search needs) returns (search needs) returns-2 (λ c. search needs)
     (λ c κs. let f : tie.After-first = search in omega (arith, still-five f))
     returns-3)

@@ -1,14 +1,6 @@
 -- `axes::chains::chain_number` meets its contract: the checks of the block come first, then the chain is measured and searched, then scratch
 -- is measured by what the chain needs.
-use mathlib.Core.Path.{_≡_, refl, sym, _∙_}
-use mathlib.Core.Bool.{cond}
-use mathlib.Core.List.{List, [], _∷_}
-use Prim.Native.Nat.{ℕ, _<_, _≤_}
-use native.Mathlib.Omega.{arith}
-use lib.ListN.{length}
-use borrow.Author.Needs.{needs}
-use borrow.Author.Tests.{lt-ltb, le-ltb}
-use Rattle.lists.proofs.Via.{via}
+use Rattle.lists.proofs.Kit.{_≡_, refl, sym, _∙_, cond, List, [], _∷_, ℕ, _<_, _≤_, arith, length, needs, lt-ltb, le-ltb, via}
 use Rattle.orders.specs.Needs.{chainNeed}
 use Rattle.refusals.specs.FirstOf.{Check, check, firstOf}
 use Rattle.refusals.specs.Conditions.{longChain, noSwap, badSwap, firstPlace, shortScratch}
@@ -74,15 +66,6 @@ returns-5 c =
     sym (room x (search via) (omega arith) (omega arith) ∙ rw (le-ltb (length (scratch x)) (chainNeed (lengths x) (swaps x)) (omega arith)))
 
 pub chain-number-spec : {M : Type 1} → statement M
-chain-number-spec =
-    tie.close
-    (tie.spec
-    (search needs)
-    returns
-    (λ c. long (search) (search via) (omega arith))
-    (search needs)
-    (search needs)
-    bad-swap
-    (search needs)
-    returns-4
-    returns-5)
+chain-number-spec = tie.close (tie.spec
+    (search needs) returns (λ c. long (search) (search via) (omega arith)) (search needs) (search needs) bad-swap
+    (search needs) returns-4 returns-5)

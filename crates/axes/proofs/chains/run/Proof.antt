@@ -1,11 +1,5 @@
 -- `axes::chains::run` meets its promise. The loop's invariant: i swaps of the chain are made.
-use mathlib.Core.Path.{_≡_, refl, sym, ap, _∙_}
-use Prim.Native.Nat.{ℕ, _+_, _<_, _≤_, _-_}
-use native.Mathlib.Nat.{le-refl}
-use native.Mathlib.Omega.{arith}
-use lib.ListN.{length, getD, take}
-use lib.Seq.{length-take-le}
-use borrow.Author.Needs.{needs}
+use Rattle.lists.proofs.Kit.{_≡_, refl, sym, ap, _∙_, ℕ, _+_, _<_, _≤_, _-_, le-refl, arith, length, getD, take, length-take-le, needs}
 use Rattle.refusals.proofs.Scratch.{cleared-length}
 use Rattle.axes.proofs.Accepted.{ChainAccepted, accepts-chain, good-swap}
 use Rattle.axes.proofs.Progress.{Progress, begin, as-many, enough-lengths, still-accepted, still-room, one-swap, finished}
@@ -19,14 +13,7 @@ Inv-loop buf₀ scratch₀ axes swaps stands₀ order₀ i₀ i-end buf scratch 
 abbrev μ-loop : tie.MeasureT-loop
 μ-loop buf₀ scratch₀ axes swaps stands₀ order₀ i₀ i-end buf scratch stands order i = length swaps - i
 
--- the places that the answers look back to
-abbrev Start : Type 0
-Start = tie.Start Inv-loop μ-loop
-
-abbrev Loop : Type 0
-Loop = tie.At-loop Inv-loop μ-loop
-
-module _ (x : Start) where
+module _ (x : tie.Start Inv-loop μ-loop) where
   five : length (x .args .shape .lengths) ≡ 5
   five = search needs
 
@@ -40,12 +27,12 @@ module _ (x : Start) where
   good i h = omega (arith, good-swap (x .args .axes) (x .args .swaps .now) (accepts .swaps) i h, x .pre .0 .0)
 
 loop-holds : tie.Need-loop-holds Inv-loop μ-loop
-loop-holds c = let x : Start = search in (refl, omega arith, begin _ (axes x) _ _ _ refl)
+loop-holds c = let x : tie.Start Inv-loop μ-loop = search in (refl, omega arith, begin _ (axes x) _ _ _ refl)
 
 swap-at-requires : tie.Need-swap-at-requires Inv-loop μ-loop
 swap-at-requires c κs =
-    let l : Loop = search in
-    let x : Start = search in
+    let l : tie.At-loop Inv-loop μ-loop = search in
+    let x : tie.Start Inv-loop μ-loop = search in
     record {
       place = rw (as-many _ (axes x) _ _ _ (l .loop .inv .2)) (good x (l .loop .i) (omega arith));
       block = still-accepted _ (axes x) _ _ _ (l .loop .inv .2) (accepts x);
@@ -57,8 +44,8 @@ loop-again c =
     let n : tie.After-swapped Inv-loop μ-loop = search in
     let s : tie.After-swap-at Inv-loop μ-loop = search in
     let b : tie.In-loop Inv-loop μ-loop = search in
-    let l : Loop = search in
-    let x : Start = search in
+    let l : tie.At-loop Inv-loop μ-loop = search in
+    let x : tie.Start Inv-loop μ-loop = search in
     let made = s .swap-at .ensures in (
       refl,
       omega (arith, b .loop-test .taken, l .loop .inv .0),
@@ -66,38 +53,24 @@ loop-again c =
     )
 
 same-length : tie.Need-same-length Inv-loop μ-loop
-same-length c = let l : Loop = search in l .loop .inv .2 .words .same
+same-length c = let l : tie.At-loop Inv-loop μ-loop = search in l .loop .inv .2 .words .same
 
 returns : tie.Need-returns Inv-loop μ-loop
 returns c =
     let f : tie.After-first Inv-loop μ-loop = search in
-    let l : Loop = search in
-    let x : Start = search in
+    let l : tie.At-loop Inv-loop μ-loop = search in
+    let x : tie.Start Inv-loop μ-loop = search in
     finished _ (axes x) _ _ _ (l .loop .inv .2) (omega arith) (accepts x) (f .first .ensures)
 
 same-length-2 : tie.Need-same-length-2 Inv-loop μ-loop
 same-length-2 c =
-    let x : Start = search in
+    let x : tie.Start Inv-loop μ-loop = search in
     ap length (returns (search) .block .zeroed refl) ∙ cleared-length _ (le-refl _) (accepts x .room)
 
 pub run-spec : {M : Type 1} → statement M
-run-spec =
-    tie.close
-    (tie.spec
-    Inv-loop
-    μ-loop
-    loop-holds
-    (search needs)
-    (search needs)
-    (λ c. let l : Loop = search in enough-lengths _ (axes (search)) _ _ _ (l .loop .inv .2))
-    (λ c. let l : Loop = search in sym (as-many _ (axes (search)) _ _ _ (l .loop .inv .2)))
-    swap-at-requires
-    (search needs)
-    (search needs)
-    (search needs)
-    (search needs)
-    loop-again
-    (search needs)
-    same-length
-    same-length-2
-    returns)
+run-spec = tie.close (tie.spec
+    Inv-loop μ-loop loop-holds (search needs) (search needs)
+    (λ c. let l : tie.At-loop Inv-loop μ-loop = search in enough-lengths _ (axes (search)) _ _ _ (l .loop .inv .2))
+    (λ c. let l : tie.At-loop Inv-loop μ-loop = search in sym (as-many _ (axes (search)) _ _ _ (l .loop .inv .2)))
+    swap-at-requires (search needs) (search needs) (search needs) (search needs) loop-again (search needs) same-length
+    same-length-2 returns)

@@ -1,15 +1,9 @@
 -- `axes::chains::swap_at` meets its contract: the axes before place k, the two axes and the axes after are a block for the adjacent swap.
-use mathlib.Core.Path.{refl, sym, ap, _∙_}
-use mathlib.Core.List.{List}
-use Prim.Native.Nat.{ℕ, _+_, _-_}
-use native.Mathlib.Omega.{arith}
-use lib.ListN.{length, drop, length-drop}
-use lib.Seq.{take-all, length-take-le}
+use Rattle.lists.proofs.Kit.{refl, sym, ap, _∙_, List, ℕ, _+_, _-_, arith, length, drop, length-drop, take-all, length-take-le, needs}
 use Rattle.layout.specs.Layout.{volume}
 use Rattle.checks.specs.Words.{capped}
 use Rattle.axes.proofs.Accepted.{block-accepted}
 use Rattle.axes.proofs.Steps.{swap-leaves}
-use borrow.Author.Needs.{needs}
 use Rattle.axes.proofs.chains.swap_at.Statement.{statement}
 use Rattle.axes.proofs.chains.swap_at.Tie as tie
 
@@ -29,23 +23,7 @@ returns c =
     swap-leaves l refl k (x .pre .place) (block-accepted _ _ (x .pre .block)) _ (x .pre .room) (before .words-of .ensures) chunk (w .swap .ensures)
 
 pub swap-at-spec : {M : Type 1} → statement M
-swap-at-spec =
-    tie.close
-    (tie.spec
+swap-at-spec = tie.close (tie.spec
     slice-aggregate-words-of
-    (search needs)
-    (search needs)
-    (search needs)
-    (search needs)
-    (search needs)
-    (search needs)
-    (search needs)
-    (search needs)
-    (search needs)
-    (search needs)
-    (search needs)
-    (search needs)
-    (search needs)
-    (search needs)
-    (search needs)
-    returns)
+    (search needs) (search needs) (search needs) (search needs) (search needs) (search needs) (search needs) (search needs) (search needs) (search needs)
+    (search needs) (search needs) (search needs) (search needs) (search needs) returns)

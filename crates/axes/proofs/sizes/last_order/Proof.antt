@@ -1,6 +1,5 @@
 -- `axes::sizes::last_order` meets its contract: four axes have 24 orders, five 120.
-use mathlib.Core.Path.{_≡_}
-use native.Mathlib.Omega.{arith}
+use Rattle.lists.proofs.Kit.{_≡_, arith}
 use Rattle.axes.proofs.sizes.last_order.Statement.{statement}
 use Rattle.axes.proofs.sizes.last_order.Tie as tie
 
@@ -15,4 +14,5 @@ returns-2 c =
     rw five
 
 pub last-order-spec : {M : Type 1} → statement M
-last-order-spec = tie.close (tie.spec returns returns-2)
+last-order-spec = tie.close (tie.spec
+    returns returns-2)

@@ -1,7 +1,5 @@
 -- `axes::sizes::next_order` meets its contract: each size has its own table.
-use mathlib.Core.Path.{_≡_}
-use native.Mathlib.Omega.{arith}
-use borrow.Author.Needs.{needs}
+use Rattle.lists.proofs.Kit.{_≡_, arith, needs}
 use Rattle.axes.proofs.sizes.next_order.Statement.{statement}
 use Rattle.axes.proofs.sizes.next_order.Tie as tie
 
@@ -16,4 +14,5 @@ returns-2 c =
     rw five (c .next-order5 .ensures)
 
 pub next-order-spec : {M : Type 1} → statement M
-next-order-spec = tie.close (tie.spec (search needs) returns (search needs) returns-2)
+next-order-spec = tie.close (tie.spec
+    (search needs) returns (search needs) returns-2)

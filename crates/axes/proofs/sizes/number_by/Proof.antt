@@ -1,7 +1,5 @@
 -- `axes::sizes::number_by` meets its contract: each size has its own table.
-use mathlib.Core.Path.{_≡_}
-use native.Mathlib.Omega.{arith}
-use borrow.Author.Needs.{needs}
+use Rattle.lists.proofs.Kit.{_≡_, arith, needs}
 use Rattle.axes.proofs.sizes.number_by.Statement.{statement}
 use Rattle.axes.proofs.sizes.number_by.Tie as tie
 
@@ -16,4 +14,5 @@ returns-2 c =
     rw five (c .number-by5 .ensures)
 
 pub number-by-spec : {M : Type 1} → statement M
-number-by-spec = tie.close (tie.spec (search needs) returns (search needs) returns-2)
+number-by-spec = tie.close (tie.spec
+    (search needs) returns (search needs) returns-2)

@@ -1,7 +1,5 @@
 -- `axes::sizes::plan_of` meets its contract: each size has its own table.
-use mathlib.Core.Path.{_≡_}
-use native.Mathlib.Omega.{arith}
-use borrow.Author.Needs.{needs}
+use Rattle.lists.proofs.Kit.{_≡_, arith, needs}
 use Rattle.axes.proofs.sizes.plan_of.Statement.{statement}
 use Rattle.axes.proofs.sizes.plan_of.Tie as tie
 
@@ -16,4 +14,5 @@ returns-2 c =
     rw five (c .plan5 .ensures)
 
 pub plan-of-spec : {M : Type 1} → statement M
-plan-of-spec = tie.close (tie.spec (search needs) returns (search needs) returns-2)
+plan-of-spec = tie.close (tie.spec
+    (search needs) returns (search needs) returns-2)

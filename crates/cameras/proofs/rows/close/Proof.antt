@@ -1,9 +1,5 @@
 -- `close` meets its contract: the runs close up, then the words behind the column of the last row.
-use mathlib.Core.Path.{_≡_}
-use mathlib.Core.Logic.{inl}
-use Prim.Native.Nat.{suc, _+_, _*_, _-_}
-use native.Mathlib.Omega.{arith}
-use borrow.Author.Needs.{needs}
+use Rattle.lists.proofs.Kit.{_≡_, inl, suc, _+_, _*_, _-_, arith, needs}
 use Rattle.cameras.proofs.Runs.{none-closed, all-closed, last-row}
 use Rattle.cameras.proofs.rows.close.Statement.{statement}
 use Rattle.cameras.proofs.rows.close.Tie as tie
@@ -18,15 +14,8 @@ returns c =
     all-closed (omega arith) (r .close-runs .ensures _ (none-closed (omega arith))) (omega arith) (omega arith) (d .fall .ensures .inside (omega (arith, ends (search)), omega (arith, ends (search)), inl (omega arith)))
 
 pub close-spec : {M : Type 1} → statement M
-close-spec =
-    tie.close
-    (tie.spec
+close-spec = tie.close (tie.spec
     (search needs)
     (λ c κs. (omega arith, omega arith, omega arith, omega (arith, ends (search))))
-    (λ c. omega (arith, ends (search)))
-    (λ c. omega (arith, ends (search)))
-    (λ c. omega (arith, ends (search)))
-    (search needs)
-    (search needs)
-    (search needs)
-    returns)
+    (λ c. omega (arith, ends (search))) (λ c. omega (arith, ends (search))) (λ c. omega (arith, ends (search)))
+    (search needs) (search needs) (search needs) returns)

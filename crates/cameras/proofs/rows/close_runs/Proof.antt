@@ -1,9 +1,6 @@
 -- `close_runs` meets its contract: the runs close up, range after range. Those between the first few and the last few have room for sixteens: they
 -- move far enough, and the rows past them reach as far as what is read.
-use Prim.Native.Nat.{suc, _+_, _-_, _≤_}
-use native.Mathlib.Nat.{mul-le-mul-right}
-use native.Mathlib.Omega.{arith}
-use borrow.Author.Needs.{needs}
+use Rattle.lists.proofs.Kit.{suc, _+_, _-_, _≤_, mul-le-mul-right, arith, needs}
 use Rattle.cameras.proofs.Runs.{closed-also}
 use Rattle.cameras.proofs.rows.close_runs.Statement.{statement}
 use Rattle.cameras.proofs.rows.close_runs.Tie as tie
@@ -45,21 +42,9 @@ returns-3 c =
     λ xs none. closed-also (omega arith) (w .close-wide .ensures xs (e .close-exact .ensures xs none))
 
 pub close-runs-spec : {M : Type 1} → statement M
-close-runs-spec =
-    tie.close
-    (tie.spec
+close-runs-spec = tie.close (tie.spec
     (λ c xs none. closed-also (omega arith) none)
-    (search needs)
-    (search needs)
-    (search needs)
-    (search needs)
-    (search needs)
-    (search needs)
-    (search needs)
-    close-exact-requires
-    close-wide-requires
+    (search needs) (search needs) (search needs) (search needs) (search needs) (search needs) (search needs)
+    close-exact-requires close-wide-requires
     (λ c κs. (omega arith, omega arith, omega arith))
-    (search needs)
-    returns-2
-    (search needs)
-    returns-3)
+    (search needs) returns-2 (search needs) returns-3)

@@ -1,9 +1,5 @@
 -- `open` meets its contract: the words from the column of the last row on open and its new word is stored, then the runs open.
-use mathlib.Core.Path.{_≡_}
-use Prim.Native.Nat.{suc, _+_, _*_, _-_}
-use native.Mathlib.Omega.{arith}
-use lib.ListN.{length-set}
-use borrow.Author.Needs.{needs}
+use Rattle.lists.proofs.Kit.{_≡_, suc, _+_, _*_, _-_, arith, length-set, needs}
 use Rattle.cameras.proofs.Runs.{last-opened, all-opened, last-row}
 use Rattle.cameras.proofs.rows.open.Statement.{statement}
 use Rattle.cameras.proofs.rows.open.Tie as tie
@@ -26,20 +22,8 @@ returns c =
     all-opened (omega arith) (r .open-runs .ensures _ _ (omega arith) last) (omega arith)
 
 pub open-spec : {M : Type 1} → statement M
-open-spec =
-    tie.close
-    (tie.spec
-    (search needs)
-    (λ c. omega (arith, ends (search)))
-    (λ c. omega (arith, ends (search)))
-    (λ c. omega (arith, ends (search)))
-    (search needs)
-    (search needs)
-    (search needs)
-    (search needs)
-    (λ c. omega (arith, ends (search)))
-    (λ c. omega (arith, ends (search)))
-    slice-write-buf
-    open-runs-requires
-    (λ c. returns c .same)
-    returns)
+open-spec = tie.close (tie.spec
+    (search needs) (λ c. omega (arith, ends (search))) (λ c. omega (arith, ends (search)))
+    (λ c. omega (arith, ends (search))) (search needs) (search needs) (search needs) (search needs)
+    (λ c. omega (arith, ends (search))) (λ c. omega (arith, ends (search))) slice-write-buf open-runs-requires
+    (λ c. returns c .same) returns)

@@ -1,9 +1,6 @@
 -- `open_runs` meets its contract: the runs open, range after range. Those past the first few have room for sixteens: they move far enough, and
 -- enough words stand before them.
-use Prim.Native.Nat.{suc}
-use native.Mathlib.Nat.{mul-le-mul-right}
-use native.Mathlib.Omega.{arith}
-use borrow.Author.Needs.{needs}
+use Rattle.lists.proofs.Kit.{suc, mul-le-mul-right, arith, needs}
 use Rattle.cameras.proofs.Runs.{opened-also}
 use Rattle.cameras.proofs.rows.open_runs.Statement.{statement}
 use Rattle.cameras.proofs.rows.open_runs.Tie as tie
@@ -29,17 +26,7 @@ returns-2 c =
     λ frames xs f o. e .open-exact .ensures frames xs (omega (arith, l .smaller2 .ensures .1)) (w .open-wide .ensures frames xs f o)
 
 pub open-runs-spec : {M : Type 1} → statement M
-open-runs-spec =
-    tie.close
-    (tie.spec
+open-runs-spec = tie.close (tie.spec
     (λ c frames xs _ o. opened-also (omega arith) o)
-    (search needs)
-    (search needs)
-    (search needs)
-    (search needs)
-    (search needs)
-    (search needs)
-    open-wide-requires
-    open-exact-requires
-    (search needs)
-    returns-2)
+    (search needs) (search needs) (search needs) (search needs) (search needs) (search needs) open-wide-requires
+    open-exact-requires (search needs) returns-2)

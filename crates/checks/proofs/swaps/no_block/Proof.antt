@@ -1,10 +1,5 @@
 -- `swaps::no_block` meets its contract: each return answers the test that led there.
-use mathlib.Core.Path.{_≡_}
-use mathlib.Core.Bool.{true, false}
-use mathlib.Core.List.{[], _∷_}
-use borrow.Author.Needs.{needs}
-use borrow.Author.Tests.{eq-eqb, ne-eqb}
-use Rattle.lists.proofs.Via.{via}
+use Rattle.lists.proofs.Kit.{_≡_, true, false, [], _∷_, needs, eq-eqb, ne-eqb, via}
 use Rattle.refusals.specs.Conditions.{badLength}
 use Rattle.checks.proofs.swaps.no_block.Statement.{statement}
 use Rattle.checks.proofs.swaps.no_block.Tie as tie
@@ -28,4 +23,5 @@ returns-3 c =
     rw (good, ne-eqb _ _ (c .if2 .left))
 
 pub no-block-spec : {M : Type 1} → statement M
-no-block-spec = tie.close (tie.spec (search needs) (search needs) returns returns-2 returns-3)
+no-block-spec = tie.close (tie.spec
+    (search needs) (search needs) returns returns-2 returns-3)

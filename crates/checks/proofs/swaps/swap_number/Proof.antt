@@ -1,13 +1,5 @@
 -- `swaps::swap_number` meets its contract: each test is that of a check, and a cut count of words decides 2, 3 and 13 as the count itself does.
-use mathlib.Core.Path.{_≡_, sym, _∙_}
-use mathlib.Core.Bool.{true, false, cond}
-use mathlib.Core.List.{List, [], _∷_}
-use Prim.Native.Nat.{ℕ, _<_, _≤_}
-use native.Mathlib.Omega.{arith}
-use lib.ListN.{length}
-use borrow.Author.Needs.{needs}
-use borrow.Author.Tests.{lt-ltb, le-ltb}
-use Rattle.lists.proofs.Via.{via}
+use Rattle.lists.proofs.Kit.{_≡_, sym, _∙_, true, false, cond, List, [], _∷_, ℕ, _<_, _≤_, arith, length, needs, lt-ltb, le-ltb, via}
 use Rattle.layout.specs.Layout.{volume}
 use Rattle.refusals.specs.FirstOf.{Check, firstOf}
 use Rattle.refusals.specs.Conditions.{shortScratch}
@@ -86,17 +78,6 @@ returns-6 : tie.Need-returns-6
 returns-6 c = let w : tie.After-words-of = search in accepted (search) (search via) (w .words-of .ensures) (omega arith) (omega arith) (omega arith)
 
 pub swap-number-spec : {M : Type 1} → statement M
-swap-number-spec =
-    tie.close
-    (tie.spec
-    (search needs)
-    (λ c. no-block (search) (search via))
-    (search needs)
-    (search needs)
-    returns-2
-    returns-3
-    returns-4
-    (search needs)
-    (search needs)
-    returns-5
-    returns-6)
+swap-number-spec = tie.close (tie.spec
+    (search needs) (λ c. no-block (search) (search via)) (search needs) (search needs) returns-2 returns-3 returns-4
+    (search needs) (search needs) returns-5 returns-6)

@@ -1,7 +1,5 @@
 -- `exchange_of` meets its contract: the part from the exchange's place to its end has four readings, and starts where the exchange does.
-use mathlib.Core.Path.{refl}
-use native.Mathlib.Omega.{arith}
-use borrow.Author.Needs.{needs}
+use Rattle.lists.proofs.Kit.{refl, arith, needs}
 use Rattle.choice.proofs.Exchanges.{exchange-is}
 use Rattle.choice.proofs.parts.exchange_of.Statement.{statement}
 use Rattle.choice.proofs.parts.exchange_of.Tie as tie
@@ -12,4 +10,5 @@ returns c =
     record { readings = exchange-is (s .args .run .now) (s .args .j); block = refl; place = omega arith }
 
 pub exchange-of-spec : {M : Type 1} → statement M
-exchange-of-spec = tie.close (tie.spec (search needs) (search needs) (search needs) (search needs) (search needs) (search needs) returns)
+exchange-of-spec = tie.close (tie.spec
+    (search needs) (search needs) (search needs) (search needs) (search needs) (search needs) returns)

@@ -1,14 +1,7 @@
 -- `chosen_at` meets its contract: refused by its runs, or what is held of each path decides.
-use mathlib.Core.Path.{_≡_, refl, sym, ap, ap₂, _∙_}
-use mathlib.Core.Bool.{Bool, true, false, cond, not, _||_}
-use mathlib.Core.List.{List, [], _∷_}
-use mathlib.Core.Logic.{inl, inr}
-use Prim.Native.Nat.{ℕ}
-use native.Mathlib.Omega.{arith}
+use Rattle.lists.proofs.Kit.{_≡_, refl, sym, ap, ap₂, _∙_, Bool, true, false, cond, not, _||_, List, [], _∷_, inl, inr, ℕ, arith, needs, via}
 use lib.IntN.{ℤ, pos}
 use lib.Signed.{ltZ}
-use borrow.Author.Needs.{needs}
-use Rattle.lists.proofs.Via.{via}
 use Rattle.refusals.specs.FirstOf.{check, firstOf}
 use Rattle.refusals.proofs.FirstOf.{refused-by}
 use Rattle.signed.proofs.Ends.{back}
@@ -109,4 +102,5 @@ returns-4 c =
     (sym (ap (λ (z : ℤ). ltZ z (pos 0)) before) ∙ c .if3 .left)
 
 pub chosen-at-spec : {M : Type 1} → statement M
-chosen-at-spec = tie.close (tie.spec (search needs) returns best-requires best-requires-2 (search needs) returns-2 returns-3 returns-4)
+chosen-at-spec = tie.close (tie.spec
+    (search needs) returns best-requires best-requires-2 (search needs) returns-2 returns-3 returns-4)

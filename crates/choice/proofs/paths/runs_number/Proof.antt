@@ -1,9 +1,5 @@
 -- `runs_number` meets its contract: each test is that of a check, in its order, the first run before the second.
-use mathlib.Core.Path.{_≡_}
-use mathlib.Core.Bool.{true, false}
-use borrow.Author.Needs.{needs}
-use borrow.Author.Tests.{eq-eqb, ne-eqb}
-use Rattle.lists.proofs.Via.{via}
+use Rattle.lists.proofs.Kit.{_≡_, true, false, needs, eq-eqb, ne-eqb, via}
 use Rattle.desk.specs.Conditions.{farReading}
 use Rattle.choice.proofs.paths.runs_number.Statement.{statement}
 use Rattle.choice.proofs.paths.runs_number.Tie as tie
@@ -43,4 +39,5 @@ returns-5 c =
     rw (eq-eqb _ _ (e .if1 .left), eq-eqb _ _ (f .if2 .left), near, near′)
 
 pub runs-number-spec : {M : Type 1} → statement M
-runs-number-spec = tie.close (tie.spec returns returns-2 (search needs) returns-3 (search needs) returns-4 returns-5)
+runs-number-spec = tie.close (tie.spec
+    returns returns-2 (search needs) returns-3 (search needs) returns-4 returns-5)

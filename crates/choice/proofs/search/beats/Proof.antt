@@ -19,4 +19,5 @@ returns-3 c =
     rw (rw (toZ-ofZ (s .fits .d)) at (e .if1 .left), rw (toZ-ofZ (s .fits .least)) at (c .if2 .left), toZ-ofZ (s .fits .d), toZ-ofZ (s .fits .least))
 
 pub beats-spec : {M : Type 1} → statement M
-beats-spec = tie.close (tie.spec returns returns-2 returns-3)
+beats-spec = tie.close (tie.spec
+    returns returns-2 returns-3)

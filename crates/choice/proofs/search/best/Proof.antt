@@ -1,14 +1,7 @@
 -- `best` meets its contract. The loop's invariant: what is held is right of the exchanges passed; one exchange more is taken or left by what
 -- `beats` answers of its delay.
-use mathlib.Core.Path.{_≡_, sym, ap, _∙_, subst}
-use mathlib.Core.Bool.{false}
-use mathlib.Core.List.{List}
-use mathlib.Core.Logic.{⊎-elim}
-use Prim.Native.Nat.{ℕ, _≤_, _<_, _-_}
-use native.Mathlib.Nat.{le-antisymm}
-use native.Mathlib.Omega.{arith}
+use Rattle.lists.proofs.Kit.{_≡_, sym, ap, _∙_, subst, false, List, ⊎-elim, ℕ, _≤_, _<_, _-_, le-antisymm, arith, needs}
 use lib.IntN.{ℤ}
-use borrow.Author.Needs.{needs}
 use mir.Syntax.{w64}
 use mir.Val.{toZ, ofZ}
 use Rattle.signed.proofs.Ends.{back}
@@ -28,12 +21,6 @@ Inv-loop run n found₀ least₀ j₀ found least j = (j ≤ n) × HeldAs run j 
 abbrev μ-loop : tie.MeasureT-loop
 μ-loop run n found₀ least₀ j₀ found least j = n - j
 
-abbrev Begin : Type 0
-Begin = tie.Start Inv-loop μ-loop
-
-abbrev Loop : Type 0
-Loop = tie.At-loop Inv-loop μ-loop
-
 loop-holds : tie.Need-loop-holds Inv-loop μ-loop
 loop-holds c = (omega arith, held-none (c .args .run .now))
 
@@ -48,8 +35,8 @@ loop-again c =
     let d-told : tie.After-struct-told Inv-loop μ-loop = search in
     let m : tie.After-offset-delay Inv-loop μ-loop = search in
     let x : tie.After-exchange-of Inv-loop μ-loop = search in
-    let at : Loop = search in
-    let s : Begin = search in
+    let at : tie.At-loop Inv-loop μ-loop = search in
+    let s : tie.Start Inv-loop μ-loop = search in
     let run = s .args .run .now in
     let l = at .loop in
     let d = m .offset-delay .result .delay in
@@ -66,22 +53,12 @@ loop-again c =
 
 returns : tie.Need-returns Inv-loop μ-loop
 returns c =
-    let at : Loop = search in
-    let s : Begin = search in
+    let at : tie.At-loop Inv-loop μ-loop = search in
+    let s : tie.Start Inv-loop μ-loop = search in
     let l = at .loop in
     subst (λ (m : ℕ). HeldAs (s .args .run .now) m (l .found) (toZ w64 (l .least))) (le-antisymm (l .inv .0) (c .loop-test .left)) (l .inv .1)
 
 pub best-spec : {M : Type 1} → statement M
-best-spec =
-    tie.close
-    (tie.spec
-    Inv-loop
-    μ-loop
-    loop-holds
-    (search needs)
-    (search needs)
-    (search needs)
-    (search needs)
-    (search needs)
-    loop-again
+best-spec = tie.close (tie.spec
+    Inv-loop μ-loop loop-holds (search needs) (search needs) (search needs) (search needs) (search needs) loop-again
     returns)

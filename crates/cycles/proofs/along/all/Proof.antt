@@ -1,9 +1,6 @@
 -- `along::all` meets its contract. The loop's invariant: what is left of the list leaves what the whole list leaves; the measure is how many
 -- pairs are left.
-use mathlib.Core.Path.{sym, _∙_}
-use Prim.Native.Nat.{_-_}
-use native.Mathlib.Omega.{arith}
-use borrow.Author.Needs.{needs}
+use Rattle.lists.proofs.Kit.{sym, _∙_, _-_, arith, needs}
 use Rattle.orbits.proofs.Stepping.{columns}
 use Rattle.cycles.proofs.Carrying.{Runs, runs-none, start-low, runs-more, runs-all}
 use Rattle.cycles.proofs.along.all.Statement.{statement}
@@ -15,21 +12,15 @@ Inv-loop list buf₀ m n inverse pairs k₀ buf k = Runs m n list buf₀ buf k
 abbrev μ-loop : tie.MeasureT-loop
 μ-loop list buf₀ m n inverse pairs k₀ buf k = pairs - k
 
-abbrev Loop : Type 0
-Loop = tie.At-loop Inv-loop μ-loop
-
-abbrev Begin : Type 0
-Begin = tie.Start Inv-loop μ-loop
-
 loop-holds : tie.Need-loop-holds Inv-loop μ-loop
-loop-holds c = let s : Begin = search in runs-none (s .args .m) (s .args .n) (s .args .list .now) (s .pre .1) (s .args .buf .now) (s .pre .2)
+loop-holds c = let s : tie.Start Inv-loop μ-loop = search in runs-none (s .args .m) (s .args .n) (s .args .list .now) (s .pre .1) (s .args .buf .now) (s .pre .2)
 
 one-requires : tie.Need-one-requires Inv-loop μ-loop
 one-requires c κs =
     let a : tie.After-wide Inv-loop μ-loop = search in
-    let l : Loop = search in
+    let l : tie.At-loop Inv-loop μ-loop = search in
     let i : tie.After-inverse-of Inv-loop μ-loop = search in
-    let s : Begin = search in
+    let s : tie.Start Inv-loop μ-loop = search in
     let low = start-low (s .args .m) (s .args .n) (s .args .list .now) (s .pre .1) (s .args .buf .now) (l .loop .k) (omega arith) in
     (s .pre .0, i .inverse-of .ensures, omega (arith, a .wide .ensures, low), l .loop .inv .long)
 
@@ -38,42 +29,26 @@ loop-again c =
     let o : tie.After-one Inv-loop μ-loop = search in
     let b : tie.After-wide2 Inv-loop μ-loop = search in
     let a : tie.After-wide Inv-loop μ-loop = search in
-    let l : Loop = search in
-    let s : Begin = search in
+    let l : tie.At-loop Inv-loop μ-loop = search in
+    let s : tie.Start Inv-loop μ-loop = search in
     runs-more (s .args .m) (s .args .n) (s .args .list .now) (s .pre .1) (s .args .buf .now) (l .loop .inv) (omega arith) (a .wide .ensures) (b .wide2 .ensures) (o .one .ensures)
 
 same-length : tie.Need-same-length Inv-loop μ-loop
 same-length c =
-    let l : Loop = search in
-    let s : Begin = search in
+    let l : tie.At-loop Inv-loop μ-loop = search in
+    let s : tie.Start Inv-loop μ-loop = search in
     l .loop .inv .long ∙ sym (s .pre .2)
 
 returns : tie.Need-returns Inv-loop μ-loop
 returns c =
-    let l : Loop = search in
-    let s : Begin = search in
+    let l : tie.At-loop Inv-loop μ-loop = search in
+    let s : tie.Start Inv-loop μ-loop = search in
     runs-all (s .args .m) (s .args .n) (s .args .list .now) (s .pre .1) (s .args .buf .now) (l .loop .inv) (omega arith)
 
 pub all-spec : {M : Type 1} → statement M
-all-spec =
-    tie.close
-    (tie.spec
-    Inv-loop
-    μ-loop
-    (λ c κs. let s : Begin = search in columns (s .pre .0))
-    loop-holds
-    (search needs)
-    (search needs)
-    (search needs)
-    (λ c κs. search needs)
-    (search needs)
-    (search needs)
-    (search needs)
-    (search needs)
-    (λ c κs. search needs)
-    one-requires
-    (search needs)
-    (search needs)
-    loop-again
-    same-length
-    returns)
+all-spec = tie.close (tie.spec
+    Inv-loop μ-loop
+    (λ c κs. let s : tie.Start Inv-loop μ-loop = search in columns (s .pre .0))
+    loop-holds (search needs) (search needs) (search needs) (λ c κs. search needs)
+    (search needs) (search needs) (search needs) (search needs) (λ c κs. search needs) one-requires
+    (search needs) (search needs) loop-again same-length returns)

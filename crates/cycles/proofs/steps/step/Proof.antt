@@ -1,6 +1,5 @@
 -- `steps::step` meets its contract: the product with the inverse gives the row, and each row is counted off.
-use native.Mathlib.Omega.{arith}
-use borrow.Author.Needs.{needs}
+use Rattle.lists.proofs.Kit.{arith, needs}
 use Rattle.orbits.proofs.Stepping.{product, taken-off, stepped, words-few}
 use Rattle.cycles.proofs.steps.step.Statement.{statement}
 use Rattle.cycles.proofs.steps.step.Tie as tie
@@ -21,4 +20,5 @@ returns : tie.Need-returns
 returns c = let s : tie.Start = search in stepped (s .pre .0) (s .pre .1) (s .pre .2)
 
 pub step-spec : {M : Type 1} → statement M
-step-spec = tie.close (tie.spec mul-row mul-result (search needs) (search needs) mul-result-3 sub-result-2 returns)
+step-spec = tie.close (tie.spec
+    mul-row mul-result (search needs) (search needs) mul-result-3 sub-result-2 returns)

@@ -1,16 +1,9 @@
 -- `some_beyond` meets its contract. The loop's invariant: no number passed lies beyond, so the rest decides.
-use mathlib.Core.Path.{_≡_, sym, _∙_}
-use mathlib.Core.Bool.{Bool, true, false, _||_}
-use mathlib.Core.List.{List}
-use Prim.Native.Nat.{ℕ, _+_, _-_, _≤_, _<_}
-use native.Mathlib.Omega.{arith}
-use lib.ListN.{length, drop, getD}
+use Rattle.lists.proofs.Kit.{_≡_, sym, _∙_, Bool, true, false, _||_, List, ℕ, _+_, _-_, _≤_, _<_, arith, length, drop, getD, needs, drop-next-or, drop-end}
 use lib.IntN.{ℤ, pos, natAbs}
-use borrow.Author.Needs.{needs}
 use mir.Syntax.{w64}
 use mir.Val.{toZ}
 use mir.Facts.{toZ-ofZ}
-use Rattle.lists.proofs.Front.{drop-next-or, drop-end}
 use Rattle.refusals.specs.Conditions.{some}
 use Rattle.signed.specs.Signed.{beyond as far}
 use Rattle.signed.proofs.Ends.{back}
@@ -23,14 +16,8 @@ Inv-loop run limit i₀ i-end i = (i ≤ length run) × (some (far (natAbs (toZ 
 abbrev μ-loop : tie.MeasureT-loop
 μ-loop run limit i₀ i-end i = length run - i
 
-abbrev Begin : Type 0
-Begin = tie.Start Inv-loop μ-loop
-
-abbrev Loop : Type 0
-Loop = tie.At-loop Inv-loop μ-loop
-
 beyond-requires : tie.Need-beyond-requires Inv-loop μ-loop
-beyond-requires c κs = let s : Begin = search in rw (toZ-ofZ (s .fits .limit)) (s .pre)
+beyond-requires c κs = let s : tie.Start Inv-loop μ-loop = search in rw (toZ-ofZ (s .fits .limit)) (s .pre)
 
 -- what the run tells, once the test of entry i is known
 entry : (n : ℕ) (xs : List ℤ) (i : ℕ) (t : Bool) → i < length xs → some (far n) xs ≡ some (far n) (drop i xs) → far n (getD xs i (pos 0)) ≡ t
@@ -41,8 +28,8 @@ returns : tie.Need-returns Inv-loop μ-loop
 returns c =
     let b : tie.After-beyond Inv-loop μ-loop = search in
     let a : tie.After-beyond-arg Inv-loop μ-loop = search in
-    let l : Loop = search in
-    let s : Begin = search in
+    let l : tie.At-loop Inv-loop μ-loop = search in
+    let s : tie.Start Inv-loop μ-loop = search in
     let xs = s .args .run .now in
     let found = rw (toZ-ofZ (s .fits .limit), back {z = getD xs (l .loop .i) (pos 0)} (a .beyond-arg .given)) at (b .beyond .ensures) in
     let inv : some (far (natAbs (s .args .limit))) xs ≡ some (far (natAbs (s .args .limit))) (drop (l .loop .i) xs) = rw (toZ-ofZ (s .fits .limit)) at (l .loop .inv .1) in
@@ -52,32 +39,21 @@ loop-again : tie.Need-loop-again Inv-loop μ-loop
 loop-again c =
     let b : tie.After-beyond Inv-loop μ-loop = search in
     let a : tie.After-beyond-arg Inv-loop μ-loop = search in
-    let l : Loop = search in
-    let s : Begin = search in
+    let l : tie.At-loop Inv-loop μ-loop = search in
+    let s : tie.Start Inv-loop μ-loop = search in
     let xs = s .args .run .now in
     let found = rw (back {z = getD xs (l .loop .i) (pos 0)} (a .beyond-arg .given)) at (b .beyond .ensures) in
     (omega arith, entry _ xs (l .loop .i) false (omega arith) (l .loop .inv .1) (sym found ∙ c .if1 .left))
 
 returns-2 : tie.Need-returns-2 Inv-loop μ-loop
 returns-2 c =
-    let l : Loop = search in
-    let s : Begin = search in
+    let l : tie.At-loop Inv-loop μ-loop = search in
+    let s : tie.Start Inv-loop μ-loop = search in
     let xs = s .args .run .now in
     let inv : some (far (natAbs (s .args .limit))) xs ≡ some (far (natAbs (s .args .limit))) (drop (l .loop .i) xs) = rw (toZ-ofZ (s .fits .limit)) at (l .loop .inv .1) in
     sym (inv ∙ rw (drop-end xs (l .loop .i) (omega arith)))
 
 pub some-beyond-spec : {M : Type 1} → statement M
-some-beyond-spec =
-    tie.close
-    (tie.spec
-    Inv-loop
-    μ-loop
-    (search needs)
-    (search needs)
-    (search needs)
-    beyond-requires
-    returns
-    (search needs)
-    (search needs)
-    loop-again
-    returns-2)
+some-beyond-spec = tie.close (tie.spec
+    Inv-loop μ-loop (search needs) (search needs) (search needs) beyond-requires returns (search needs) (search needs)
+    loop-again returns-2)

@@ -10,11 +10,7 @@ returns c =
     (y .carry-both .ensures, k .mark-pair .ensures)
 
 pub advance-spec : {M : Type 1} → statement M
-advance-spec =
-    tie.close
-    (tie.spec
+advance-spec = tie.close (tie.spec
     (search needs)
     (λ c κs. let s : tie.Start = search in (s .pre .0 .0 .follows, s .pre .0 .2, s .pre .0 .3))
-    (search needs)
-    (search needs)
-    returns)
+    (search needs) (search needs) returns)

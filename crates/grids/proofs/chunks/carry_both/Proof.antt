@@ -1,8 +1,5 @@
 -- `chunks::carry_both` meets its contract: what the mirrored place is to receive is not what has been overwritten.
-use mathlib.Core.Path.{sym, ap, _∙_}
-use Prim.Native.Nat.{ℕ, _+_, _*_}
-use lib.ListN.{getD}
-use borrow.Author.Needs.{needs}
+use Rattle.lists.proofs.Kit.{sym, ap, _∙_, ℕ, _+_, _*_, getD, needs}
 use Rattle.grids.proofs.Places.{both-hold, other-chunk}
 use Rattle.grids.proofs.chunks.carry_both.Statement.{statement}
 use Rattle.grids.proofs.chunks.carry_both.Tie as tie
@@ -20,4 +17,5 @@ returns c =
     ∙ ap (λ (z : ℕ). getD (s .args .buf .now) (z * g .chunk + u) 0) (y .mirrored2 .ensures))
 
 pub carry-both-spec : {M : Type 1} → statement M
-carry-both-spec = tie.close (tie.spec (search needs) (search needs) (search needs) (search needs) (search needs) returns)
+carry-both-spec = tie.close (tie.spec
+    (search needs) (search needs) (search needs) (search needs) (search needs) returns)

@@ -1,6 +1,5 @@
 -- `chunks::cross` meets its contract: the place and its mirrored one trade, or nothing is done.
-use mathlib.Core.Path.{refl}
-use borrow.Author.Needs.{needs}
+use Rattle.lists.proofs.Kit.{refl, needs}
 use Rattle.grids.proofs.Places.{hold-crossed}
 use Rattle.grids.proofs.chunks.cross.Statement.{statement}
 use Rattle.grids.proofs.chunks.cross.Tie as tie
@@ -17,4 +16,5 @@ returns-2 c =
     }
 
 pub cross-spec : {M : Type 1} → statement M
-cross-spec = tie.close (tie.spec (λ c. record { straight = λ z. refl; across = λ ne. absurd (ne (search)) }) (search needs) (search needs) (search needs) returns-2)
+cross-spec = tie.close (tie.spec
+    (λ c. record { straight = λ z. refl; across = λ ne. absurd (ne (search)) }) (search needs) (search needs) (search needs) returns-2)

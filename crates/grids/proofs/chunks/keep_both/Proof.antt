@@ -1,9 +1,5 @@
 -- `chunks::keep_both` meets its contract: what waits first lies before what waits then.
-use mathlib.Core.Path.{ap, _∙_}
-use Prim.Native.Nat.{ℕ, _+_, _*_}
-use native.Mathlib.Omega.{arith}
-use lib.ListN.{getD}
-use borrow.Author.Needs.{needs}
+use Rattle.lists.proofs.Kit.{ap, _∙_, ℕ, _+_, _*_, arith, getD, needs}
 use Rattle.grids.proofs.chunks.keep_both.Statement.{statement}
 use Rattle.grids.proofs.chunks.keep_both.Tie as tie
 
@@ -20,4 +16,5 @@ returns c =
     }
 
 pub keep-both-spec : {M : Type 1} → statement M
-keep-both-spec = tie.close (tie.spec (search needs) (search needs) (search needs) (search needs) returns)
+keep-both-spec = tie.close (tie.spec
+    (search needs) (search needs) (search needs) (search needs) returns)

@@ -1,6 +1,5 @@
 -- `chunks::put_both` meets its contract: one place receives what waits, then its mirrored place.
-use mathlib.Core.Path.{refl}
-use borrow.Author.Needs.{needs}
+use Rattle.lists.proofs.Kit.{refl, needs}
 use Rattle.grids.proofs.Places.{both-hold}
 use Rattle.grids.proofs.chunks.put_both.Statement.{statement}
 use Rattle.grids.proofs.chunks.put_both.Tie as tie
@@ -14,4 +13,5 @@ returns c =
     both-hold _ _ _ (s .pre .1) (s .pre .4) (q .mirrored .ensures) (b .put .ensures) (d .put2 .ensures) (λ u k. refl)
 
 pub put-both-spec : {M : Type 1} → statement M
-put-both-spec = tie.close (tie.spec (search needs) (search needs) (search needs) (search needs) (search needs) returns)
+put-both-spec = tie.close (tie.spec
+    (search needs) (search needs) (search needs) (search needs) (search needs) returns)

@@ -1,6 +1,5 @@
 -- `chunks::source` meets its contract: the product with the inverse gives the column, and each column is counted off.
-use native.Mathlib.Omega.{arith}
-use borrow.Author.Needs.{needs}
+use Rattle.lists.proofs.Kit.{arith, needs}
 use Rattle.orbits.proofs.Stepping.{product, taken-off, stepped, words-few}
 use Rattle.grids.proofs.chunks.source.Statement.{statement}
 use Rattle.grids.proofs.chunks.source.Tie as tie
@@ -21,4 +20,5 @@ returns : tie.Need-returns
 returns c = let s : tie.Start = search in stepped (s .pre .0 .small) (s .pre .0 .inverse) (s .pre .1)
 
 pub source-spec : {M : Type 1} → statement M
-source-spec = tie.close (tie.spec mul-column mul-result (search needs) (search needs) mul-result-3 sub-result-2 returns)
+source-spec = tie.close (tie.spec
+    mul-column mul-result (search needs) (search needs) mul-result-3 sub-result-2 returns)

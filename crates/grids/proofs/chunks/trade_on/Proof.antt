@@ -10,11 +10,7 @@ returns c =
     (y .trade-both .ensures, k .mark-pair .ensures)
 
 pub trade-on-spec : {M : Type 1} → statement M
-trade-on-spec =
-    tie.close
-    (tie.spec
+trade-on-spec = tie.close (tie.spec
     (λ c κs. let s : tie.Start = search in ((s .pre .0 .0, s .pre .0 .1, s .pre .0 .2, s .pre .0 .3), s .pre .1))
     (λ c κs. let s : tie.Start = search in (s .pre .0 .0 .follows, s .pre .0 .2, s .pre .0 .4))
-    (search needs)
-    (search needs)
-    returns)
+    (search needs) (search needs) returns)

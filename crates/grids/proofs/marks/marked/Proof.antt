@@ -1,9 +1,6 @@
 -- `marks::marked` meets its contract: the bit of the place is what the contract reads.
-use Prim.Native.Nat.{_/_, _%_, _^_}
-use native.Mathlib.Omega.{arith}
-use borrow.Author.Needs.{needs}
+use Rattle.lists.proofs.Kit.{_/_, _%_, _^_, arith, needs, getD}
 use lib.Bits.{and-mask, mask-lt}
-use lib.ListN.{getD}
 use Rattle.grids.specs.Private.{bitAt}
 use Rattle.grids.proofs.marks.marked.Statement.{statement}
 use Rattle.grids.proofs.marks.marked.Tie as tie
@@ -16,11 +13,8 @@ returns c =
     rw (and-mask (s .args .place) 5, and-mask (word / 2 ^ (s .args .place % 32)) 1)
 
 pub marked-spec : {M : Type 1} → statement M
-marked-spec =
-    tie.close
-    (tie.spec
-    (search needs)
-    (search needs)
+marked-spec = tie.close (tie.spec
+    (search needs) (search needs)
     (λ c. let s : tie.Start = search in omega (arith, mask-lt (s .args .place) 5))
     (λ c. let s : tie.Start = search in omega (arith, mask-lt (s .args .place) 5))
     returns)

@@ -1,15 +1,9 @@
 -- The proof of the cycle of calls {tall, wide}. The measure is the number of words in the block. The two halves of a block come back turned
 -- by whichever of the two functions was called; the laws of Cuts and Turns do not ask which.
-use mathlib.Core.Path.{refl}
-use mathlib.Core.List.{List}
-use mathlib.Core.Logic.{⊎-elim}
-use native.Mathlib.Omega.{arith}
-use borrow.Author.Needs.{needs}
+use Rattle.lists.proofs.Kit.{refl, List, ⊎-elim, arith, needs, ℕ, _-_, _*_, _/_, _<_, _≤_, length}
 use Rattle.flat.specs.Turn.{Turn}
 use Rattle.halves.proofs.Cuts.{Parted, Front, Back, Both, rows-cut, cut-within, low-block, low-long, low-falls, cut-after, high-block, high-falls, both-back, rows-few, columns-few}
 use Rattle.halves.proofs.Turns.{square-block, square-turned, merge-runs, tall-turned, split-runs, split-parts, wide-turned}
-use Prim.Native.Nat.{ℕ, _-_, _*_, _/_, _<_, _≤_}
-use lib.ListN.{length}
 use borrow.Fn.Kinds.{In, Out}
 use borrow.Fn.PlainCycle.{Measures, is, falls, and}
 use Rattle.halves.proofs.recursion.tall.Reads as tall

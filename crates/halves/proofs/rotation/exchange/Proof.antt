@@ -1,11 +1,7 @@
 -- `rotation::exchange` meets its contract: after i turns of the loop the first i words and those from k on stand exchanged.
-use mathlib.Core.Path.{_≡_, refl, ap, _∙_}
-use Prim.Native.Nat.{ℕ, _-_, _≤_}
-use native.Mathlib.Omega.{arith}
-use lib.ListN.{length, length-set}
+use Rattle.lists.proofs.Kit.{_≡_, refl, ap, _∙_, ℕ, _-_, _≤_, arith, length, length-set, needs}
 use Rattle.halves.specs.Private.{traded}
 use Rattle.halves.proofs.Stretches.{exchange-none, exchange-more}
-use borrow.Author.Needs.{needs}
 use Rattle.halves.proofs.rotation.exchange.Statement.{statement}
 use Rattle.halves.proofs.rotation.exchange.Tie as tie
 
@@ -31,24 +27,7 @@ returns c =
     l .loop .inv .2 ∙ ap (λ (w : ℕ). traded (x .args .k) w (x .args .s .now)) (omega arith)
 
 pub exchange-spec : {M : Type 1} → statement M
-exchange-spec =
-    tie.close
-    (tie.spec
-    Inv-loop
-    μ-loop
-    loop-holds
-    (search needs)
-    (search needs)
-    (search needs)
-    (search needs)
-    (search needs)
-    (search needs)
-    (search needs)
-    (search needs)
-    (search needs)
-    (λ c. rw length-set (omega arith))
-    (search needs)
-    (search needs)
-    loop-again
-    (search needs)
-    returns)
+exchange-spec = tie.close (tie.spec
+    Inv-loop μ-loop loop-holds
+    (search needs) (search needs) (search needs) (search needs) (search needs) (search needs) (search needs) (search needs) (search needs)
+    (λ c. rw length-set (omega arith)) (search needs) (search needs) loop-again (search needs) returns)

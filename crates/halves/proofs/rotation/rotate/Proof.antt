@@ -1,13 +1,8 @@
 -- `rotation::rotate` meets its contract. The invariant: what the slice is to become is the words that stand already, and the rest rotated.
 -- The measure is what is left of the slice.
-use mathlib.Core.Path.{_≡_, refl, sym, ap, _∙_}
-use mathlib.Core.List.{List, _++_}
-use Prim.Native.Nat.{ℕ, _+_, _-_, _≤_, _<_}
-use native.Mathlib.Omega.{arith}
-use lib.ListN.{length, take, drop, length-drop, take-append-drop}
+use Rattle.lists.proofs.Kit.{_≡_, refl, sym, ap, _∙_, List, _++_, ℕ, _+_, _-_, _≤_, _<_, arith, length, take, drop, length-drop, take-append-drop, needs}
 use Rattle.halves.specs.Private.{rotated}
 use Rattle.halves.proofs.Rotations.{rotated-none, rotated-all, short-left, short-right, step}
-use borrow.Author.Needs.{needs}
 use Rattle.halves.proofs.rotation.rotate.Statement.{statement}
 use Rattle.halves.proofs.rotation.rotate.Tie as tie
 
@@ -58,32 +53,9 @@ returns-2 c =
     ∙ take-append-drop (l .loop .at) (l .loop .s))
 
 pub rotate-spec : {M : Type 1} → statement M
-rotate-spec =
-    tie.close
-    (tie.spec
-    Inv-loop
-    μ-loop
-    returns
-    (λ c. search needs)
-    (search needs)
-    (search needs)
-    (search needs)
-    (search needs)
-    (search needs)
-    (search needs)
-    (search needs)
-    (search needs)
-    (search needs)
-    (search needs)
+rotate-spec = tie.close (tie.spec
+    Inv-loop μ-loop returns (λ c. search needs)
+    (search needs) (search needs) (search needs) (search needs) (search needs) (search needs) (search needs) (search needs) (search needs) (search needs)
     loop-again
-    (search needs)
-    (search needs)
-    (search needs)
-    (search needs)
-    (search needs)
-    (search needs)
-    (search needs)
-    (search needs)
-    loop-again-2
-    (search needs)
-    returns-2)
+    (search needs) (search needs) (search needs) (search needs) (search needs) (search needs) (search needs) (search needs)
+    loop-again-2 (search needs) returns-2)

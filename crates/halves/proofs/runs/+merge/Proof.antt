@@ -1,8 +1,5 @@
 -- `runs::merge` meets its contract, by recursion on the run count. One level is the law of Halving: the stretch rotated, then both halves merged.
-use mathlib.Core.Path.{sym}
-use Prim.Native.Nat.{ℕ, _<_}
-use native.Mathlib.Omega.{arith}
-use borrow.Author.Needs.{needs}
+use Rattle.lists.proofs.Kit.{sym, ℕ, _<_, arith, needs}
 use Rattle.halves.proofs.Four.{Halved, halved}
 use Rattle.halves.proofs.Merges.{merged-one}
 use Rattle.halves.proofs.Halving.{stretch-long, next-runs, cut-within, low-runs, cut-after, high-runs, merged-two, merged-whole}

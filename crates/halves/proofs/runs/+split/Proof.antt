@@ -1,8 +1,5 @@
 -- `runs::split` meets its contract, by recursion on the run count. One level is the law of Halving: both halves split, then the stretch rotated.
-use mathlib.Core.Path.{sym}
-use Prim.Native.Nat.{ℕ, _<_}
-use native.Mathlib.Omega.{arith}
-use borrow.Author.Needs.{needs}
+use Rattle.lists.proofs.Kit.{sym, ℕ, _<_, arith, needs}
 use Rattle.halves.proofs.Four.{Halved, halved}
 use Rattle.halves.proofs.Merges.{merged-one}
 use Rattle.halves.proofs.Halving.{stretch-long, cut-within, low-runs, cut-after, high-runs, both-runs, split-whole, split-two}

@@ -1,8 +1,5 @@
 -- `by_words` meets its contract: after i turns of the loop the rows before i stand exchanged with their columns.
-use mathlib.Core.Path.{_∙_}
-use Prim.Native.Nat.{_-_, _≤_}
-use native.Mathlib.Omega.{arith}
-use borrow.Author.Needs.{needs}
+use Rattle.lists.proofs.Kit.{_∙_, _-_, _≤_, arith, needs}
 use Rattle.halves.specs.PrivateTiles.{Across}
 use Rattle.halves.proofs.Across.{across-none, rows-more, all-across}
 use Rattle.halves.proofs.square.by_words.Statement.{statement}
@@ -14,34 +11,21 @@ Inv-loop s₀ n i₀ s i = (i ≤ n) × Across n 0 i 0 n s₀ s
 abbrev μ-loop : tie.MeasureT-loop
 μ-loop s₀ n i₀ s i = n - i
 
-abbrev Loop : Type 0
-Loop = tie.At-loop Inv-loop μ-loop
-
-abbrev Begin : Type 0
-Begin = tie.Start Inv-loop μ-loop
-
 loop-again : tie.Need-loop-again Inv-loop μ-loop
 loop-again c =
     let x : tie.After-cross Inv-loop μ-loop = search in
-    let l : Loop = search in
+    let l : tie.At-loop Inv-loop μ-loop = search in
     (omega arith, rows-more (omega arith) (l .loop .inv .1) (x .cross .ensures))
 
 returns : tie.Need-returns Inv-loop μ-loop
 returns c =
-    let l : Loop = search in
-    let s : Begin = search in
+    let l : tie.At-loop Inv-loop μ-loop = search in
+    let s : tie.Start Inv-loop μ-loop = search in
     all-across (s .pre) (omega arith) (l .loop .inv .1)
 
 pub by-words-spec : {M : Type 1} → statement M
-by-words-spec =
-    tie.close
-    (tie.spec
-    Inv-loop
-    μ-loop
+by-words-spec = tie.close (tie.spec
+    Inv-loop μ-loop
     (λ c. (omega arith, across-none (λ a b p q x y. omega arith)))
-    (λ c κs. let l : Loop = search in let s : Begin = search in (l .loop .inv .1 .same ∙ s .pre, omega arith))
-    (search needs)
-    (search needs)
-    loop-again
-    (search needs)
-    returns)
+    (λ c κs. let l : tie.At-loop Inv-loop μ-loop = search in let s : tie.Start Inv-loop μ-loop = search in (l .loop .inv .1 .same ∙ s .pre, omega arith))
+    (search needs) (search needs) loop-again (search needs) returns)

@@ -1,9 +1,5 @@
 -- `column` meets its contract: the stretch is filled from the front.
-use mathlib.Core.Path.{refl}
-use Prim.Native.Nat.{_+_, _*_, _-_, _≤_}
-use native.Mathlib.Omega.{arith}
-use lib.ListN.{getD}
-use borrow.Author.Needs.{needs}
+use Rattle.lists.proofs.Kit.{refl, _+_, _*_, _-_, _≤_, arith, getD, needs}
 use Rattle.moves.proofs.Filling.{Filled, nothing-filled, all-filled, filled-up}
 use Rattle.halves.proofs.square.column.Statement.{statement}
 use Rattle.halves.proofs.square.column.Tie as tie
@@ -14,31 +10,14 @@ Inv-loop s₀ to tile r w u₀ s u = (u ≤ w) × Filled to 0 u (λ k. getD tile
 abbrev μ-loop : tie.MeasureT-loop
 μ-loop s₀ to tile r w u₀ s u = w - u
 
-abbrev Loop : Type 0
-Loop = tie.At-loop Inv-loop μ-loop
-
 loop-again : tie.Need-loop-again Inv-loop μ-loop
-loop-again c = let l : Loop = search in (omega arith, filled-up (l .loop .inv .1) _ refl (omega arith) (omega arith))
+loop-again c = let l : tie.At-loop Inv-loop μ-loop = search in (omega arith, filled-up (l .loop .inv .1) _ refl (omega arith) (omega arith))
 
 returns : tie.Need-returns Inv-loop μ-loop
-returns c = let l : Loop = search in all-filled (l .loop .inv .1) (omega arith) (omega arith)
+returns c = let l : tie.At-loop Inv-loop μ-loop = search in all-filled (l .loop .inv .1) (omega arith) (omega arith)
 
 pub column-spec : {M : Type 1} → statement M
-column-spec =
-    tie.close
-    (tie.spec
-    Inv-loop
-    μ-loop
-    (λ c. (omega arith, nothing-filled 0))
-    (search needs)
-    (search needs)
-    (search needs)
-    (search needs)
-    (search needs)
-    (search needs)
-    (search needs)
-    (search needs)
-    (search needs)
-    loop-again
-    (search needs)
-    returns)
+column-spec = tie.close (tie.spec
+    Inv-loop μ-loop (λ c. (omega arith, nothing-filled 0))
+    (search needs) (search needs) (search needs) (search needs) (search needs) (search needs) (search needs) (search needs) (search needs)
+    loop-again (search needs) returns)

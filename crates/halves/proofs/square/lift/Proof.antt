@@ -1,8 +1,5 @@
 -- `lift` meets its contract: after r turns of the loop the first r rows stand in the tile.
-use mathlib.Core.Path.{_≡_}
-use Prim.Native.Nat.{_+_, _*_, _-_, _≤_}
-use native.Mathlib.Omega.{arith}
-use borrow.Author.Needs.{needs}
+use Rattle.lists.proofs.Kit.{_≡_, _+_, _*_, _-_, _≤_, arith, needs}
 use Rattle.halves.specs.PrivateTiles.{Lifted}
 use Rattle.halves.proofs.Across.{side-few, row-inside, lifted-none, lifted-more}
 use Rattle.halves.proofs.square.lift.Statement.{statement}
@@ -14,25 +11,19 @@ Inv-loop tile₀ s n i j h w r₀ tile r = (r ≤ h) × Lifted n i j r w s tile
 abbrev μ-loop : tie.MeasureT-loop
 μ-loop tile₀ s n i j h w r₀ tile r = h - r
 
-abbrev Loop : Type 0
-Loop = tie.At-loop Inv-loop μ-loop
-
-abbrev Begin : Type 0
-Begin = tie.Start Inv-loop μ-loop
-
 -- the row that is read lies in the block
 inside : (x : tie.In-loop Inv-loop μ-loop)
     → let l = x .before in let a = l .before .before .before .args in ((a .i + l .loop .r) * a .n + a .j + a .w ≤ a .n * a .n) × (a .n ≤ a .n * a .n)
 inside x =
-    let l : Loop = search in
-    let s : Begin = search in
+    let l : tie.At-loop Inv-loop μ-loop = search in
+    let s : tie.Start Inv-loop μ-loop = search in
     (row-inside {r = l .loop .r} (s .pre .0) (omega arith), side-few (s .args .n))
 
 loop-again : tie.Need-loop-again Inv-loop μ-loop
 loop-again c =
     let m : tie.After-copy Inv-loop μ-loop = search in
-    let l : Loop = search in
-    let s : Begin = search in
+    let l : tie.At-loop Inv-loop μ-loop = search in
+    let s : tie.Start Inv-loop μ-loop = search in
     let p = s .pre .0 in (
       omega arith,
       lifted-more (p .broad) (l .loop .inv .1)
@@ -41,25 +32,17 @@ loop-again c =
 
 returns : tie.Need-returns Inv-loop μ-loop
 returns c =
-    let l : Loop = search in
-    let s : Begin = search in
+    let l : tie.At-loop Inv-loop μ-loop = search in
+    let s : tie.Start Inv-loop μ-loop = search in
     let e : l .loop .r ≡ s .args .h = omega arith in
     rw e at (l .loop .inv .1)
 
 pub lift-spec : {M : Type 1} → statement M
-lift-spec =
-    tie.close
-    (tie.spec
-    Inv-loop
-    μ-loop
-    (λ c. let s : Begin = search in (omega arith, lifted-none (s .pre .1)))
-    (λ c. let s : Begin = search in record { fits = omega (arith, s .pre .0 .high) })
-    (λ c. let s : Begin = search in record { fits = omega (arith, s .pre .0, inside (search)) })
-    (λ c. let s : Begin = search in record { fits = omega (arith, s .pre .0 .fill, inside (search)) })
-    (λ c. let s : Begin = search in record { fits = omega (arith, s .pre .0 .fill, inside (search)) })
-    (search needs)
-    (search needs)
-    (search needs)
-    loop-again
-    (search needs)
-    returns)
+lift-spec = tie.close (tie.spec
+    Inv-loop μ-loop
+    (λ c. let s : tie.Start Inv-loop μ-loop = search in (omega arith, lifted-none (s .pre .1)))
+    (λ c. let s : tie.Start Inv-loop μ-loop = search in record { fits = omega (arith, s .pre .0 .high) })
+    (λ c. let s : tie.Start Inv-loop μ-loop = search in record { fits = omega (arith, s .pre .0, inside (search)) })
+    (λ c. let s : tie.Start Inv-loop μ-loop = search in record { fits = omega (arith, s .pre .0 .fill, inside (search)) })
+    (λ c. let s : tie.Start Inv-loop μ-loop = search in record { fits = omega (arith, s .pre .0 .fill, inside (search)) })
+    (search needs) (search needs) (search needs) loop-again (search needs) returns)

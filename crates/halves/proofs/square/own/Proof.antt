@@ -12,4 +12,5 @@ returns c =
     (own-across (s .pre .0 .rows) (l .lift .ensures) (d .store .ensures), l .lift .ensures .size)
 
 pub own-spec : {M : Type 1} → statement M
-own-spec = tie.close (tie.spec (search needs) (search needs) (search needs) (search needs) returns)
+own-spec = tie.close (tie.spec
+    (search needs) (search needs) (search needs) (search needs) returns)

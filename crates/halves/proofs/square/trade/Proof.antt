@@ -24,14 +24,8 @@ returns c =
     )
 
 pub trade-spec : {M : Type 1} → statement M
-trade-spec =
-    tie.close
-    (tie.spec
+trade-spec = tie.close (tie.spec
     (search needs)
     (λ c κs. let s : tie.Start = search in (mirrored (s .pre .0), s .pre .3))
     (λ c κs. let m : tie.After-lift2 = search in let s : tie.Start = search in (s .pre .0, m .lift2 .ensures .size))
-    store-requires-2
-    (search needs)
-    (search needs)
-    (search needs)
-    returns)
+    store-requires-2 (search needs) (search needs) (search needs) returns)

@@ -1,10 +1,6 @@
 -- `fall_pieces` meets its contract: the stretch is filled from the front, eight words at a time; the words that are read lie past what is
 -- filled or apart from it, so they are those of the entry, and so are those of the last two pieces.
-use mathlib.Core.Path.{refl, _∙_}
-use Prim.Native.Nat.{_+_, _-_, _≤_}
-use native.Mathlib.Omega.{arith}
-use lib.ListN.{getD}
-use borrow.Author.Needs.{needs}
+use Rattle.lists.proofs.Kit.{refl, _∙_, _+_, _-_, _≤_, arith, getD, needs}
 use Rattle.moves.proofs.Filling.{Filled, nothing-filled, all-filled, piece-up, still, at}
 use Rattle.moves.proofs.pieces.fall_pieces.Statement.{statement}
 use Rattle.moves.proofs.pieces.fall_pieces.Tie as tie
@@ -15,18 +11,12 @@ Inv-loop buf₀ to from count u₀ buf u = (u + 8 ≤ count) × Filled to 0 u (�
 abbrev μ-loop : tie.MeasureT-loop
 μ-loop buf₀ to from count u₀ buf u = count - u
 
-abbrev Loop : Type 0
-Loop = tie.At-loop Inv-loop μ-loop
-
-abbrev Begin : Type 0
-Begin = tie.Start Inv-loop μ-loop
-
 loop-again : tie.Need-loop-again Inv-loop μ-loop
 loop-again c =
     let w : tie.After-store Inv-loop μ-loop = search in
     let h : tie.After-held Inv-loop μ-loop = search in
-    let l : Loop = search in
-    let s : Begin = search in
+    let l : tie.At-loop Inv-loop μ-loop = search in
+    let s : tie.Start Inv-loop μ-loop = search in
     let f = l .loop .inv .1 in (
       omega arith,
       piece-up
@@ -43,8 +33,8 @@ loop-again c =
 returns : tie.Need-returns Inv-loop μ-loop
 returns c =
     let w : tie.After-two-pieces Inv-loop μ-loop = search in
-    let l : Loop = search in
-    let s : Begin = search in
+    let l : tie.At-loop Inv-loop μ-loop = search in
+    let s : tie.Start Inv-loop μ-loop = search in
     let f = l .loop .inv .1 in
     all-filled
     (piece-up
@@ -60,23 +50,11 @@ returns c =
     (omega arith)
 
 pub fall-pieces-spec : {M : Type 1} → statement M
-fall-pieces-spec =
-    tie.close
-    (tie.spec
-    Inv-loop
-    μ-loop
-    (λ c. (omega arith, nothing-filled 0))
+fall-pieces-spec = tie.close (tie.spec
+    Inv-loop μ-loop (λ c. (omega arith, nothing-filled 0)) (search needs) (search needs)
+    (λ c κs. let l : tie.At-loop Inv-loop μ-loop = search in omega (arith, l .loop .inv .1 .same))
     (search needs)
-    (search needs)
-    (λ c κs. let l : Loop = search in omega (arith, l .loop .inv .1 .same))
-    (search needs)
-    (λ c κs. let l : Loop = search in omega (arith, l .loop .inv .1 .same))
-    (search needs)
-    (search needs)
-    loop-again
-    (search needs)
-    (search needs)
-    (search needs)
-    (λ c κs. let l : Loop = search in (omega arith, omega arith, omega (arith, l .loop .inv .1 .same), omega (arith, l .loop .inv .1 .same)))
-    (search needs)
-    returns)
+    (λ c κs. let l : tie.At-loop Inv-loop μ-loop = search in omega (arith, l .loop .inv .1 .same))
+    (search needs) (search needs) loop-again (search needs) (search needs) (search needs)
+    (λ c κs. let l : tie.At-loop Inv-loop μ-loop = search in (omega arith, omega arith, omega (arith, l .loop .inv .1 .same), omega (arith, l .loop .inv .1 .same)))
+    (search needs) returns)

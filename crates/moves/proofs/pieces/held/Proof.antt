@@ -1,10 +1,5 @@
 -- `held` meets its contract. The loop's invariant: the places passed hold the words that were read.
-use mathlib.Core.Path.{_≡_, refl, _∙_}
-use Prim.Native.Nat.{ℕ, _+_, _-_, _<_, _≤_}
-use native.Mathlib.Omega.{arith}
-use lib.ListN.{length, getD, length-set}
-use borrow.Author.Needs.{needs}
-use Rattle.lists.proofs.Copied.{copied-more}
+use Rattle.lists.proofs.Kit.{_≡_, refl, _∙_, ℕ, _+_, _-_, _<_, _≤_, arith, length, getD, length-set, needs, copied-more}
 use Rattle.moves.proofs.pieces.held.Statement.{statement}
 use Rattle.moves.proofs.pieces.held.Tie as tie
 
@@ -14,12 +9,9 @@ Inv-loop buf from words₀ p₀ words p = (p ≤ 8) × (length words ≡ 8) × (
 abbrev μ-loop : tie.MeasureT-loop
 μ-loop buf from words₀ p₀ words p = 8 - p
 
-abbrev Loop : Type 0
-Loop = tie.At-loop Inv-loop μ-loop
-
 loop-again : tie.Need-loop-again Inv-loop μ-loop
 loop-again c =
-    let l : Loop = search in
+    let l : tie.At-loop Inv-loop μ-loop = search in
     let x : tie.Start Inv-loop μ-loop = search in (
       omega arith,
       length-set (l .loop .words) (l .loop .p) _ ∙ l .loop .inv .1,
@@ -27,21 +19,11 @@ loop-again c =
     )
 
 returns : tie.Need-returns Inv-loop μ-loop
-returns c = let l : Loop = search in λ k h. l .loop .inv .2 k (omega arith)
+returns c = let l : tie.At-loop Inv-loop μ-loop = search in λ k h. l .loop .inv .2 k (omega arith)
 
 pub held-spec : {M : Type 1} → statement M
-held-spec =
-    tie.close
-    (tie.spec
-    Inv-loop
-    μ-loop
+held-spec = tie.close (tie.spec
+    Inv-loop μ-loop
     (λ c. (omega arith, refl, λ k h. absurd (omega arith)))
-    (search needs)
-    (search needs)
-    (search needs)
-    (search needs)
-    (search needs)
-    (search needs)
-    (search needs)
-    loop-again
+    (search needs) (search needs) (search needs) (search needs) (search needs) (search needs) (search needs) loop-again
     returns)

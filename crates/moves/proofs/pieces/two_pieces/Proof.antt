@@ -1,8 +1,5 @@
 -- `two_pieces` meets its contract: the stretch is filled by the first piece and, from its end back, by the last.
-use mathlib.Core.Path.{refl, _∙_}
-use Prim.Native.Nat.{_+_}
-use native.Mathlib.Omega.{arith}
-use borrow.Author.Needs.{needs}
+use Rattle.lists.proofs.Kit.{refl, _∙_, _+_, arith, needs}
 use Rattle.moves.proofs.Filling.{all-filled, first-piece, piece-up, at}
 use Rattle.moves.proofs.pieces.two_pieces.Statement.{statement}
 use Rattle.moves.proofs.pieces.two_pieces.Tie as tie
@@ -20,15 +17,6 @@ returns c =
     (omega arith)
 
 pub two-pieces-spec : {M : Type 1} → statement M
-two-pieces-spec =
-    tie.close
-    (tie.spec
-    (search needs)
-    (search needs)
-    (search needs)
-    (search needs)
-    (search needs)
-    (search needs)
-    (search needs)
-    (search needs)
+two-pieces-spec = tie.close (tie.spec
+    (search needs) (search needs) (search needs) (search needs) (search needs) (search needs) (search needs) (search needs)
     returns)

@@ -1,7 +1,5 @@
 -- `first_of` meets its contract: each pass begins where its number says.
-use mathlib.Core.Path.{refl, ap}
-use Prim.Native.Nat.{ℕ, _/_}
-use native.Mathlib.Omega.{arith}
+use Rattle.lists.proofs.Kit.{refl, ap, ℕ, _/_, arith}
 use Rattle.flat.proofs.Sides.{sides-are}
 use Rattle.passes.specs.PrivateWalks.{risen}
 use Rattle.passes.proofs.first.first_of.Statement.{statement}
@@ -28,9 +26,7 @@ returns-3 c =
     record { one = λ z. absurd (t .if2 .left z); two = λ z. absurd (u .if1 .left z); three = λ _ _. refl }
 
 pub first-of-spec : {M : Type 1} → statement M
-first-of-spec =
-    tie.close
-    (tie.spec
+first-of-spec = tie.close (tie.spec
     (λ c κs. let t : tie.Then1 = search in let x : tie.Start = search in (x .pre .0, x .pre .2 (t .if1 .taken), x .pre .1 (t .if1 .taken)))
     returns
     (λ c. let x : tie.Start = search in rw (x .pre .0 .b-is) (sides-are (x .args .s .m) (x .args .s .n) (x .pre .0 .m-pos) (x .pre .0 .n-pos) .b-pos))

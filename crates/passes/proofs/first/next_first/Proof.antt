@@ -1,8 +1,5 @@
 -- `next_first` meets its contract: each pass begins its next line where the number after its own says.
-use mathlib.Core.Path.{_≡_, ap, _∙_}
-use Prim.Native.Nat.{ℕ, _+_, _/_, _%_}
-use native.Mathlib.Nat.{mod-lt, mod-add-mod}
-use native.Mathlib.Omega.{arith}
+use Rattle.lists.proofs.Kit.{_≡_, ap, _∙_, ℕ, _+_, _/_, _%_, mod-lt, mod-add-mod, arith}
 use Rattle.flat.proofs.Sides.{sides-are}
 use Rattle.passes.specs.PrivateWalks.{begun, risen}
 use Rattle.passes.specs.declared.walk.Place.{Place}
@@ -69,12 +66,7 @@ returns-3 c =
     }
 
 pub next-first-spec : {M : Type 1} → statement M
-next-first-spec =
-    tie.close
-    (tie.spec
-    below-requires
-    returns
-    quotient-on-requires
-    returns-2
+next-first-spec = tie.close (tie.spec
+    below-requires returns quotient-on-requires returns-2
     (λ c κs. let x : tie.Start = search in (rw (row (search)) (mod-lt (x .args .l .index) (x .pre .0 .m-pos)), x .pre .0 .m-pos))
     returns-3)

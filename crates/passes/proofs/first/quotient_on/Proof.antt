@@ -1,8 +1,5 @@
 -- `quotient_on` meets its contract: the quotient goes up where the next number is the next multiple.
-use mathlib.Core.Path.{_≡_, sym, ap}
-use Prim.Native.Nat.{ℕ, _+_, _*_, _/_, _<_, _≤_}
-use native.Mathlib.Omega.{arith}
-use native.Mathlib.Nat.{mod-lt, mul-le-mul, div-le-self, div-add-mod', div-eq-of-lt-le, add-mul, one-mul}
+use Rattle.lists.proofs.Kit.{_≡_, sym, ap, ℕ, _+_, _*_, _/_, _<_, _≤_, arith, mod-lt, mul-le-mul, div-le-self, div-add-mod', div-eq-of-lt-le, add-mul, one-mul}
 use Rattle.passes.proofs.first.quotient_on.Statement.{statement}
 use Rattle.passes.proofs.first.quotient_on.Tie as tie
 
@@ -31,12 +28,9 @@ returns-2 c =
     sym (div-eq-of-lt-le {k = x .args .q} (x .args .b) (omega (arith, split x)) (omega (arith, split x)))
 
 pub quotient-on-spec : {M : Type 1} → statement M
-quotient-on-spec =
-    tie.close
-    (tie.spec
+quotient-on-spec = tie.close (tie.spec
     (λ c. let x : tie.Start = search in omega (arith, split x, x .pre .2))
     (λ c. omega (arith, small (search)))
     (λ c. let x : tie.Start = search in omega (arith, x .pre .2))
     (λ c. let x : tie.Start = search in omega (arith, split x, x .pre .2))
-    returns
-    returns-2)
+    returns returns-2)

@@ -1,7 +1,5 @@
 -- `source` meets its contract: its numbers fit, and they are the walk's state at place 0.
-use Prim.Native.Nat.{ℕ, _+_, _*_, _-_, _/_, _%_, _≤_}
-use native.Mathlib.Omega.{arith}
-use native.Mathlib.Nat.{mod-lt, mul-le-mul}
+use Rattle.lists.proofs.Kit.{ℕ, _+_, _*_, _-_, _/_, _%_, _≤_, arith, mod-lt, mul-le-mul}
 use Rattle.passes.proofs.PassWalks.{Sought, few, sought, source-short, source-past}
 use Rattle.passes.proofs.first.source.Statement.{statement}
 use Rattle.passes.proofs.first.source.Tie as tie
@@ -25,19 +23,15 @@ small : (x : tie.Start) → let a = x .args in ((a .i + (a .s .c - 1)) / a .s .c
 small x = let f = few (x .pre .0) (x .pre .1) in let m-few = x .pre .0 .m-few in mul-le-mul {n₂ = 4096} {m₂ = 4096} (omega (arith, fits x)) (omega arith)
 
 pub source-spec : {M : Type 1} → statement M
-source-spec =
-    tie.close
-    (tie.spec
+source-spec = tie.close (tie.spec
     (λ c. let x : tie.Start = search in omega (arith, few (x .pre .0) (x .pre .1)))
     (λ c. let x : tie.Start = search in omega (arith, few (x .pre .0) (x .pre .1), x .pre .0))
     (λ c. let x : tie.Start = search in omega (arith, few (x .pre .0) (x .pre .1)))
     (λ c. let x : tie.Start = search in omega (arith, fits x, x .pre .0))
     (λ c. let x : tie.Start = search in omega (arith, x .pre .0))
-    (λ c. omega (arith, fits (search)))
-    (λ c. omega (arith, fits (search)))
+    (λ c. omega (arith, fits (search))) (λ c. omega (arith, fits (search)))
     (λ c. let x : tie.Start = search in omega (arith, few (x .pre .0) (x .pre .1)))
-    (λ c. omega (arith, fits (search)))
-    (λ c. omega (arith, small (search)))
+    (λ c. omega (arith, fits (search))) (λ c. omega (arith, small (search)))
     (λ c. let x : tie.Start = search in omega (arith, small x, mod-lt (x .args .inverse * ((x .args .s .n - 1) * ((x .args .i + (x .args .s .c - 1)) / x .args .s .c))) (few (x .pre .0) (x .pre .1) .0), few (x .pre .0) (x .pre .1)))
     returns
     (λ c κs. let x : tie.Start = search in let f = few (x .pre .0) (x .pre .1) in (mod-lt _ (f .0), f .0))

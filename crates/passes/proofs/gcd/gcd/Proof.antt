@@ -1,8 +1,5 @@
 -- `gcd` meets its contract: each turn of the loop keeps the greatest common divisor, and the remainder falls.
-use mathlib.Core.Path.{_≡_, refl, sym, ap, _∙_}
-use native.Mathlib.Nat.{mod-lt}
-use native.Mathlib.Omega.{arith}
-use borrow.Author.Needs.{needs}
+use Rattle.lists.proofs.Kit.{_≡_, refl, sym, ap, _∙_, mod-lt, arith, needs}
 use Rattle.numbers.specs.Gcd.{gcdOf}
 use Rattle.numbers.proofs.Gcd.{gcd-step, gcd-end}
 use Rattle.passes.proofs.gcd.gcd.Statement.{statement}
@@ -14,24 +11,15 @@ Inv-loop m n x₀ y₀ x y = gcdOf x y ≡ gcdOf m n
 abbrev μ-loop : tie.MeasureT-loop
 μ-loop m n x₀ y₀ x y = y
 
--- where the loop stands
-abbrev Loop : Type 0
-Loop = tie.At-loop Inv-loop μ-loop
-
 returns : tie.Need-returns Inv-loop μ-loop
 returns c =
-    let l : Loop = search in
+    let l : tie.At-loop Inv-loop μ-loop = search in
     let e : l .loop .y ≡ 0 = omega arith in
     sym (gcd-end (l .loop .x)) ∙ ap (gcdOf (l .loop .x)) (sym e) ∙ l .loop .inv
 
 pub gcd-spec : {M : Type 1} → statement M
-gcd-spec =
-    tie.close
-    (tie.spec
-    Inv-loop
-    μ-loop
-    (λ c. refl)
-    (search needs)
-    (λ c. let l : Loop = search in mod-lt (l .loop .x) (omega arith))
-    (λ c. let l : Loop = search in gcd-step (l .loop .x) (l .loop .y) ∙ l .loop .inv)
+gcd-spec = tie.close (tie.spec
+    Inv-loop μ-loop (λ c. refl) (search needs)
+    (λ c. let l : tie.At-loop Inv-loop μ-loop = search in mod-lt (l .loop .x) (omega arith))
+    (λ c. let l : tie.At-loop Inv-loop μ-loop = search in gcd-step (l .loop .x) (l .loop .y) ∙ l .loop .inv)
     returns)

@@ -1,9 +1,5 @@
 -- `inverse` meets its contract: v times a leaves y modulo b and u times a leaves x, and at the end y is the greatest common divisor, 1.
-use mathlib.Core.Path.{_≡_, sym, ap, _∙_}
-use Prim.Native.Nat.{ℕ, _*_, _-_, _/_, _%_, _<_, _≤_}
-use native.Mathlib.Omega.{arith}
-use native.Mathlib.Nat.{mod-lt, mod-self, mod-eq-of-lt, zero-mul, zero-mod, one-mul, div-le-self, mul-le-mul}
-use borrow.Author.Needs.{needs}
+use Rattle.lists.proofs.Kit.{_≡_, sym, ap, _∙_, ℕ, _*_, _-_, _/_, _%_, _<_, _≤_, arith, mod-lt, mod-self, mod-eq-of-lt, zero-mul, zero-mod, one-mul, div-le-self, mul-le-mul, needs}
 use Rattle.numbers.specs.Gcd.{gcdOf}
 use Rattle.numbers.proofs.Gcd.{gcd-step, gcd-end}
 use Rattle.walks.proofs.Remainders.{times-reduced}
@@ -18,16 +14,9 @@ Inv-loop a b y₀ x₀ v₀ u₀ y x v u =
 abbrev μ-loop : tie.MeasureT-loop
 μ-loop a b y₀ x₀ v₀ u₀ y x v u = x
 
--- the places that the answers look back to
-abbrev Start : Type 0
-Start = tie.Start Inv-loop μ-loop
-
-abbrev Loop : Type 0
-Loop = tie.At-loop Inv-loop μ-loop
-
 loop-holds : tie.Need-loop-holds Inv-loop μ-loop
 loop-holds c =
-    let x : Start = search in
+    let x : tie.Start Inv-loop μ-loop = search in
     let a = x .args .a in
     let b = x .args .b in (
       gcd-step a b ∙ x .pre .apart,
@@ -40,15 +29,15 @@ loop-holds c =
     )
 
 -- the product of a quotient and u
-small : (l : Loop) → l .loop .y / l .loop .x * l .loop .u ≤ 16777216
+small : (l : tie.At-loop Inv-loop μ-loop) → l .loop .y / l .loop .x * l .loop .u ≤ 16777216
 small l =
-    let x : Start = search in
+    let x : tie.Start Inv-loop μ-loop = search in
     mul-le-mul {n₂ = 4096} {m₂ = 4096} (omega (arith, div-le-self (l .loop .y) (l .loop .x))) (omega arith)
 
 loop-again : tie.Need-loop-again Inv-loop μ-loop
 loop-again c =
-    let l : Loop = search in
-    let x : Start = search in
+    let l : tie.At-loop Inv-loop μ-loop = search in
+    let x : tie.Start Inv-loop μ-loop = search in
     let b = x .args .b in
     let v = l .loop .inv in (
       gcd-step (l .loop .y) (l .loop .x) ∙ v .0,
@@ -62,29 +51,19 @@ loop-again c =
 
 returns : tie.Need-returns Inv-loop μ-loop
 returns c =
-    let l : Loop = search in
-    let x : Start = search in
+    let l : tie.At-loop Inv-loop μ-loop = search in
+    let x : tie.Start Inv-loop μ-loop = search in
     let v = l .loop .inv in
     let e : l .loop .x ≡ 0 = omega arith in
     let one : l .loop .y ≡ 1 = sym (gcd-end (l .loop .y)) ∙ ap (gcdOf (l .loop .y)) (sym e) ∙ v .0 in
     record { small = v .3; one = v .5 ∙ ap (λ (z : ℕ). z % x .args .b) one }
 
 pub inverse-spec : {M : Type 1} → statement M
-inverse-spec =
-    tie.close
-    (tie.spec
-    Inv-loop
-    μ-loop
+inverse-spec = tie.close (tie.spec
+    Inv-loop μ-loop (search needs) (search needs) loop-holds (search needs) (search needs)
+    (λ c. omega (arith, small (search))) (search needs)
+    (λ c. let l : tie.At-loop Inv-loop μ-loop = search in let x : tie.Start Inv-loop μ-loop = search in omega (arith, mod-lt (l .loop .y / l .loop .x * l .loop .u) (x .pre .b-pos)))
+    (λ c. let l : tie.At-loop Inv-loop μ-loop = search in let x : tie.Start Inv-loop μ-loop = search in omega (arith, mod-lt (l .loop .y / l .loop .x * l .loop .u) (x .pre .b-pos)))
     (search needs)
-    (search needs)
-    loop-holds
-    (search needs)
-    (search needs)
-    (λ c. omega (arith, small (search)))
-    (search needs)
-    (λ c. let l : Loop = search in let x : Start = search in omega (arith, mod-lt (l .loop .y / l .loop .x * l .loop .u) (x .pre .b-pos)))
-    (λ c. let l : Loop = search in let x : Start = search in omega (arith, mod-lt (l .loop .y / l .loop .x * l .loop .u) (x .pre .b-pos)))
-    (search needs)
-    (λ c. let l : Loop = search in mod-lt (l .loop .y) (omega arith))
-    loop-again
-    returns)
+    (λ c. let l : tie.At-loop Inv-loop μ-loop = search in mod-lt (l .loop .y) (omega arith))
+    loop-again returns)

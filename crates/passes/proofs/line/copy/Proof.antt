@@ -16,15 +16,7 @@ returns-3 : tie.Need-returns-3
 returns-3 c = let w : tie.After-copy-words3 = search in let f : tie.Else2 = search in let e : tie.Else1 = search in rw (e .if1 .left, f .if2 .left) (w .copy-words3 .ensures)
 
 pub copy-spec : {M : Type 1} → statement M
-copy-spec =
-    tie.close
-    (tie.spec
-    (λ c κs. search needs)
-    (search needs)
+copy-spec = tie.close (tie.spec
+    (λ c κs. search needs) (search needs)
     (λ c. let w : tie.After-copy-words = search in w .copy-words .ensures)
-    copy-words-requires-2
-    (search needs)
-    returns-2
-    copy-words-requires-3
-    (search needs)
-    returns-3)
+    copy-words-requires-2 (search needs) returns-2 copy-words-requires-3 (search needs) returns-3)

@@ -1,9 +1,5 @@
 -- `copy_words` meets its contract: the words are stored one after the other.
-use mathlib.Core.Path.{_≡_}
-use Prim.Native.Nat.{_+_, _*_, _-_, _<_, _≤_}
-use native.Mathlib.Omega.{arith}
-use borrow.Author.Needs.{needs}
-use lib.ListN.{length, getD}
+use Rattle.lists.proofs.Kit.{_≡_, _+_, _*_, _-_, _<_, _≤_, arith, needs, length, getD}
 use Rattle.passes.specs.PrivateScratch.{Filled}
 use Rattle.passes.proofs.Filled.{filled-none, filled-more}
 use Rattle.passes.proofs.line.copy_words.Statement.{statement}
@@ -36,22 +32,11 @@ returns c =
     rw e at (l .loop .inv .1)
 
 pub copy-words-spec : {M : Type 1} → statement M
-copy-words-spec =
-    tie.close
-    (tie.spec
-    Inv-loop
-    μ-loop
-    (λ c. (omega arith, filled-none _ _ _))
-    (λ c. omega (arith, inside (search)))
-    (λ c. omega (arith, inside (search)))
-    (λ c. omega (arith, inside (search)))
-    (λ c. inside (search))
-    (λ c. omega (arith, there (search)))
-    (λ c. omega (arith, there (search)))
-    (λ c. omega (arith, there (search)))
+copy-words-spec = tie.close (tie.spec
+    Inv-loop μ-loop (λ c. (omega arith, filled-none _ _ _)) (λ c. omega (arith, inside (search)))
+    (λ c. omega (arith, inside (search))) (λ c. omega (arith, inside (search))) (λ c. inside (search))
+    (λ c. omega (arith, there (search))) (λ c. omega (arith, there (search))) (λ c. omega (arith, there (search)))
     (λ c. let l : tie.At-loop Inv-loop μ-loop = search in omega (arith, there (search), l .loop .inv .1 .same))
-    (search needs)
-    (search needs)
-    loop-again
+    (search needs) (search needs) loop-again
     (λ c. let l : tie.At-loop Inv-loop μ-loop = search in l .loop .inv .1 .same)
     returns)

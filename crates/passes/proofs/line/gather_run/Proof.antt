@@ -1,9 +1,5 @@
 -- `gather_run` meets its contract: a run that does not come round is a copy with a gap of its own.
-use mathlib.Core.Path.{ap}
-use Prim.Native.Nat.{ℕ, _<_}
-use native.Mathlib.Omega.{arith}
-use borrow.Author.Needs.{needs}
-use lib.ListN.{length, getD}
+use Rattle.lists.proofs.Kit.{ap, ℕ, _<_, arith, needs, length, getD}
 use Rattle.passes.specs.Lines.{posOn}
 use Rattle.passes.proofs.Filled.{filled-as}
 use Rattle.passes.proofs.Runs.{run-small, plain-place, plain-low, plain-at}
@@ -33,18 +29,11 @@ returns c =
     filled-as (λ k h. omega arith) (λ k h. ap (λ (z : ℕ). getD (x .args .buf .now) z 0) (plain-at (x .pre .0) (x .pre .1) (t .if1 .taken) k h)) (w .copy .ensures)
 
 pub gather-run-spec : {M : Type 1} → statement M
-gather-run-spec =
-    tie.close
-    (tie.spec
+gather-run-spec = tie.close (tie.spec
     (λ c. let x : tie.Start = search in omega (arith, run-small (x .pre .0) (x .pre .1)))
     (λ c. let x : tie.Start = search in omega (arith, run-small (x .pre .0) (x .pre .1), x .pre .1 .low, x .pre .1 .round, x .pre .0 .few))
     (λ c. let x : tie.Start = search in omega (arith, x .pre .1 .short, x .pre .1 .round, x .pre .0 .few))
-    (λ c. omega (arith, first (search)))
-    (λ c. omega (arith, first (search)))
+    (λ c. omega (arith, first (search))) (λ c. omega (arith, first (search)))
     (λ c. let x : tie.Start = search in omega (arith, run-small (x .pre .0) (x .pre .1)))
-    copy-requires
-    (search needs)
-    returns
-    (λ c κs. search needs)
-    (search needs)
+    copy-requires (search needs) returns (λ c κs. search needs) (search needs)
     (λ c. let g : tie.After-gather = search in g .gather .ensures))

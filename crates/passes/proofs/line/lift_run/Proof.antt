@@ -10,4 +10,5 @@ returns-2 : tie.Need-returns-2
 returns-2 c = let r : tie.After-gather-run = search in let t : tie.Else1 = search in rw (t .if1 .left) (r .gather-run .ensures)
 
 pub lift-run-spec : {M : Type 1} → statement M
-lift-run-spec = tie.close (tie.spec (λ c κs. search needs) (search needs) returns (λ c κs. search needs) (search needs) returns-2)
+lift-run-spec = tie.close (tie.spec
+    (λ c κs. search needs) (search needs) returns (λ c κs. search needs) (search needs) returns-2)

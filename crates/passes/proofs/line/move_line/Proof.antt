@@ -1,6 +1,5 @@
 -- `move_line` meets its contract: the line is lifted into scratch and put back.
-use native.Mathlib.Omega.{arith}
-use borrow.Author.Needs.{needs}
+use Rattle.lists.proofs.Kit.{arith, needs}
 use Rattle.passes.proofs.Runs.{moved-through, lifted-past}
 use Rattle.passes.proofs.line.move_line.Statement.{statement}
 use Rattle.passes.proofs.line.move_line.Tie as tie
@@ -19,4 +18,5 @@ returns c =
     (moved-through (x .args .l) (x .pre .1) (x .args .home) (x .args .buf .now) (h .lift .ensures) (r .put-back .ensures), lifted-past (x .args .l) (x .pre .1) (x .args .home) (x .args .buf .now) (h .lift .ensures))
 
 pub move-line-spec : {M : Type 1} → statement M
-move-line-spec = tie.close (tie.spec (λ c κs. let x : tie.Start = search in (x .pre .0, x .pre .1, omega arith)) put-back-requires (search needs) (search needs) returns)
+move-line-spec = tie.close (tie.spec
+    (λ c κs. let x : tie.Start = search in (x .pre .0, x .pre .1, omega arith)) put-back-requires (search needs) (search needs) returns)

@@ -1,9 +1,5 @@
 -- `put_back` meets its contract: the words of scratch, side by side, go to the places of the line.
-use mathlib.Core.Path.{_≡_, refl, ap}
-use Prim.Native.Nat.{ℕ, _+_, _*_}
-use native.Mathlib.Omega.{arith}
-use borrow.Author.Needs.{needs}
-use lib.ListN.{getD}
+use Rattle.lists.proofs.Kit.{_≡_, refl, ap, ℕ, _+_, _*_, arith, needs, getD}
 use Rattle.passes.proofs.Filled.{line-apart, filled-as}
 use Rattle.passes.proofs.line.put_back.Statement.{statement}
 use Rattle.passes.proofs.line.put_back.Tie as tie
@@ -20,4 +16,5 @@ returns c =
     filled-as (λ k h. refl) (λ k h. let e : k ≡ 0 + 1 * k = omega arith in ap (λ (z : ℕ). getD (x .args .scratch .now) z 0) e) (w .copy .ensures)
 
 pub put-back-spec : {M : Type 1} → statement M
-put-back-spec = tie.close (tie.spec copy-requires (search needs) returns)
+put-back-spec = tie.close (tie.spec
+    copy-requires (search needs) returns)

@@ -1,9 +1,5 @@
 -- `scatter` meets its contract: after t places the walk stands t steps on, and t words are where it went.
-use mathlib.Core.Path.{_≡_, sym, ap, _∙_}
-use Prim.Native.Nat.{ℕ, _+_, _*_, _-_, _%_, _<_, _≤_}
-use native.Mathlib.Omega.{arith}
-use borrow.Author.Needs.{needs}
-use lib.ListN.{length, getD}
+use Rattle.lists.proofs.Kit.{_≡_, sym, ap, _∙_, ℕ, _+_, _*_, _-_, _%_, _<_, _≤_, arith, needs, length, getD}
 use Rattle.walks.proofs.Steps.{walk-start, walk-more, walk-lt}
 use Rattle.passes.specs.Lines.{posOn}
 use Rattle.passes.specs.PrivateScratch.{Filled}
@@ -19,30 +15,23 @@ Inv-loop buf scratch₀ w from place size start stride p₀ t₀ scratch p t =
 abbrev μ-loop : tie.MeasureT-loop
 μ-loop buf scratch₀ w from place size start stride p₀ t₀ scratch p t = size - t
 
--- the places that the answers look back to
-abbrev Start : Type 0
-Start = tie.Start Inv-loop μ-loop
-
-abbrev Loop : Type 0
-Loop = tie.At-loop Inv-loop μ-loop
-
 -- the place that the walk stands at, and the word of the line that goes there
-low : (l : Loop) → l .loop .p < l .before .before .before .args .w .modulus
-low l = let x : Start = search in rw (l .loop .inv .1) (walk-lt _ _ _ _ (omega (arith, x .pre .1 .low)))
+low : (l : tie.At-loop Inv-loop μ-loop) → l .loop .p < l .before .before .before .args .w .modulus
+low l = let x : tie.Start Inv-loop μ-loop = search in rw (l .loop .inv .1) (walk-lt _ _ _ _ (omega (arith, x .pre .1 .low)))
 
-room : (l : Loop) → l .loop .p < length (l .before .before .before .args .scratch .now)
-room l = let x : Start = search in omega (arith, low l, x .pre .1 .round, x .pre .0 .room)
+room : (l : tie.At-loop Inv-loop μ-loop) → l .loop .p < length (l .before .before .before .args .scratch .now)
+room l = let x : tie.Start Inv-loop μ-loop = search in omega (arith, low l, x .pre .1 .round, x .pre .0 .room)
 
 inside : (c : tie.In-loop Inv-loop μ-loop) → let a = c .before .before .before .before .args in posOn (a .l) (a .from + c .before .loop .t) < length (a .buf .now)
-inside c = let x : Start = search in x .pre .0 .inside _ (omega (arith, x .pre .1 .on-line))
+inside c = let x : tie.Start Inv-loop μ-loop = search in x .pre .0 .inside _ (omega (arith, x .pre .1 .on-line))
 
 loop-holds : tie.Need-loop-holds Inv-loop μ-loop
-loop-holds c = let x : Start = search in (omega arith, sym (walk-start _ _ _ (x .pre .1 .low)), filled-none _ _ _)
+loop-holds c = let x : tie.Start Inv-loop μ-loop = search in (omega arith, sym (walk-start _ _ _ (x .pre .1 .low)), filled-none _ _ _)
 
 loop-again : tie.Need-loop-again Inv-loop μ-loop
 loop-again c =
-    let l : Loop = search in
-    let x : Start = search in
+    let l : tie.At-loop Inv-loop μ-loop = search in
+    let x : tie.Start Inv-loop μ-loop = search in
     let w = x .args .w in (
       omega arith,
       c .step-on .ensures ∙ ap (λ (z : ℕ). (z + w .step) % w .modulus) (l .loop .inv .1) ∙ sym (walk-more _ _ _ _),
@@ -51,28 +40,17 @@ loop-again c =
 
 returns : tie.Need-returns Inv-loop μ-loop
 returns c =
-    let l : Loop = search in
-    let x : Start = search in
+    let l : tie.At-loop Inv-loop μ-loop = search in
+    let x : tie.Start Inv-loop μ-loop = search in
     let e : l .loop .t ≡ x .args .size = omega arith in
     rw e at (l .loop .inv .2)
 
 pub scatter-spec : {M : Type 1} → statement M
-scatter-spec =
-    tie.close
-    (tie.spec
-    Inv-loop
-    μ-loop
-    loop-holds
-    (λ c. let x : Start = search in omega (arith, x .pre .1 .on-line, x .pre .0 .few))
-    (λ c. omega (arith, inside (search)))
-    (λ c. omega (arith, inside (search)))
-    (λ c. omega (arith, inside (search)))
-    (λ c. inside (search))
-    (λ c. omega (arith, room (search)))
-    (λ c. let l : Loop = search in omega (arith, room (search), l .loop .inv .2 .same))
-    (λ c κs. let x : Start = search in (low (search), x .pre .1 .short))
-    (search needs)
-    (search needs)
-    loop-again
-    (search needs)
-    returns)
+scatter-spec = tie.close (tie.spec
+    Inv-loop μ-loop loop-holds
+    (λ c. let x : tie.Start Inv-loop μ-loop = search in omega (arith, x .pre .1 .on-line, x .pre .0 .few))
+    (λ c. omega (arith, inside (search))) (λ c. omega (arith, inside (search))) (λ c. omega (arith, inside (search)))
+    (λ c. inside (search)) (λ c. omega (arith, room (search)))
+    (λ c. let l : tie.At-loop Inv-loop μ-loop = search in omega (arith, room (search), l .loop .inv .2 .same))
+    (λ c κs. let x : tie.Start Inv-loop μ-loop = search in (low (search), x .pre .1 .short))
+    (search needs) (search needs) loop-again (search needs) returns)

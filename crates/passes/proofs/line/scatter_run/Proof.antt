@@ -1,9 +1,5 @@
 -- `scatter_run` meets its contract: a run that does not come round is a copy with a step of its own.
-use mathlib.Core.Path.{ap}
-use Prim.Native.Nat.{ℕ}
-use native.Mathlib.Omega.{arith}
-use borrow.Author.Needs.{needs}
-use lib.ListN.{getD}
+use Rattle.lists.proofs.Kit.{ap, ℕ, arith, needs, getD}
 use Rattle.passes.proofs.Filled.{filled-as}
 use Rattle.passes.proofs.Runs.{run-small, plain-place, plain-low, plain-apart, on-at}
 use Rattle.passes.proofs.line.scatter_run.Statement.{statement}
@@ -30,17 +26,11 @@ returns c =
     filled-as (λ k h. plain-place a f (t .if1 .taken) k h) (λ k h. ap (λ (z : ℕ). getD (x .args .buf .now) z 0) (on-at a f k)) (w .copy .ensures)
 
 pub scatter-run-spec : {M : Type 1} → statement M
-scatter-run-spec =
-    tie.close
-    (tie.spec
+scatter-run-spec = tie.close (tie.spec
     (λ c. let x : tie.Start = search in omega (arith, run-small (x .pre .0) (x .pre .1)))
     (λ c. let x : tie.Start = search in omega (arith, run-small (x .pre .0) (x .pre .1), x .pre .1 .low, x .pre .1 .round, x .pre .0 .few))
     (λ c. let x : tie.Start = search in omega (arith, x .pre .1 .short, x .pre .1 .round, x .pre .0 .few))
     (λ c. let x : tie.Start = search in omega (arith, run-small (x .pre .0) (x .pre .1)))
     (λ c. let x : tie.Start = search in omega (arith, run-small (x .pre .0) (x .pre .1), x .pre .0 .front))
-    copy-requires
-    (search needs)
-    returns
-    (λ c κs. search needs)
-    (search needs)
+    copy-requires (search needs) returns (λ c κs. search needs) (search needs)
     (λ c. let g : tie.After-scatter = search in g .scatter .ensures))

@@ -1,10 +1,5 @@
 -- `go_on` meets its contract: what is left of the budget, called on the memory as it stands, leaves what the call must leave.
-use mathlib.Core.Path.{_≡_, refl, sym, ap, _∙_}
-use Prim.Native.Nat.{_+_, _*_, _-_, _≤_}
-use native.Mathlib.Omega.{arith}
-use borrow.Author.Needs.{needs}
-use borrow.Author.Tests.{ltb-true, ltb-false}
-use lib.ListN.{length}
+use Rattle.lists.proofs.Kit.{_≡_, refl, sym, ap, _∙_, _+_, _*_, _-_, _≤_, arith, needs, ltb-true, ltb-false, length}
 use Rattle.stages.specs.Stages.{call}
 use Rattle.stages.specs.Lines.{stagesOf}
 use Rattle.stages.proofs.Calls.{call-done, loop-part, loop-stage}
@@ -26,45 +21,35 @@ Inv-loop buf₀ scratch₀ progress₀ s budget total inverse left₀ p₀ buf s
 abbrev μ-loop : tie.MeasureT-loop
 μ-loop buf₀ scratch₀ progress₀ s budget total inverse left₀ p₀ buf scratch progress left p = left
 
--- the places that the answers look back to
-abbrev Start : Type 0
-Start = tie.Start Inv-loop μ-loop
-
-abbrev Loop : Type 0
-Loop = tie.At-loop Inv-loop μ-loop
-
-abbrev Words : Type 0
-Words = tie.After-stage-words Inv-loop μ-loop
-
 loop-holds : tie.Need-loop-holds Inv-loop μ-loop
 loop-holds c =
     let t : tie.After-stage-count Inv-loop μ-loop = search in
-    let x : Start = search in
+    let x : tie.Start Inv-loop μ-loop = search in
     (refl, t .stage-count .ensures, omega (arith, x .pre .1, t .stage-count .ensures), refl, refl, refl)
 
 store-requires : tie.Need-store-requires Inv-loop μ-loop
 store-requires c κs =
-    let w : Words = search in
-    let l : Loop = search in
+    let w : tie.After-stage-words Inv-loop μ-loop = search in
+    let l : tie.At-loop Inv-loop μ-loop = search in
     let i : tie.After-inverse-for Inv-loop μ-loop = search in
-    let x : Start = search in
+    let x : tie.Start Inv-loop μ-loop = search in
     (mapped-in (l .loop .inv .3) (l .loop .inv .4) (x .pre .0), i .inverse-for .ensures, omega (arith, w .stage-words .ensures))
 
 store-requires-2 : tie.Need-store-requires-2 Inv-loop μ-loop
 store-requires-2 c κs =
-    let w : Words = search in
-    let l : Loop = search in
+    let w : tie.After-stage-words Inv-loop μ-loop = search in
+    let l : tie.At-loop Inv-loop μ-loop = search in
     let i : tie.After-inverse-for Inv-loop μ-loop = search in
-    let x : Start = search in
+    let x : tie.Start Inv-loop μ-loop = search in
     (mapped-in (l .loop .inv .3) (l .loop .inv .4) (x .pre .0), i .inverse-for .ensures, omega (arith, w .stage-words .ensures))
 
 loop-again : tie.Need-loop-again Inv-loop μ-loop
 unfolding stagesOf
 loop-again c =
     let t : tie.After-store Inv-loop μ-loop = search in
-    let w : Words = search in
-    let l : Loop = search in
-    let x : Start = search in
+    let w : tie.After-stage-words Inv-loop μ-loop = search in
+    let l : tie.At-loop Inv-loop μ-loop = search in
+    let x : tie.Start Inv-loop μ-loop = search in
     let m = memory (l .loop .buf) (l .loop .scratch) (l .loop .p) in
     let s = turnStages (x .args .s .m) (x .args .s .n) in (
       search needs,
@@ -80,9 +65,9 @@ loop-again-2 : tie.Need-loop-again-2 Inv-loop μ-loop
 unfolding stagesOf
 loop-again-2 c =
     let t : tie.After-store2 Inv-loop μ-loop = search in
-    let w : Words = search in
-    let l : Loop = search in
-    let x : Start = search in
+    let w : tie.After-stage-words Inv-loop μ-loop = search in
+    let l : tie.At-loop Inv-loop μ-loop = search in
+    let x : tie.Start Inv-loop μ-loop = search in
     let m = memory (l .loop .buf) (l .loop .scratch) (l .loop .p) in
     let s = turnStages (x .args .s .m) (x .args .s .n) in
     let e : l .loop .left - w .stage-words .result - 1 ≡ l .loop .left - (w .stage-words .result + 1) = omega arith in (
@@ -98,41 +83,21 @@ loop-again-2 c =
 returns : tie.Need-returns Inv-loop μ-loop
 unfolding stagesOf
 returns c =
-    let l : Loop = search in
-    let x : Start = search in
+    let l : tie.At-loop Inv-loop μ-loop = search in
+    let x : tie.Start Inv-loop μ-loop = search in
     ap (memory (l .loop .buf) (l .loop .scratch)) (l .loop .inv .0)
     ∙ sym (call-done (turnStages (x .args .s .m) (x .args .s .n)) (l .loop .left) (memory (l .loop .buf) (l .loop .scratch) (l .loop .p)) (omega (arith, ltb-false)))
     ∙ l .loop .inv .5
 
 returns-2 : tie.Need-returns-2 Inv-loop μ-loop
 returns-2 c =
-    let l : Loop = search in
+    let l : tie.At-loop Inv-loop μ-loop = search in
     let z : l .loop .left ≡ 0 = omega arith in
     ap (memory (l .loop .buf) (l .loop .scratch)) (l .loop .inv .0) ∙ (rw z at (l .loop .inv .5))
 
 pub go-on-spec : {M : Type 1} → statement M
-go-on-spec =
-    tie.close
-    (tie.spec
-    Inv-loop
-    μ-loop
-    (λ c κs. search needs)
-    (λ c κs. search needs)
-    loop-holds
-    (λ c κs. search needs)
-    store-requires
-    (search needs)
-    loop-again
-    store-requires-2
-    (search needs)
-    (search needs)
-    (search needs)
-    (search needs)
-    (search needs)
-    loop-again-2
-    (search needs)
-    (search needs)
-    returns
-    (search needs)
-    (search needs)
-    returns-2)
+go-on-spec = tie.close (tie.spec
+    Inv-loop μ-loop (λ c κs. search needs) (λ c κs. search needs) loop-holds (λ c κs. search needs) store-requires
+    (search needs) loop-again store-requires-2
+    (search needs) (search needs) (search needs) (search needs) (search needs) loop-again-2
+    (search needs) (search needs) returns (search needs) (search needs) returns-2)

@@ -1,7 +1,5 @@
 -- `stage_words` meets its contract: the words of the stage's line, or of the longer side.
-use mathlib.Core.Path.{_∙_}
-use native.Mathlib.Omega.{arith}
-use borrow.Author.Needs.{needs}
+use Rattle.lists.proofs.Kit.{_∙_, arith, needs}
 use Rattle.passes.proofs.Stages.{line-words, clear-words}
 use Rattle.passes.proofs.restart.stage_words.Statement.{statement}
 use Rattle.passes.proofs.restart.stage_words.Tie as tie
@@ -19,13 +17,6 @@ returns-2 c =
     l .longest-of .ensures ∙ clear-words (x .args .s .m) (x .args .s .n) (x .args .p) (omega arith)
 
 pub stage-words-spec : {M : Type 1} → statement M
-stage-words-spec =
-    tie.close
-    (tie.spec
-    (λ c κs. search needs)
-    (search needs)
-    (λ c κs. search needs)
-    returns
-    (search needs)
-    (λ c κs. search needs)
+stage-words-spec = tie.close (tie.spec
+    (λ c κs. search needs) (search needs) (λ c κs. search needs) returns (search needs) (λ c κs. search needs)
     returns-2)

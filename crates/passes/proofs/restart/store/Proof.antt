@@ -1,10 +1,5 @@
 -- `store` meets its contract: each kind of stage fills one list, up to any word.
-use mathlib.Core.Path.{refl, ap}
-use Prim.Native.Nat.{ℕ, _≤_}
-use native.Mathlib.Omega.{arith}
-use native.Mathlib.Nat.{le-trans}
-use borrow.Author.Needs.{needs}
-use lib.ListN.{getD}
+use Rattle.lists.proofs.Kit.{refl, ap, ℕ, _≤_, arith, le-trans, needs, getD}
 use Rattle.passes.specs.Lines.{posOn}
 use Rattle.passes.specs.PrivateScratch.{Fits}
 use Rattle.passes.specs.PrivateWalks.{Inverted}
@@ -77,22 +72,8 @@ returns-3 c =
     stored-back (x .pre .0) (x .args .p) (x .args .until) (x .pre .2) (omega arith) (λ e. omega arith) (rw (l .line-of .ensures) at (f .put-back .ensures))
 
 pub store-spec : {M : Type 1} → statement M
-store-spec =
-    tie.close
-    (tie.spec
-    (λ c κs. search needs)
-    (search needs)
-    zero-requires
-    (search needs)
-    returns
-    (λ c κs. search needs)
+store-spec = tie.close (tie.spec
+    (λ c κs. search needs) (search needs) zero-requires (search needs) returns (λ c κs. search needs)
     (λ c κs. let l : tie.After-line-of = search in let x : tie.Start = search in (x .pre .0 .grouped, fits l .0 .of-pass, inverted x _))
-    first-of-requires
-    lift-requires
-    (search needs)
-    (search needs)
-    returns-2
-    put-back-requires
-    (search needs)
-    (search needs)
-    returns-3)
+    first-of-requires lift-requires (search needs) (search needs) returns-2 put-back-requires
+    (search needs) (search needs) returns-3)

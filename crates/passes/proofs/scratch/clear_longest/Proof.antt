@@ -1,7 +1,5 @@
 -- `clear_longest` meets its contract: the longer side is what the call needs of scratch.
-use mathlib.Core.Path.{_∙_, ap}
-use Prim.Native.Nat.{ℕ}
-use borrow.Author.Needs.{needs}
+use Rattle.lists.proofs.Kit.{_∙_, ap, ℕ, needs}
 use Rattle.refusals.specs.Scratch.{cleared}
 use Rattle.passes.proofs.scratch.clear_longest.Statement.{statement}
 use Rattle.passes.proofs.scratch.clear_longest.Tie as tie
@@ -14,4 +12,5 @@ returns c =
     z .zero .ensures ∙ ap (λ (k : ℕ). cleared k (x .args .scratch .now)) (l .longest-of .ensures)
 
 pub clear-longest-spec : {M : Type 1} → statement M
-clear-longest-spec = tie.close (tie.spec (search needs) (search needs) (search needs) (search needs) returns)
+clear-longest-spec = tie.close (tie.spec
+    (search needs) (search needs) (search needs) (search needs) returns)

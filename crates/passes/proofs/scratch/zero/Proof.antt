@@ -1,11 +1,7 @@
 -- `zero` meets its contract: after k stores the first k words are zero.
-use mathlib.Core.Path.{_≡_, refl}
-use Prim.Native.Nat.{_≤_, _-_}
-use native.Mathlib.Omega.{arith}
+use Rattle.lists.proofs.Kit.{_≡_, refl, _≤_, _-_, arith, length, length-set, needs}
 use borrow.Author.Fill.{fill-more}
-use lib.ListN.{length, length-set}
 use Rattle.refusals.specs.Scratch.{cleared}
-use borrow.Author.Needs.{needs}
 use Rattle.passes.proofs.scratch.zero.Statement.{statement}
 use Rattle.passes.proofs.scratch.zero.Tie as tie
 
@@ -29,16 +25,6 @@ returns c =
     rw (← e) (l .loop .inv .2)
 
 pub zero-spec : {M : Type 1} → statement M
-zero-spec =
-    tie.close
-    (tie.spec
-    Inv-loop
-    μ-loop
-    (λ c. (omega arith, refl, refl))
-    (search needs)
-    (λ c. omega arith)
-    (search needs)
-    (λ c. omega arith)
-    loop-again
-    (search needs)
-    returns)
+zero-spec = tie.close (tie.spec
+    Inv-loop μ-loop (λ c. (omega arith, refl, refl)) (search needs) (λ c. omega arith) (search needs) (λ c. omega arith)
+    loop-again (search needs) returns)

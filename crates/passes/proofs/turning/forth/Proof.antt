@@ -1,6 +1,5 @@
 -- `forth` meets its contract: the line receives the words of the places that its walk goes over, which are those that its pass says.
-use mathlib.Core.Path.{refl}
-use borrow.Author.Needs.{needs}
+use Rattle.lists.proofs.Kit.{refl, needs}
 use Rattle.flat.proofs.Sides.{sides-are}
 use Rattle.passes.proofs.Received.{moved-as, received-moved}
 use Rattle.passes.proofs.turning.forth.Statement.{statement}
@@ -33,13 +32,7 @@ returns c =
     )
 
 pub forth-spec : {M : Type 1} → statement M
-forth-spec =
-    tie.close
-    (tie.spec
+forth-spec = tie.close (tie.spec
     (λ c κs. search needs)
     (λ c κs. let i : tie.After-inverse-for = search in let x : tie.Start = search in (x .pre .0, x .pre .1 .of-pass, i .inverse-for .ensures))
-    first-of-requires
-    move-line-requires
-    (search needs)
-    (search needs)
-    returns)
+    first-of-requires move-line-requires (search needs) (search needs) returns)

@@ -1,9 +1,5 @@
 -- `group_sides` meets its contract: the quotients by the greatest common divisor, and whether pass 1 is left out.
-use mathlib.Core.Bool.{cond}
-use mathlib.Core.Path.{refl, ap, _∙_}
-use Prim.Native.Nat.{ℕ, _/_, _<_}
-use borrow.Author.Needs.{needs}
-use lib.Dec.{ltb}
+use Rattle.lists.proofs.Kit.{cond, refl, ap, _∙_, ℕ, _/_, _<_, needs, ltb}
 use Rattle.flat.proofs.Sides.{sides-are}
 use Rattle.passes.specs.Lines.{skipped}
 use Rattle.passes.proofs.turning.group_sides.Statement.{statement}
@@ -36,4 +32,5 @@ returns c =
     )
 
 pub group-sides-spec : {M : Type 1} → statement M
-group-sides-spec = tie.close (tie.spec (search needs) (λ c. divisor (search)) (λ c. divisor (search)) (search needs) (search needs) returns)
+group-sides-spec = tie.close (tie.spec
+    (search needs) (λ c. divisor (search)) (λ c. divisor (search)) (search needs) (search needs) returns)

@@ -13,9 +13,7 @@ inverse-requires c κs =
     rw (g .a-is, g .b-is) (record { b-pos = d .b-pos; b-few = omega (arith, g .n-few, groups-le (x .args .s .m) (x .args .s .n) (g .m-pos) (g .n-pos)); apart = d .apart })
 
 pub inverse-for-spec : {M : Type 1} → statement M
-inverse-for-spec =
-    tie.close
-    (tie.spec
+inverse-for-spec = tie.close (tie.spec
     inverse-requires
     (λ c. λ _. let i : tie.After-inverse = search in let x : tie.Start = search in rw (← x .pre .a-is, ← x .pre .b-is) (i .inverse .ensures))
     (λ c. λ e. let t : tie.Else1 = search in absurd (t .if1 .left e)))

@@ -4,4 +4,5 @@ use Rattle.passes.proofs.turning.left_out.Statement.{statement}
 use Rattle.passes.proofs.turning.left_out.Tie as tie
 
 pub left-out-spec : {M : Type 1} → statement M
-left-out-spec = tie.close (tie.spec (λ c. rw (lt-ltb _ _ (c .if1 .taken))) (λ c. rw (le-ltb _ _ (c .if1 .left))))
+left-out-spec = tie.close (tie.spec
+    (λ c. rw (lt-ltb _ _ (c .if1 .taken))) (λ c. rw (le-ltb _ _ (c .if1 .left))))

@@ -1,8 +1,5 @@
 -- `line_count` meets its contract: no more columns are left out than pass 1 has.
-use Prim.Native.Nat.{_≤_}
-use native.Mathlib.Nat.{le-trans}
-use native.Mathlib.Omega.{arith}
-use borrow.Author.Needs.{needs}
+use Rattle.lists.proofs.Kit.{_≤_, le-trans, arith, needs}
 use Rattle.passes.proofs.Passed.{skipped-le, groups-le}
 use Rattle.passes.proofs.turning.line_count.Statement.{statement}
 use Rattle.passes.proofs.turning.line_count.Tie as tie
@@ -14,4 +11,5 @@ few x =
     rw (g .skipped-is) (le-trans (skipped-le _ _ (g .m-pos) (g .n-pos)) (groups-le _ _ (g .m-pos) (g .n-pos)))
 
 pub line-count-spec : {M : Type 1} → statement M
-line-count-spec = tie.close (tie.spec (search needs) (search needs) (λ c. omega (arith, few (search))) (search needs))
+line-count-spec = tie.close (tie.spec
+    (search needs) (search needs) (λ c. omega (arith, few (search))) (search needs))

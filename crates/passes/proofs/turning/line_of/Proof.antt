@@ -1,9 +1,5 @@
 -- `line_of` meets its contract: the three passes by their line numbers.
-use mathlib.Core.Path.{_≡_, _∙_}
-use Prim.Native.Nat.{_+_, _-_}
-use native.Mathlib.Omega.{arith}
-use borrow.Author.Needs.{needs}
-use borrow.Author.Tests.{lt-ltb, le-ltb}
+use Rattle.lists.proofs.Kit.{_≡_, _∙_, _+_, _-_, arith, needs, lt-ltb, le-ltb}
 use Rattle.passes.specs.Lines.{lineAt, lineOf}
 use Rattle.passes.specs.declared.line.Line.{Line}
 use Rattle.passes.proofs.turning.line_of.Statement.{statement}
@@ -37,16 +33,11 @@ returns-3 c =
     numbered (search) (i .line-in3 .ensures ∙ rw (le-ltb _ _ (e .if1 .left), le-ltb _ _ (t .if2 .left)))
 
 pub line-of-spec : {M : Type 1} → statement M
-line-of-spec =
-    tie.close
-    (tie.spec
+line-of-spec = tie.close (tie.spec
     (search needs)
     (λ c κs. let x : tie.Start = search in (x .pre .0, omega arith))
-    returns
-    (search needs)
+    returns (search needs)
     (λ c κs. let x : tie.Start = search in (x .pre .0, omega arith))
-    returns-2
-    (search needs)
-    (search needs)
+    returns-2 (search needs) (search needs)
     (λ c κs. let x : tie.Start = search in (x .pre .0, omega arith))
     returns-3)

@@ -4,4 +4,5 @@ use Rattle.passes.proofs.turning.lines_in.Statement.{statement}
 use Rattle.passes.proofs.turning.lines_in.Tie as tie
 
 pub lines-in-spec : {M : Type 1} → statement M
-lines-in-spec = tie.close (tie.spec (λ c. rw (eq-eqb _ _ (c .if1 .taken))) (λ c. rw (ne-eqb _ _ (c .if1 .left))))
+lines-in-spec = tie.close (tie.spec
+    (λ c. rw (eq-eqb _ _ (c .if1 .taken))) (λ c. rw (ne-eqb _ _ (c .if1 .left))))

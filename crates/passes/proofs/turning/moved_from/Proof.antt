@@ -4,4 +4,5 @@ use Rattle.passes.proofs.turning.moved_from.Statement.{statement}
 use Rattle.passes.proofs.turning.moved_from.Tie as tie
 
 pub moved-from-spec : {M : Type 1} → statement M
-moved-from-spec = tie.close (tie.spec (λ c. rw (eq-eqb _ _ (c .if1 .taken))) (λ c. rw (ne-eqb _ _ (c .if1 .left))))
+moved-from-spec = tie.close (tie.spec
+    (λ c. rw (eq-eqb _ _ (c .if1 .taken))) (λ c. rw (ne-eqb _ _ (c .if1 .left))))

@@ -1,13 +1,5 @@
 -- `pass` meets its contract: after t lines those before t have moved, and the walk over line t begins at p.
-use mathlib.Core.Path.{_≡_}
-use mathlib.Core.Bool.{cond}
-use mathlib.Core.Logic.{⊎-elim}
-use Prim.Native.Nat.{ℕ, _-_, _<_, _≤_}
-use native.Mathlib.Omega.{arith}
-use borrow.Author.Needs.{needs}
-use borrow.Author.Tests.{ne-eqb}
-use lib.Dec.{eqb}
-use Rattle.lists.proofs.Decide.{eq-or-ne}
+use Rattle.lists.proofs.Kit.{_≡_, cond, ⊎-elim, ℕ, _-_, _<_, _≤_, arith, needs, ne-eqb, eqb, eq-or-ne}
 use Rattle.refusals.specs.Scratch.{need}
 use Rattle.flat.specs.Turn.{sides}
 use Rattle.passes.specs.PrivateScratch.{Past, Gone, linesIn}
@@ -29,27 +21,8 @@ Inv-loop buf₀ scratch₀ s inverse number home from count p₀ t₀ buf scratc
 abbrev μ-loop : tie.MeasureT-loop
 μ-loop buf₀ scratch₀ s inverse number home from count p₀ t₀ buf scratch p t = count - t
 
--- the places that the answers look back to
-abbrev Start : Type 0
-Start = tie.Start Inv-loop μ-loop
-
-abbrev Loop : Type 0
-Loop = tie.At-loop Inv-loop μ-loop
-
-abbrev From : Type 0
-From = tie.After-moved-from Inv-loop μ-loop
-
-abbrev Opening : Type 0
-Opening = tie.After-line-in Inv-loop μ-loop
-
-abbrev Line : Type 0
-Line = tie.After-line-in2 Inv-loop μ-loop
-
-abbrev Walk : Type 0
-Walk = tie.After-walk-of Inv-loop μ-loop
-
 -- the first line that moves is one of the pass, or the one after its last; in pass 2 it is the first
-module _ (x : Start) where
+module _ (x : tie.Start Inv-loop μ-loop) where
   abbrev begin : ℕ
   begin = cond (eqb (x .args .number) 1) (x .args .s .b) 0
 
@@ -73,19 +46,19 @@ module _ (x : Start) where
 
 first-of-requires : tie.Need-first-of-requires Inv-loop μ-loop
 first-of-requires c κs =
-    let o : Opening = search in
-    let f : From = search in
-    let x : Start = search in
+    let o : tie.After-line-in Inv-loop μ-loop = search in
+    let f : tie.After-moved-from Inv-loop μ-loop = search in
+    let x : tie.Start Inv-loop μ-loop = search in
     let (pass, index) = named (x .args .s .m) (x .args .s .n) (x .args .number) (f .moved-from .result) in
     rw (o .line-in .ensures, pass, index) (x .pre .0, λ e. rw (f .moved-from .ensures) (begin-row x e), x .pre .2)
 
 loop-holds : tie.Need-loop-holds Inv-loop μ-loop
 loop-holds c =
     let p : tie.After-first-of Inv-loop μ-loop = search in
-    let o : Opening = search in
+    let o : tie.After-line-in Inv-loop μ-loop = search in
     let l : tie.After-lines-in Inv-loop μ-loop = search in
-    let f : From = search in
-    let x : Start = search in
+    let f : tie.After-moved-from Inv-loop μ-loop = search in
+    let x : tie.Start Inv-loop μ-loop = search in
     let g = x .pre .0 in
     let s = x .args .s in
     let (pass, index) = named (s .m) (s .n) (x .args .number) (f .moved-from .result) in
@@ -98,37 +71,37 @@ loop-holds c =
     )
 
 -- the start of a loop
-abbrev entry : Loop → Start
+abbrev entry : tie.At-loop Inv-loop μ-loop → tie.Start Inv-loop μ-loop
 entry l = l .before .before .before .before .before .before .before
 
 -- the line at hand is one of its pass
 here : (c : tie.In-loop Inv-loop μ-loop) → let x = entry (c .before) in c .before .loop .t < linesIn (x .args .s .m) (x .args .s .n) (x .args .number)
-here c = let l : Loop = search in omega (arith, l .loop .inv .1)
+here c = let l : tie.At-loop Inv-loop μ-loop = search in omega (arith, l .loop .inv .1)
 
 walk-of-requires : tie.Need-walk-of-requires Inv-loop μ-loop
 walk-of-requires c κs =
-    let i : Line = search in
-    let l : Loop = search in
+    let i : tie.After-line-in2 Inv-loop μ-loop = search in
+    let l : tie.At-loop Inv-loop μ-loop = search in
     let x = entry l in
     let (of-pass, pass, index, count) = in-pass (x .args .s .m) (x .args .s .n) (x .args .number) _ (here (search)) in
     rw (i .line-in2 .ensures) (x .pre .0, of-pass, rw pass (x .pre .2))
 
 -- where the walk over it begins
-begins : (c : Line)
+begins : (c : tie.After-line-in2 Inv-loop μ-loop)
     → let l = c .before .before in
     let x = entry l in
     Begins (x .args .s .m) (x .args .s .n) (c .line-in2 .result .pass) (c .line-in2 .result .index) (l .loop .p)
 begins c =
-    let l : Loop = search in
+    let l : tie.At-loop Inv-loop μ-loop = search in
     let x = entry l in
     let (pass, index) = named (x .args .s .m) (x .args .s .n) (x .args .number) (l .loop .t) in
     rw (c .line-in2 .ensures, pass, index) (l .loop .inv .2)
 
 move-line-requires : tie.Need-move-line-requires Inv-loop μ-loop
 move-line-requires c κs =
-    let w : Walk = search in
-    let i : Line = search in
-    let l : Loop = search in
+    let w : tie.After-walk-of Inv-loop μ-loop = search in
+    let i : tie.After-line-in2 Inv-loop μ-loop = search in
+    let l : tie.At-loop Inv-loop μ-loop = search in
     let x = entry l in
     let g = x .pre .0 in
     let v = l .loop .inv in
@@ -137,8 +110,8 @@ move-line-requires c κs =
 
 next-first-requires : tie.Need-next-first-requires Inv-loop μ-loop
 next-first-requires c κs =
-    let i : Line = search in
-    let l : Loop = search in
+    let i : tie.After-line-in2 Inv-loop μ-loop = search in
+    let l : tie.At-loop Inv-loop μ-loop = search in
     let x = entry l in
     let (of-pass, pass, index, count) = in-pass (x .args .s .m) (x .args .s .n) (x .args .number) _ (here (search)) in
     (x .pre .0, rw (i .line-in2 .ensures) of-pass, rw (i .line-in2 .ensures, pass) (x .pre .2), begins i)
@@ -146,9 +119,9 @@ next-first-requires c κs =
 loop-again : tie.Need-loop-again Inv-loop μ-loop
 loop-again c =
     let m : tie.After-move-line Inv-loop μ-loop = search in
-    let w : Walk = search in
-    let i : Line = search in
-    let l : Loop = search in
+    let w : tie.After-walk-of Inv-loop μ-loop = search in
+    let i : tie.After-line-in2 Inv-loop μ-loop = search in
+    let l : tie.At-loop Inv-loop μ-loop = search in
     let x = entry l in
     let g = x .pre .0 in
     let s = x .args .s in
@@ -164,30 +137,21 @@ loop-again c =
 
 returns : tie.Need-returns Inv-loop μ-loop
 returns c =
-    let l : Loop = search in
+    let l : tie.At-loop Inv-loop μ-loop = search in
     let x = entry l in
     let v = l .loop .inv in
     let e : l .loop .t ≡ linesIn (x .args .s .m) (x .args .s .n) (x .args .number) = omega (arith, v .0, v .1) in
     (rw e at (v .3), v .4)
 
 pub pass-spec : {M : Type 1} → statement M
-pass-spec =
-    tie.close
-    (tie.spec
-    Inv-loop
-    μ-loop
-    (λ c κs. search needs)
-    (λ c κs. search needs)
-    (λ c κs. let f : From = search in let x : Start = search in (x .pre .0, rw (f .moved-from .ensures) (omega (arith, begin-few x, lines-few x))))
-    first-of-requires
-    loop-holds
-    (λ c κs. let l : Loop = search in let x = entry l in (x .pre .0, omega (arith, here (search), lines-few x)))
-    walk-of-requires
-    move-line-requires
-    next-first-requires
+pass-spec = tie.close (tie.spec
+    Inv-loop μ-loop (λ c κs. search needs) (λ c κs. search needs)
+    (λ c κs. let f : tie.After-moved-from Inv-loop μ-loop = search in let x : tie.Start Inv-loop μ-loop = search in (x .pre .0, rw (f .moved-from .ensures) (omega (arith, begin-few x, lines-few x))))
+    first-of-requires loop-holds
+    (λ c κs. let l : tie.At-loop Inv-loop μ-loop = search in let x = entry l in (x .pre .0, omega (arith, here (search), lines-few x)))
+    walk-of-requires move-line-requires next-first-requires
     (λ c. let i : tie.In-loop Inv-loop μ-loop = search in omega (arith, here i, lines-few (entry (i .before))))
-    (search needs)
-    loop-again
-    (λ c. let l : Loop = search in l .loop .inv .3 .same)
-    (λ c. let l : Loop = search in l .loop .inv .4 .same)
+    (search needs) loop-again
+    (λ c. let l : tie.At-loop Inv-loop μ-loop = search in l .loop .inv .3 .same)
+    (λ c. let l : tie.At-loop Inv-loop μ-loop = search in l .loop .inv .4 .same)
     returns)

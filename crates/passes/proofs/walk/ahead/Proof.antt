@@ -1,7 +1,5 @@
 -- `ahead` meets its contract: nothing breaks a run before the nearer of the group's break and its end.
-use mathlib.Core.Logic.{inl, inr}
-use native.Mathlib.Omega.{arith}
-use borrow.Author.Needs.{needs}
+use Rattle.lists.proofs.Kit.{inl, inr, arith, needs}
 use Rattle.passes.proofs.walk.ahead.Statement.{statement}
 use Rattle.passes.proofs.walk.ahead.Tie as tie
 
@@ -15,4 +13,5 @@ returns-3 : tie.Need-returns-3
 returns-3 c = record { some = omega arith; free = λ t h. (λ e. omega arith, λ e. omega arith); stops = inr (omega arith) }
 
 pub ahead-spec : {M : Type 1} → statement M
-ahead-spec = tie.close (tie.spec (search needs) returns (search needs) returns-2 (search needs) returns-3)
+ahead-spec = tie.close (tie.spec
+    (search needs) returns (search needs) returns-2 (search needs) returns-3)

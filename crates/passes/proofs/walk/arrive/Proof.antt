@@ -1,9 +1,5 @@
 -- `arrive` meets its contract: past the end of a group the next lap begins, at its break the column goes one up.
-use Prim.Native.Nat.{_+_, _*_, _%_, _<_, _≤_}
-use native.Mathlib.Nat.{mod-lt, mul-le-mul}
-use native.Mathlib.Omega.{arith}
-use borrow.Author.Needs.{needs}
-use borrow.Author.Tests.{eq-eqb, ne-eqb}
+use Rattle.lists.proofs.Kit.{_+_, _*_, _%_, _<_, _≤_, mod-lt, mul-le-mul, arith, needs, eq-eqb, ne-eqb}
 use Rattle.passes.proofs.walk.arrive.Statement.{statement}
 use Rattle.passes.proofs.walk.arrive.Tie as tie
 
@@ -21,15 +17,11 @@ returns-2 : tie.Need-returns-2
 returns-2 c = let n : tie.After-step-on2 = search in let e : tie.Else1 = search in rw (n .step-on2 .ensures, ne-eqb _ _ (e .if1 .left))
 
 pub arrive-spec : {M : Type 1} → statement M
-arrive-spec =
-    tie.close
-    (tie.spec
-    (search needs)
-    returns
+arrive-spec = tie.close (tie.spec
+    (search needs) returns
     (λ c κs. let x : tie.Start = search in (x .pre .0, omega (arith, x .pre .0)))
     (λ c. omega (arith, small (search)))
     (λ c.
-    let n : tie.After-step-on2 = search in
-    let x : tie.Start = search in
+    let n : tie.After-step-on2 = search in let x : tie.Start = search in
     omega (arith, small x, n .step-on2 .ensures, x .pre, column x))
     returns-2)

@@ -11,4 +11,5 @@ returns-2 : tie.Need-returns-2
 returns-2 c = let x : tie.Start = search in past _ _ _ (x .pre .0) (x .pre .1) (c .if1 .left)
 
 pub step-on-spec : {M : Type 1} → statement M
-step-on-spec = tie.close (tie.spec (search needs) (search needs) returns returns-2)
+step-on-spec = tie.close (tie.spec
+    (search needs) (search needs) returns returns-2)

@@ -1,7 +1,5 @@
 -- `walk_of` meets its contract: the walk of each pass goes over the places that the line receives from.
-use Prim.Native.Nat.{_<_}
-use native.Mathlib.Omega.{arith}
-use borrow.Author.Needs.{needs}
+use Rattle.lists.proofs.Kit.{_<_, arith, needs}
 use Rattle.passes.proofs.PassWalks.{walk-1, walk-2, walk-3}
 use Rattle.passes.proofs.walk.walk_of.Statement.{statement}
 use Rattle.passes.proofs.walk.walk_of.Tie as tie
@@ -29,13 +27,9 @@ returns-3 c = λ p y.
     walk-3 (x .pre .0) (x .args .l) (x .pre .1) (d .if1 .left) (e .if2 .left) y (j .joined2 .ensures)
 
 pub walk-of-spec : {M : Type 1} → statement M
-walk-of-spec =
-    tie.close
-    (tie.spec
+walk-of-spec = tie.close (tie.spec
     returns
     (λ c. let t : tie.Then2 = search in omega (arith, row t))
-    (search needs)
-    returns-2
+    (search needs) returns-2
     (λ c. let x : tie.Start = search in omega (arith, x .pre .0))
-    (search needs)
-    returns-3)
+    (search needs) returns-3)

@@ -1,7 +1,5 @@
 -- `plans::steps::exchanged_label` meets its contract: its tests are those of the definition.
-use mathlib.Core.Path.{sym, ap, _∙_}
-use native.Mathlib.Numerals.{add-one}
-use borrow.Author.Needs.{needs}
+use Rattle.lists.proofs.Kit.{sym, ap, _∙_, add-one, needs}
 use Rattle.orders.specs.Plans.{relabelled}
 use Rattle.orders.proofs.Relabels.{relabel-low, relabel-high, relabel-other}
 use Rattle.plans.proofs.steps.exchanged_label.Statement.{statement}
@@ -26,4 +24,5 @@ returns-3 c =
     sym (relabel-other k (x .args .a) (search) (λ e. c .if2 .left (e ∙ sym (add-one k))))
 
 pub exchanged-label-spec : {M : Type 1} → statement M
-exchanged-label-spec = tie.close (tie.spec (search needs) returns (search needs) returns-2 returns-3)
+exchanged-label-spec = tie.close (tie.spec
+    (search needs) returns (search needs) returns-2 returns-3)

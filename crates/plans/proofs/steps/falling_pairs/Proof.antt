@@ -1,10 +1,5 @@
 -- `plans::steps::falling_pairs` meets its contract. The loop's invariant: the pairs that begin at a place passed are counted, those of the rest are not.
-use mathlib.Core.Path.{refl}
-use Prim.Native.Nat.{_-_}
-use native.Mathlib.Nat.{mul-le-mul-right}
-use native.Mathlib.Omega.{arith}
-use lib.ListN.{length}
-use borrow.Author.Needs.{needs}
+use Rattle.lists.proofs.Kit.{refl, _-_, mul-le-mul-right, arith, length, needs}
 use Rattle.plans.proofs.PlanSteps.{Paired, pair-none, pairs-few, pairs-more, all-paired}
 use Rattle.plans.proofs.steps.falling_pairs.Statement.{statement}
 use Rattle.plans.proofs.steps.falling_pairs.Tie as tie
@@ -25,18 +20,7 @@ loop-again : tie.Need-loop-again Inv-loop μ-loop
 loop-again c = let l : tie.At-loop Inv-loop μ-loop = search in pairs-more (l .loop .inv) (omega arith) (c .under-from .ensures)
 
 pub falling-pairs-spec : {M : Type 1} → statement M
-falling-pairs-spec =
-    tie.close
-    (tie.spec
-    Inv-loop
-    μ-loop
-    (λ c. pair-none refl)
-    (search needs)
-    (search needs)
-    (search needs)
-    (search needs)
-    add-count
-    (search needs)
-    (search needs)
-    loop-again
+falling-pairs-spec = tie.close (tie.spec
+    Inv-loop μ-loop (λ c. pair-none refl) (search needs) (search needs) (search needs) (search needs) add-count
+    (search needs) (search needs) loop-again
     (λ c. let l : tie.At-loop Inv-loop μ-loop = search in all-paired (l .loop .inv) (omega arith)))

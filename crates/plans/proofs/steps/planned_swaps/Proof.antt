@@ -1,10 +1,6 @@
 -- `plans::steps::planned_swaps` meets its contract. The loop's invariant: the first i swaps of the plan stand in the array, and the plan
 -- of the order as it is then labelled is the rest of them.
-use mathlib.Core.Path.{refl}
-use Prim.Native.Nat.{_-_}
-use native.Mathlib.Omega.{arith}
-use lib.ListN.{length}
-use borrow.Author.Needs.{needs}
+use Rattle.lists.proofs.Kit.{refl, _-_, arith, length, needs}
 use Rattle.plans.proofs.PlanSteps.{back-few, PlanBegun, begin-plan, plan-next, plan-done}
 use Rattle.plans.proofs.steps.planned_swaps.Statement.{statement}
 use Rattle.plans.proofs.steps.planned_swaps.Tie as tie
@@ -30,18 +26,8 @@ loop-again c =
     plan-next (l .loop .inv) (omega arith) (omega arith) (f .first-back .ensures) (a .relabel .ensures)
 
 pub planned-swaps-spec : {M : Type 1} → statement M
-planned-swaps-spec =
-    tie.close
-    (tie.spec
-    Inv-loop
-    μ-loop
-    (λ c. begin-plan 10 _ refl)
-    (search needs)
-    (search needs)
-    (search needs)
-    relabel-requires
-    (search needs)
-    (search needs)
-    loop-again
+planned-swaps-spec = tie.close (tie.spec
+    Inv-loop μ-loop (λ c. begin-plan 10 _ refl) (search needs) (search needs) (search needs) relabel-requires
+    (search needs) (search needs) loop-again
     (λ c. let l : tie.At-loop Inv-loop μ-loop = search in l .loop .inv .long)
     (λ c. let l : tie.At-loop Inv-loop μ-loop = search in plan-done (l .loop .inv) (omega arith)))

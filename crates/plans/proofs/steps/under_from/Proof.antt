@@ -1,10 +1,5 @@
 -- `plans::steps::under_from` meets its contract. The loop's invariant: the count so far and the count of the rest give the count.
-use mathlib.Core.Path.{refl}
-use mathlib.Core.Logic.{⊎-elim}
-use Prim.Native.Nat.{_-_}
-use native.Mathlib.Omega.{arith}
-use lib.ListN.{length}
-use borrow.Author.Needs.{needs}
+use Rattle.lists.proofs.Kit.{refl, ⊎-elim, _-_, arith, length, needs}
 use Rattle.plans.proofs.PlanSteps.{Counted, count-none, one-counted, none-counted, all-counted}
 use Rattle.plans.proofs.steps.under_from.Statement.{statement}
 use Rattle.plans.proofs.steps.under_from.Tie as tie
@@ -24,16 +19,7 @@ loop-again c =
     (c .if1 .came)
 
 pub under-from-spec : {M : Type 1} → statement M
-under-from-spec =
-    tie.close
-    (tie.spec
-    Inv-loop
-    μ-loop
-    (λ c. count-none _ _ refl (omega arith))
-    (search needs)
-    (search needs)
-    (search needs)
-    (search needs)
-    (search needs)
-    loop-again
+under-from-spec = tie.close (tie.spec
+    Inv-loop μ-loop (λ c. count-none _ _ refl (omega arith))
+    (search needs) (search needs) (search needs) (search needs) (search needs) loop-again
     (λ c. let l : tie.At-loop Inv-loop μ-loop = search in all-counted (l .loop .inv) (omega arith)))

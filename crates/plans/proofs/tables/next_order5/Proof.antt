@@ -1,15 +1,6 @@
 -- `plans::tables::next_order5` meets its contract: the table has, for each of the orders, the numbers of what its four swaps make of it, and its digits give them back.
 -- The tables are compared once, as a whole. Past the last order there is none, and a swap above 3 exchanges nothing.
-use mathlib.Core.Path.{_≡_, refl, sym, ap, _∙_}
-use mathlib.Core.List.{List, [], _∷_, map}
-use Prim.Native.Nat.{ℕ, _/_, _%_, _<_}
-use native.Mathlib.Omega.{arith}
-use lib.Dec.{ltb, ltb→lt}
-use lib.ListN.{length, getD}
-use borrow.Author.Needs.{needs}
-use Rattle.lists.specs.Tab.{tab}
-use Rattle.lists.proofs.Tab.{getD-tab}
-use Rattle.lists.proofs.Test.{at-number}
+use Rattle.lists.proofs.Kit.{_≡_, refl, sym, ap, _∙_, List, [], _∷_, map, ℕ, _/_, _%_, _<_, arith, ltb, ltb→lt, length, getD, needs, tab, getD-tab, at-number}
 use Rattle.orders.specs.Chains.{exchange}
 use Rattle.orders.specs.Numbers.{orderOf, numberOf, orders, arrangements, rank}
 use Rattle.orders.proofs.Distinct.{count-orders}
@@ -65,14 +56,5 @@ unfolding next packed numberOf orders arrangements rank exchange
 returns-3 c = let x : tie.Start = search in entry refl (x .args .order) (x .args .k) (omega arith) (omega arith)
 
 pub next-order5-spec : {M : Type 1} → statement M
-next-order5-spec =
-    tie.close
-    (tie.spec
-    returns
-    returns-2
-    (search needs)
-    (search needs)
-    (search needs)
-    (search needs)
-    div-result
-    returns-3)
+next-order5-spec = tie.close (tie.spec
+    returns returns-2 (search needs) (search needs) (search needs) (search needs) div-result returns-3)

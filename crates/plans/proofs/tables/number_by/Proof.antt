@@ -1,10 +1,6 @@
 -- `plans::tables::number_by` meets its contract: in release 2 the table has, for each of the orders, the number of the order with each axis at the
 -- place that it names; the tables are compared once, as a whole. In release 1 a number is its own. Past the last order there is none in either.
-use mathlib.Core.Path.{sym, _∙_}
-use mathlib.Core.List.{[]}
-use native.Mathlib.Omega.{arith}
-use borrow.Author.Needs.{needs}
-use borrow.Author.Tests.{ne-eqb}
+use Rattle.lists.proofs.Kit.{sym, _∙_, [], arith, needs, ne-eqb}
 use Rattle.layout.specs.Layout.{placeOf, places}
 use Rattle.orders.specs.Numbers.{orderOf, numberOf, orders, arrangements, rank}
 use Rattle.orders.proofs.Numbers.{number-order}
@@ -28,4 +24,5 @@ returns-3 c =
     rw (ne-eqb (x .args .release) 2 (c .if2 .left)) (sym (number-order 4 (x .args .order) (omega arith)))
 
 pub number-by-spec : {M : Type 1} → statement M
-number-by-spec = tie.close (tie.spec returns (search needs) (search needs) returns-2 returns-3)
+number-by-spec = tie.close (tie.spec
+    returns (search needs) (search needs) returns-2 returns-3)

@@ -1,9 +1,6 @@
 -- `plans::tables::order_of5` meets its contract: the table has the orders in dictionary order, each written in its digits, and the digits give the order back.
 -- The tables are compared once, as a whole.
-use mathlib.Core.Path.{sym, ap, _∙_}
-use mathlib.Core.List.{List, [], _∷_}
-use Prim.Native.Nat.{ℕ, _/_, _%_}
-use borrow.Author.Needs.{needs}
+use Rattle.lists.proofs.Kit.{sym, ap, _∙_, List, [], _∷_, ℕ, _/_, _%_, needs}
 use Rattle.orders.specs.Numbers.{orderOf, orders, arrangements}
 use Rattle.plans.proofs.Rows.{row-at, written}
 use Rattle.plans.proofs.tables.order_of5.Statement.{statement}
@@ -20,4 +17,5 @@ returns c =
     ap digits (row-at [] 0 (written 10 0) (orders 5) order (x .pre)) ∙ sym (row-at [] [] (λ o. digits (written 10 0 o)) (orders 5) order (x .pre))
 
 pub order-of5-spec : {M : Type 1} → statement M
-order-of5-spec = tie.close (tie.spec (search needs) (search needs) returns)
+order-of5-spec = tie.close (tie.spec
+    (search needs) (search needs) returns)

@@ -1,12 +1,6 @@
 -- `plans::tables::successor` meets its contract: the table has, for each of the orders, the numbers of what its three swaps make of it.
 -- The two tables are compared once, as a whole; then the row at a place, and the number in it.
-use mathlib.Core.Path.{_≡_, refl, ap, _∙_}
-use mathlib.Core.List.{List, [], map}
-use Prim.Native.Nat.{ℕ, _<_}
-use lib.ListN.{getD}
-use borrow.Author.Needs.{needs}
-use Rattle.lists.specs.Tab.{tab}
-use Rattle.lists.proofs.Tab.{getD-tab}
+use Rattle.lists.proofs.Kit.{_≡_, refl, ap, _∙_, List, [], map, ℕ, _<_, getD, needs, tab, getD-tab}
 use Rattle.orders.specs.Chains.{exchange}
 use Rattle.orders.specs.Numbers.{orderOf, numberOf, orders, arrangements, rank}
 use Rattle.orders.proofs.Distinct.{count-orders}
@@ -31,4 +25,5 @@ unfolding next numberOf orders arrangements rank exchange
 returns c = let x : tie.Start = search in entry refl (x .args .order) (x .args .k) (x .pre .0) (x .pre .1)
 
 pub successor-spec : {M : Type 1} → statement M
-successor-spec = tie.close (tie.spec (search needs) (search needs) (search needs) (search needs) returns)
+successor-spec = tie.close (tie.spec
+    (search needs) (search needs) (search needs) (search needs) returns)

@@ -1,10 +1,5 @@
 -- `head_len` meets its contract: a word of five bytes, the fields, and an LF.
-use mathlib.Core.Path.{_≡_, sym}
-use Prim.Native.Nat.{_≤_}
-use native.Mathlib.Omega.{arith}
-use lib.ListN.{length}
-use lib.Seq.{length-take-le}
-use borrow.Author.Needs.{needs}
+use Rattle.lists.proofs.Kit.{_≡_, sym, _≤_, arith, length, length-take-le, needs}
 use Rattle.text.proofs.Length.{fields-few, length-line}
 use Rattle.printer.specs.PrivateWriter.{numbersIn}
 use Rattle.printer.proofs.page.head_len.Statement.{statement}
@@ -39,4 +34,5 @@ returns c =
     (omega (arith, five x), omega (arith, long x, fields-few (numbersIn (x .args .l))))
 
 pub head-len-spec : {M : Type 1} → statement M
-head-len-spec = tie.close (tie.spec numbers-there numbers-count words-len-requires (search needs) returns)
+head-len-spec = tie.close (tie.spec
+    numbers-there numbers-count words-len-requires (search needs) returns)

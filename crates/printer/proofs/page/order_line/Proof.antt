@@ -1,6 +1,5 @@
 -- `order_line` meets its contract: its test is that of the definition, and both numbers fit 32 bits.
-use borrow.Author.Needs.{needs}
-use borrow.Author.Tests.{ne-eqb}
+use Rattle.lists.proofs.Kit.{needs, ne-eqb}
 use Rattle.printer.proofs.page.order_line.Statement.{statement}
 use Rattle.printer.proofs.page.order_line.Tie as tie
 
@@ -16,11 +15,5 @@ returns-2 c =
     rw (ne-eqb (x .args .release) 0 (t .if1 .left))
 
 pub order-line-spec : {M : Type 1} → statement M
-order-line-spec =
-    tie.close
-    (tie.spec
-    (search needs)
-    returns
-    (search needs)
-    (search needs)
-    returns-2)
+order-line-spec = tie.close (tie.spec
+    (search needs) returns (search needs) (search needs) returns-2)

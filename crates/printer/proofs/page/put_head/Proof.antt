@@ -1,10 +1,5 @@
 -- `put_head` meets its contract: it hands the line's word and its numbers on.
-use mathlib.Core.Path.{_≡_, sym}
-use Prim.Native.Nat.{_≤_}
-use native.Mathlib.Omega.{arith}
-use lib.ListN.{length}
-use lib.Seq.{length-take-le}
-use borrow.Author.Needs.{needs}
+use Rattle.lists.proofs.Kit.{_≡_, sym, _≤_, arith, length, length-take-le, needs}
 use Rattle.printer.proofs.Puts.{put-length}
 use Rattle.printer.proofs.page.put_head.Statement.{statement}
 use Rattle.printer.proofs.page.put_head.Tie as tie
@@ -35,4 +30,5 @@ returns : tie.Need-returns
 returns c = let p : tie.After-put-line = search in p .put-line .ensures
 
 pub put-head-spec : {M : Type 1} → statement M
-put-head-spec = tie.close (tie.spec word-count numbers-there numbers-count put-line-requires (λ c. put-length (returns c)) returns)
+put-head-spec = tie.close (tie.spec
+    word-count numbers-there numbers-count put-line-requires (λ c. put-length (returns c)) returns)

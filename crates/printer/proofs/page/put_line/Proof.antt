@@ -29,4 +29,5 @@ returns c =
     line-put _ _ (x .pre) (w .put-word .ensures) (n .put-words .ensures) (e .put-end .ensures)
 
 pub put-line-spec : {M : Type 1} → statement M
-put-line-spec = tie.close (tie.spec put-word-requires put-words-requires put-end-requires (λ c. put-length (returns c)) returns)
+put-line-spec = tie.close (tie.spec
+    put-word-requires put-words-requires put-end-requires (λ c. put-length (returns c)) returns)

@@ -1,9 +1,5 @@
 -- `shape_line` meets its contract: the four lengths fit 32 bits.
-use mathlib.Core.Path.{_≡_, ap}
-use Prim.Native.Nat.{ℕ, _<_, _≤_}
-use native.Mathlib.Omega.{arith}
-use lib.ListN.{length, getD}
-use borrow.Author.Needs.{needs}
+use Rattle.lists.proofs.Kit.{_≡_, ap, ℕ, _<_, _≤_, arith, length, getD, needs}
 use Rattle.refusals.proofs.Conditions.{length-at}
 use Rattle.printer.specs.PrivateWriter.{shapeLineOf}
 use Rattle.blocks.proofs.Block.{just-four}
@@ -21,9 +17,7 @@ returns : tie.Need-returns
 returns c = let x : tie.Start = search in ap shapeLineOf (just-four (x .args .t1) (four x))
 
 pub shape-line-spec : {M : Type 1} → statement M
-shape-line-spec =
-    tie.close
-    (tie.spec
+shape-line-spec = tie.close (tie.spec
     (search needs)
     (λ c. omega (arith, small (search) 0 (omega arith)))
     (search needs)

@@ -1,9 +1,5 @@
 -- `words_len` meets its contract. The loop's invariant: the bytes counted and those of the fields left are all.
-use mathlib.Core.Path.{_≡_}
-use Prim.Native.Nat.{_+_, _-_, _≤_}
-use native.Mathlib.Omega.{arith}
-use lib.ListN.{length, drop, getD}
-use borrow.Author.Needs.{needs}
+use Rattle.lists.proofs.Kit.{_≡_, _+_, _-_, _≤_, arith, length, drop, getD, needs}
 use Rattle.text.specs.Print.{fields}
 use Rattle.text.proofs.Length.{decimal-few, fields-few}
 use Rattle.printer.proofs.Pages.{measure-next, measure-all}
@@ -17,50 +13,32 @@ Inv-loop words total₀ i₀ i-end total i =
 abbrev μ-loop : tie.MeasureT-loop
 μ-loop words total₀ i₀ i-end total i = length words - i
 
-abbrev Start : Type 0
-Start = tie.Start Inv-loop μ-loop
-
-abbrev Loop : Type 0
-Loop = tie.At-loop Inv-loop μ-loop
-
 add-total : tie.Need-add-total Inv-loop μ-loop
 add-total c =
-    let l : Loop = search in
-    let x : Start = search in
+    let l : tie.At-loop Inv-loop μ-loop = search in
+    let x : tie.Start Inv-loop μ-loop = search in
     omega (arith, decimal-few (getD (x .args .words .now) (l .loop .i) 0))
 
 add-total-2 : tie.Need-add-total-2 Inv-loop μ-loop
 add-total-2 c =
-    let l : Loop = search in
-    let x : Start = search in
+    let l : tie.At-loop Inv-loop μ-loop = search in
+    let x : tie.Start Inv-loop μ-loop = search in
     omega (arith, decimal-few (getD (x .args .words .now) (l .loop .i) 0), fields-few (x .args .words .now))
 
 loop-again : tie.Need-loop-again Inv-loop μ-loop
 loop-again c =
-    let l : Loop = search in
-    let x : Start = search in
+    let l : tie.At-loop Inv-loop μ-loop = search in
+    let x : tie.Start Inv-loop μ-loop = search in
     (omega arith, omega arith, omega (arith, measure-next (x .args .words .now) (l .loop .i) (omega arith)))
 
 returns : tie.Need-returns Inv-loop μ-loop
 returns c =
-    let l : Loop = search in
-    let x : Start = search in
+    let l : tie.At-loop Inv-loop μ-loop = search in
+    let x : tie.Start Inv-loop μ-loop = search in
     let none = measure-all (x .args .words .now) (l .loop .i) (omega arith) in
     (omega arith, omega (arith, fields-few (x .args .words .now)))
 
 pub words-len-spec : {M : Type 1} → statement M
-words-len-spec =
-    tie.close
-    (tie.spec
-    Inv-loop
-    μ-loop
-    (search needs)
-    (search needs)
-    (search needs)
-    (search needs)
-    add-total
-    add-total-2
-    (search needs)
-    (search needs)
-    loop-again
-    returns)
+words-len-spec = tie.close (tie.spec
+    Inv-loop μ-loop (search needs) (search needs) (search needs) (search needs) add-total add-total-2
+    (search needs) (search needs) loop-again returns)

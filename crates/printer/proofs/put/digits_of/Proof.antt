@@ -1,12 +1,8 @@
 -- `digits_of` meets its contract. The loop's invariant: the digits counted and those of what is left are all, and one.
-use mathlib.Core.Path.{_≡_}
-use Prim.Native.Nat.{_+_, _≤_}
-use lib.ListN.{length}
-use borrow.Author.Needs.{needs}
+use Rattle.lists.proofs.Kit.{_≡_, _+_, _≤_, length, needs, arith}
 use Rattle.text.specs.Print.{decimal}
 use Rattle.text.proofs.Length.{decimal-few}
 use Rattle.printer.proofs.Spelling.{length-last, length-one}
-use native.Mathlib.Omega.{arith}
 use Rattle.printer.proofs.put.digits_of.Statement.{statement}
 use Rattle.printer.proofs.put.digits_of.Tie as tie
 
@@ -17,17 +13,15 @@ Inv-loop v count₀ left₀ count left =
 abbrev μ-loop : tie.MeasureT-loop
 μ-loop v count₀ left₀ count left = left
 
-abbrev Loop : Type 0
-Loop = tie.At-loop Inv-loop μ-loop
-
 add-count : tie.Need-add-count Inv-loop μ-loop
 add-count c = let x : tie.Start Inv-loop μ-loop = search in omega (arith, decimal-few (x .args .v))
 
 loop-again : tie.Need-loop-again Inv-loop μ-loop
-loop-again c = let l : Loop = search in (omega arith, omega (arith, length-last (l .loop .left) (search) (omega arith)))
+loop-again c = let l : tie.At-loop Inv-loop μ-loop = search in (omega arith, omega (arith, length-last (l .loop .left) (search) (omega arith)))
 
 returns : tie.Need-returns Inv-loop μ-loop
-returns c = let l : Loop = search in omega (arith, length-one (l .loop .left) (search))
+returns c = let l : tie.At-loop Inv-loop μ-loop = search in omega (arith, length-one (l .loop .left) (search))
 
 pub digits-of-spec : {M : Type 1} → statement M
-digits-of-spec = tie.close (tie.spec Inv-loop μ-loop (search needs) add-count (search needs) loop-again returns)
+digits-of-spec = tie.close (tie.spec
+    Inv-loop μ-loop (search needs) add-count (search needs) loop-again returns)

@@ -1,6 +1,5 @@
 -- `put_end` meets its contract: one byte is stored, and the place after it is the next.
-use mathlib.Core.Path.{refl}
-use borrow.Author.Needs.{needs}
+use Rattle.lists.proofs.Kit.{refl, needs}
 use Rattle.printer.proofs.put.put_end.Statement.{statement}
 use Rattle.printer.proofs.put.put_end.Tie as tie
 
@@ -8,4 +7,5 @@ returns : tie.Need-returns
 returns c = record { place = refl; bytes = refl }
 
 pub put-end-spec : {M : Type 1} → statement M
-put-end-spec = tie.close (tie.spec (search needs) (search needs) (search needs) returns)
+put-end-spec = tie.close (tie.spec
+    (search needs) (search needs) (search needs) returns)

@@ -20,4 +20,5 @@ returns c =
     field-put (x .args .v) (x .pre) (n .put-number .ensures)
 
 pub put-field-spec : {M : Type 1} → statement M
-put-field-spec = tie.close (tie.spec slice-write-out add-put-number put-number-requires (λ c. put-length (returns c)) returns)
+put-field-spec = tie.close (tie.spec
+    slice-write-out add-put-number put-number-requires (λ c. put-length (returns c)) returns)

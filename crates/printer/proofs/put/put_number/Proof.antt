@@ -1,12 +1,7 @@
 -- `put_number` meets its contract. The loop's invariant: the digits of what is left, put before those that stand, are the number.
-use native.Mathlib.Omega.{arith}
-use mathlib.Core.Path.{_≡_, refl, sym, _∙_}
-use Prim.Native.Nat.{suc, _+_, _-_, _/_, _%_, _≤_}
-use lib.ListN.{length, set, length-set}
-use lib.Seq.{sets}
+use Rattle.lists.proofs.Kit.{arith, _≡_, refl, sym, _∙_, suc, _+_, _-_, _/_, _%_, _≤_, length, set, length-set, sets, needs}
 use Rattle.text.specs.Print.{decimal}
 use Rattle.printer.proofs.Spelling.{spell, no-digits, spell-decimal, spell-back}
-use borrow.Author.Needs.{needs}
 use Rattle.printer.proofs.put.put_number.Statement.{statement}
 use Rattle.printer.proofs.put.put_number.Tie as tie
 
@@ -18,25 +13,19 @@ Inv-loop out₀ at v next left₀ p₀ out left p =
 abbrev μ-loop : tie.MeasureT-loop
 μ-loop out₀ at v next left₀ p₀ out left p = p - at
 
-abbrev Start : Type 0
-Start = tie.Start Inv-loop μ-loop
-
-abbrev Loop : Type 0
-Loop = tie.At-loop Inv-loop μ-loop
-
 add-next : tie.Need-add-next Inv-loop μ-loop
-add-next c = let x : Start = search in omega (arith, x .pre)
+add-next c = let x : tie.Start Inv-loop μ-loop = search in omega (arith, x .pre)
 
 loop-holds : tie.Need-loop-holds Inv-loop μ-loop
 loop-holds c =
-    let x : Start = search in
+    let x : tie.Start Inv-loop μ-loop = search in
     let e : x .args .at + c .digits-of .result - x .args .at ≡ length (decimal (x .args .v)) = omega arith in
     (omega arith, omega arith, omega arith, omega (arith, x .pre), refl, rw (e, spell-decimal (x .args .v) (omega arith)))
 
 loop-again : tie.Need-loop-again Inv-loop μ-loop
 loop-again c =
-    let at-loop : Loop = search in
-    let x : Start = search in
+    let at-loop : tie.At-loop Inv-loop μ-loop = search in
+    let x : tie.Start Inv-loop μ-loop = search in
     let l = at-loop .loop in
     let at = x .args .at in
     let k : l .p - at ≡ suc (l .p - 1 - at) = omega arith in
@@ -46,29 +35,16 @@ loop-again c =
     (omega arith, omega arith, l .inv .2, l .inv .3, length-set (l .out) (l .p - 1) (48 + l .left % 10) ∙ l .inv .4, sym back ∙ l .inv .5)
 
 same-length : tie.Need-same-length Inv-loop μ-loop
-same-length c = let l : Loop = search in l .loop .inv .4
+same-length c = let l : tie.At-loop Inv-loop μ-loop = search in l .loop .inv .4
 
 returns : tie.Need-returns Inv-loop μ-loop
 returns c =
-    let l : Loop = search in
-    let x : Start = search in
+    let l : tie.At-loop Inv-loop μ-loop = search in
+    let x : tie.Start Inv-loop μ-loop = search in
     let z : l .loop .p - x .args .at ≡ 0 = omega arith in
     record { place = l .loop .inv .2; bytes = rw (z, no-digits (l .loop .left)) at (l .loop .inv .5) }
 
 pub put-number-spec : {M : Type 1} → statement M
-put-number-spec =
-    tie.close
-    (tie.spec
-    Inv-loop
-    μ-loop
-    (search needs)
-    add-next
-    loop-holds
-    (search needs)
-    (search needs)
-    (λ c. omega arith)
-    (λ c. omega arith)
-    (search needs)
-    loop-again
-    same-length
-    returns)
+put-number-spec = tie.close (tie.spec
+    Inv-loop μ-loop (search needs) add-next loop-holds (search needs) (search needs) (λ c. omega arith)
+    (λ c. omega arith) (search needs) loop-again same-length returns)

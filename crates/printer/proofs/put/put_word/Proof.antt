@@ -1,9 +1,5 @@
 -- `put_word` meets its contract. The loop's invariant: the bytes left of the word lead to the whole word.
-use native.Mathlib.Omega.{arith}
-use mathlib.Core.Path.{_≡_, refl}
-use Prim.Native.Nat.{_+_, _-_, _≤_}
-use lib.ListN.{length, drop}
-use borrow.Author.Needs.{needs}
+use Rattle.lists.proofs.Kit.{arith, _≡_, refl, _+_, _-_, _≤_, length, drop, needs}
 use Rattle.printer.proofs.Puts.{Leads, leads-start, next-byte, all-bytes}
 use Rattle.printer.proofs.put.put_word.Statement.{statement}
 use Rattle.printer.proofs.put.put_word.Tie as tie
@@ -15,12 +11,6 @@ Inv-loop out₀ at word i₀ i-end out i =
 abbrev μ-loop : tie.MeasureT-loop
 μ-loop out₀ at word i₀ i-end out i = i-end - i
 
-abbrev Start : Type 0
-Start = tie.Start Inv-loop μ-loop
-
-abbrev Loop : Type 0
-Loop = tie.At-loop Inv-loop μ-loop
-
 loop-holds : tie.Need-loop-holds Inv-loop μ-loop
 loop-holds c =
     let z : c .args .at + 0 ≡ c .args .at = omega arith in
@@ -28,29 +18,17 @@ loop-holds c =
 
 loop-again : tie.Need-loop-again Inv-loop μ-loop
 loop-again c =
-    let l : Loop = search in
-    let x : Start = search in
+    let l : tie.At-loop Inv-loop μ-loop = search in
+    let x : tie.Start Inv-loop μ-loop = search in
     (omega arith, refl, next-byte (x .args .word .now) (x .args .at) (l .loop .i) (l .loop .inv .2) (omega arith))
 
 returns : tie.Need-returns Inv-loop μ-loop
 returns c =
-    let l : Loop = search in
-    let x : Start = search in
+    let l : tie.At-loop Inv-loop μ-loop = search in
+    let x : tie.Start Inv-loop μ-loop = search in
     all-bytes (x .args .word .now) (x .args .at) (l .loop .i) (l .loop .inv .2) (omega arith)
 
 pub put-word-spec : {M : Type 1} → statement M
-put-word-spec =
-    tie.close
-    (tie.spec
-    Inv-loop
-    μ-loop
-    loop-holds
-    (search needs)
-    (search needs)
-    (search needs)
-    (search needs)
-    (search needs)
-    loop-again
-    (search needs)
-    (search needs)
-    returns)
+put-word-spec = tie.close (tie.spec
+    Inv-loop μ-loop loop-holds (search needs) (search needs) (search needs) (search needs) (search needs) loop-again
+    (search needs) (search needs) returns)

@@ -1,9 +1,5 @@
 -- `put_words` meets its contract. The loop's invariant: the fields of the words left lead to those of all.
-use mathlib.Core.Path.{_≡_}
-use Prim.Native.Nat.{_-_, _≤_}
-use native.Mathlib.Omega.{arith}
-use lib.ListN.{length, drop}
-use borrow.Author.Needs.{needs}
+use Rattle.lists.proofs.Kit.{_≡_, _-_, _≤_, arith, length, drop, needs}
 use Rattle.text.specs.Print.{fields}
 use Rattle.printer.proofs.Puts.{Leads, leads-start, next-room, next-put, all-put}
 use Rattle.printer.proofs.put.put_words.Statement.{statement}
@@ -15,39 +11,25 @@ Inv-loop out₀ at words p₀ i₀ i-end out p i = (i-end ≡ length words) × (
 abbrev μ-loop : tie.MeasureT-loop
 μ-loop out₀ at words p₀ i₀ i-end out p i = length words - i
 
-abbrev Loop : Type 0
-Loop = tie.At-loop Inv-loop μ-loop
-
 loop-holds : tie.Need-loop-holds Inv-loop μ-loop
 loop-holds c = let x : tie.Start Inv-loop μ-loop = search in (omega arith, omega arith, leads-start (x .pre))
 
 put-field-requires : tie.Need-put-field-requires Inv-loop μ-loop
-put-field-requires c κs = let l : Loop = search in next-room _ (l .loop .i) (l .loop .inv .2) (omega arith)
+put-field-requires c κs = let l : tie.At-loop Inv-loop μ-loop = search in next-room _ (l .loop .i) (l .loop .inv .2) (omega arith)
 
 loop-again : tie.Need-loop-again Inv-loop μ-loop
 loop-again c =
     let f : tie.After-put-field Inv-loop μ-loop = search in
-    let l : Loop = search in
+    let l : tie.At-loop Inv-loop μ-loop = search in
     (omega arith, omega arith, next-put _ (l .loop .i) (l .loop .inv .2) (omega arith) (f .put-field .ensures))
 
 same-length : tie.Need-same-length Inv-loop μ-loop
-same-length c = let l : Loop = search in l .loop .inv .2 .same
+same-length c = let l : tie.At-loop Inv-loop μ-loop = search in l .loop .inv .2 .same
 
 returns : tie.Need-returns Inv-loop μ-loop
-returns c = let l : Loop = search in all-put _ (l .loop .i) (l .loop .inv .2) (omega arith)
+returns c = let l : tie.At-loop Inv-loop μ-loop = search in all-put _ (l .loop .i) (l .loop .inv .2) (omega arith)
 
 pub put-words-spec : {M : Type 1} → statement M
-put-words-spec =
-    tie.close
-    (tie.spec
-    Inv-loop
-    μ-loop
-    loop-holds
-    (search needs)
-    (search needs)
-    put-field-requires
-    (search needs)
-    (search needs)
-    loop-again
-    same-length
-    returns)
+put-words-spec = tie.close (tie.spec
+    Inv-loop μ-loop loop-holds (search needs) (search needs) put-field-requires (search needs) (search needs) loop-again
+    same-length returns)

@@ -14,4 +14,5 @@ returns-3 : tie.Need-returns-3
 returns-3 c = let x : tie.Start = search in at-same (field-step (x .args .bytes .now) (x .args .at) (search) (search)) (c .number-at .ensures)
 
 pub field-at-spec : {M : Type 1} → statement M
-field-at-spec = tie.close (tie.spec returns (search needs) returns-2 (search needs) (search needs) returns-3)
+field-at-spec = tie.close (tie.spec
+    returns (search needs) returns-2 (search needs) (search needs) returns-3)

@@ -1,7 +1,5 @@
 -- `number_at` meets its contract: each way out is what the byte there says.
-use Prim.Native.Nat.{_+_}
-use native.Mathlib.Omega.{arith}
-use borrow.Author.Needs.{needs}
+use Rattle.lists.proofs.Kit.{_+_, arith, needs}
 use Rattle.sheet.proofs.Places.{at-found, at-none, at-same, number-end, number-below, number-above, number-zero, number-step}
 use Rattle.sheet.proofs.field.number_at.Statement.{statement}
 use Rattle.sheet.proofs.field.number_at.Tie as tie
@@ -29,16 +27,5 @@ returns-5 c =
     at-same (number-step (x .args .bytes .now) (x .args .at) (search) (search) (search) (search)) (c .more-at .ensures)
 
 pub number-at-spec : {M : Type 1} → statement M
-number-at-spec =
-    tie.close
-    (tie.spec
-    returns
-    (search needs)
-    cast-b
-    returns-2
-    returns-3
-    (search needs)
-    returns-4
-    (search needs)
-    (search needs)
-    returns-5)
+number-at-spec = tie.close (tie.spec
+    returns (search needs) cast-b returns-2 returns-3 (search needs) returns-4 (search needs) (search needs) returns-5)

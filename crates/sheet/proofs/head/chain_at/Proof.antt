@@ -1,9 +1,5 @@
 -- `chain_at` meets its contract: each way out is the first check that holds.
-use mathlib.Core.Path.{_≡_, sym}
-use native.Mathlib.Omega.{arith}
-use lib.ListN.{length}
-use lib.Seq.{length-take-le}
-use borrow.Author.Needs.{needs}
+use Rattle.lists.proofs.Kit.{_≡_, sym, arith, length, length-take-le, needs}
 use Rattle.text.specs.Sheet.{chainWord}
 use Rattle.sheet.proofs.HeadLines.{second-inside, second-there, chain-form, chain-long, chain-bad, chain-go}
 use Rattle.sheet.proofs.head.chain_at.Statement.{statement}
@@ -66,21 +62,6 @@ returns-4 c =
     chain-go (x .args .at) (t .tabs-at .ensures) (l .line-at .ensures) (search) (x .pre) (search) (v .values-at .ensures) (b .first-above .ensures) (search)
 
 pub chain-at-spec : {M : Type 1} → statement M
-chain-at-spec =
-    tie.close
-    (tie.spec
-    (search needs)
-    (search needs)
-    (search needs)
-    (search needs)
-    returns
-    (search needs)
-    returns-2
-    add-values-at
-    values-at-requires
-    swaps-there
-    swaps-counted
-    (search needs)
-    (search needs)
-    returns-3
-    returns-4)
+chain-at-spec = tie.close (tie.spec
+    (search needs) (search needs) (search needs) (search needs) returns (search needs) returns-2 add-values-at
+    values-at-requires swaps-there swaps-counted (search needs) (search needs) returns-3 returns-4)

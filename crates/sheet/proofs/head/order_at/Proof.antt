@@ -1,7 +1,5 @@
 -- `order_at` meets its contract: each way out is the first check that holds.
-use native.Mathlib.Omega.{arith}
-use borrow.Author.Needs.{needs}
-use lib.ListN.{drop}
+use Rattle.lists.proofs.Kit.{arith, needs, drop}
 use Rattle.text.specs.Sheet.{orderWord}
 use Rattle.sheet.proofs.HeadLines.{second-inside, second-there, order-few, order-form, order-no, order-go}
 use Rattle.sheet.proofs.head.order_at.Statement.{statement}
@@ -49,17 +47,6 @@ returns-3 c =
     order-go (x .args .at) (t .order-fields .ensures) (l .line-at .ensures) (search) (x .pre) (v .values-at .ensures) (n .order-number .ensures) (search)
 
 pub order-at-spec : {M : Type 1} → statement M
-order-at-spec =
-    tie.close
-    (tie.spec
-    (search needs)
-    (search needs)
-    (search needs)
-    (search needs)
-    returns
-    add-values-at
-    values-at-requires
-    (search needs)
-    (search needs)
-    returns-2
-    returns-3)
+order-at-spec = tie.close (tie.spec
+    (search needs) (search needs) (search needs) (search needs) returns add-values-at values-at-requires
+    (search needs) (search needs) returns-2 returns-3)

@@ -1,10 +1,6 @@
 -- `order_fields` meets its contract: its test is that of the definition.
-use mathlib.Core.Path.{_≡_, _∙_}
-use borrow.Author.Needs.{needs}
-use borrow.Author.Tests.{ne-eqb}
-use Rattle.lists.proofs.Via.{via}
+use Rattle.lists.proofs.Kit.{_≡_, _∙_, needs, ne-eqb, via, drop}
 use Rattle.text.specs.Read.{tabs}
-use lib.ListN.{drop}
 use Rattle.sheet.proofs.head.order_fields.Statement.{statement}
 use Rattle.sheet.proofs.head.order_fields.Tie as tie
 
@@ -22,4 +18,5 @@ returns-2 c =
     rw (ne-eqb (tabs (drop (x .args .at) (x .args .bytes .now))) 2 (λ z. c .if1 .left (e ∙ z)))
 
 pub order-fields-spec : {M : Type 1} → statement M
-order-fields-spec = tie.close (tie.spec (search needs) returns returns-2)
+order-fields-spec = tie.close (tie.spec
+    (search needs) returns returns-2)

@@ -1,6 +1,5 @@
 -- `order_number` meets its contract: its test is that of the definition.
-use borrow.Author.Needs.{needs}
-use borrow.Author.Tests.{lt-ltb, le-ltb}
+use Rattle.lists.proofs.Kit.{needs, lt-ltb, le-ltb}
 use Rattle.sheet.proofs.head.order_number.Statement.{statement}
 use Rattle.sheet.proofs.head.order_number.Tie as tie
 
@@ -15,4 +14,5 @@ returns-2 c =
     rw (le-ltb 1 (x .args .count) (search)) (c .named-number2 .ensures)
 
 pub order-number-spec : {M : Type 1} → statement M
-order-number-spec = tie.close (tie.spec (search needs) (search needs) (search needs) returns (search needs) (search needs) returns-2)
+order-number-spec = tie.close (tie.spec
+    (search needs) (search needs) (search needs) returns (search needs) (search needs) returns-2)

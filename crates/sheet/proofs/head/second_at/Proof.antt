@@ -11,4 +11,5 @@ returns-2 : tie.Need-returns-2
 returns-2 c = let x : tie.Start = search in by-chain (x .args .at) (x .args .result) (c .chain-at .ensures) (search)
 
 pub second-at-spec : {M : Type 1} → statement M
-second-at-spec = tie.close (tie.spec (search needs) returns (search needs) returns-2)
+second-at-spec = tie.close (tie.spec
+    (search needs) returns (search needs) returns-2)

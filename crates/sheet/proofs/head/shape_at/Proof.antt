@@ -1,6 +1,5 @@
 -- `shape_at` meets its contract: each way out is the first check that holds.
-use native.Mathlib.Omega.{arith}
-use borrow.Author.Needs.{needs}
+use Rattle.lists.proofs.Kit.{arith, needs}
 use Rattle.sheet.proofs.HeadLines.{shape-long, shape-form, shape-there, shape-no, shape-go}
 use Rattle.sheet.proofs.head.shape_at.Statement.{statement}
 use Rattle.sheet.proofs.head.shape_at.Tie as tie
@@ -37,22 +36,7 @@ returns-4 c =
     shape-go (x .args .words .now) (search) (l .line-at .ensures) (search) (v .values-at .ensures) (n .sheet-number .ensures) (search)
 
 pub shape-at-spec : {M : Type 1} → statement M
-shape-at-spec =
-    tie.close
-    (tie.spec
-    (search needs)
-    returns
-    (search needs)
-    (search needs)
-    (search needs)
-    returns-2
-    values-at-requires
-    (search needs)
-    (search needs)
-    (search needs)
-    (search needs)
-    (search needs)
-    (search needs)
-    (search needs)
-    returns-3
+shape-at-spec = tie.close (tie.spec
+    (search needs) returns (search needs) (search needs) (search needs) returns-2 values-at-requires
+    (search needs) (search needs) (search needs) (search needs) (search needs) (search needs) (search needs) returns-3
     returns-4)

@@ -1,7 +1,5 @@
 -- `byte_at` meets its contract: past the end the list has its default, 0.
-use mathlib.Core.Path.{sym}
-use borrow.Author.Needs.{needs}
-use lib.ListN.{List·getD-eq-default}
+use Rattle.lists.proofs.Kit.{sym, needs, List·getD-eq-default}
 use Rattle.sheet.proofs.line.byte_at.Statement.{statement}
 use Rattle.sheet.proofs.line.byte_at.Tie as tie
 
@@ -11,4 +9,5 @@ returns-2 c =
     sym (List·getD-eq-default (x .args .bytes .now) 0 {n = x .args .p} (c .if1 .left))
 
 pub byte-at-spec : {M : Type 1} → statement M
-byte-at-spec = tie.close (tie.spec (search needs) (search needs) returns-2)
+byte-at-spec = tie.close (tie.spec
+    (search needs) (search needs) returns-2)

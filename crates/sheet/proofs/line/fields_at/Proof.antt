@@ -1,13 +1,9 @@
 -- `fields_at` meets its contract. The loop's invariant: the fields passed were read, and the bytes from the place reached on follow them.
-use native.Mathlib.Omega.{arith}
-use mathlib.Core.Path.{_≡_}
-use Prim.Native.Nat.{_-_, _≤_}
-use lib.ListN.{length, drop}
+use Rattle.lists.proofs.Kit.{arith, _≡_, _-_, _≤_, length, drop, needs}
 use Rattle.text.specs.Read.{Reading, readFields}
 use Rattle.sheet.specs.Private.{numbersOf}
 use Rattle.sheet.proofs.Places.{at-found}
 use Rattle.sheet.proofs.Runs.{got, no-field, next-field, no-next-field}
-use borrow.Author.Needs.{needs}
 use Rattle.sheet.proofs.line.fields_at.Statement.{statement}
 use Rattle.sheet.proofs.line.fields_at.Tie as tie
 
@@ -19,46 +15,30 @@ Inv-loop bytes at n p₀ i₀ p i =
 abbrev μ-loop : tie.MeasureT-loop
 μ-loop bytes at n p₀ i₀ p i = n - i
 
-abbrev Start : Type 0
-Start = tie.Start Inv-loop μ-loop
-
-abbrev Loop : Type 0
-Loop = tie.At-loop Inv-loop μ-loop
-
 loop-holds : tie.Need-loop-holds Inv-loop μ-loop
-loop-holds c = let x : Start = search in (omega arith, x .pre, got (no-field _))
+loop-holds c = let x : tie.Start Inv-loop μ-loop = search in (omega arith, x .pre, got (no-field _))
 
 returns : tie.Need-returns Inv-loop μ-loop
 returns c =
     let f : tie.After-field-at Inv-loop μ-loop = search in
-    let l : Loop = search in
-    let x : Start = search in
+    let l : tie.At-loop Inv-loop μ-loop = search in
+    let x : tie.Start Inv-loop μ-loop = search in
     no-next-field (l .loop .i) (x .args .n) (drop (x .args .at) (x .args .bytes .now)) (l .loop .inv .2) (f .field-at .ensures) (search) (omega arith)
 
 loop-again : tie.Need-loop-again Inv-loop μ-loop
 loop-again c =
     let f : tie.After-field-at Inv-loop μ-loop = search in
-    let l : Loop = search in
-    let x : Start = search in
+    let l : tie.At-loop Inv-loop μ-loop = search in
+    let x : tie.Start Inv-loop μ-loop = search in
     (omega arith, f .field-at .ensures .inside, next-field (l .loop .i) (drop (x .args .at) (x .args .bytes .now)) (l .loop .inv .2) (f .field-at .ensures) (search))
 
 returns-2 : tie.Need-returns-2 Inv-loop μ-loop
 returns-2 c =
-    let l : Loop = search in
-    let x : Start = search in
+    let l : tie.At-loop Inv-loop μ-loop = search in
+    let x : tie.Start Inv-loop μ-loop = search in
     let e : l .loop .i ≡ x .args .n = omega arith in
     at-found (l .loop .p) (rw (← e) (l .loop .inv .2)) (l .loop .inv .1)
 
 pub fields-at-spec : {M : Type 1} → statement M
-fields-at-spec =
-    tie.close
-    (tie.spec
-    Inv-loop
-    μ-loop
-    loop-holds
-    (search needs)
-    returns
-    (search needs)
-    (search needs)
-    loop-again
-    returns-2)
+fields-at-spec = tie.close (tie.spec
+    Inv-loop μ-loop loop-holds (search needs) returns (search needs) (search needs) loop-again returns-2)

@@ -1,7 +1,5 @@
 -- `line_at` meets its contract: its word, what `fields_at` says of the fields behind it, and the LF.
-use native.Mathlib.Omega.{arith}
-use borrow.Author.Needs.{needs}
-use Rattle.lists.proofs.Via.{via}
+use Rattle.lists.proofs.Kit.{arith, needs, via}
 use Rattle.sheet.proofs.LinesAt.{line-no-word, line-inside, line-no-fields, line-no-feed, line-read, byte-inside}
 use Rattle.sheet.proofs.line.line_at.Statement.{statement}
 use Rattle.sheet.proofs.line.line_at.Tie as tie

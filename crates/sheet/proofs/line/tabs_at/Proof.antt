@@ -1,12 +1,7 @@
 -- `tabs_at` meets its contract. The loop's invariant: the tabs counted and those still to come are all.
-use native.Mathlib.Omega.{arith}
-use mathlib.Core.Path.{_≡_}
-use Prim.Native.Nat.{_+_, _-_, _≤_}
-use mathlib.Core.Logic.{⊎-elim}
-use lib.ListN.{length, drop}
+use Rattle.lists.proofs.Kit.{arith, _≡_, _+_, _-_, _≤_, ⊎-elim, length, drop, needs}
 use Rattle.text.specs.Read.{tabs}
 use Rattle.sheet.proofs.LinesAt.{tabs-end, tabs-feed, tabs-tab, tabs-other}
-use borrow.Author.Needs.{needs}
 use Rattle.sheet.proofs.line.tabs_at.Statement.{statement}
 use Rattle.sheet.proofs.line.tabs_at.Tie as tie
 
@@ -17,22 +12,16 @@ Inv-loop bytes at count₀ p₀ count p =
 abbrev μ-loop : tie.MeasureT-loop
 μ-loop bytes at count₀ p₀ count p = length bytes - p
 
-abbrev Start : Type 0
-Start = tie.Start Inv-loop μ-loop
-
-abbrev Loop : Type 0
-Loop = tie.At-loop Inv-loop μ-loop
-
 returns : tie.Need-returns Inv-loop μ-loop
 returns c =
-    let l : Loop = search in
-    let x : Start = search in
+    let l : tie.At-loop Inv-loop μ-loop = search in
+    let x : tie.Start Inv-loop μ-loop = search in
     omega (arith, tabs-feed (x .args .bytes .now) (l .loop .p) (search) (search))
 
 loop-again : tie.Need-loop-again Inv-loop μ-loop
 loop-again c =
-    let l : Loop = search in
-    let x : Start = search in
+    let l : tie.At-loop Inv-loop μ-loop = search in
+    let x : tie.Start Inv-loop μ-loop = search in
     ⊎-elim
     (λ h. (omega arith, omega arith, omega (arith, h, tabs-tab (x .args .bytes .now) (l .loop .p) (search) (h .0 .taken))))
     (λ h. (omega arith, omega arith, omega (arith, h, tabs-other (x .args .bytes .now) (l .loop .p) (search) (search) (h .0 .left))))
@@ -40,21 +29,11 @@ loop-again c =
 
 returns-2 : tie.Need-returns-2 Inv-loop μ-loop
 returns-2 c =
-    let l : Loop = search in
-    let x : Start = search in
+    let l : tie.At-loop Inv-loop μ-loop = search in
+    let x : tie.Start Inv-loop μ-loop = search in
     omega (arith, tabs-end (x .args .bytes .now) (l .loop .p) (search))
 
 pub tabs-at-spec : {M : Type 1} → statement M
-tabs-at-spec =
-    tie.close
-    (tie.spec
-    Inv-loop
-    μ-loop
-    (search needs)
-    (search needs)
-    returns
-    (search needs)
-    (search needs)
-    (search needs)
-    loop-again
+tabs-at-spec = tie.close (tie.spec
+    Inv-loop μ-loop (search needs) (search needs) returns (search needs) (search needs) (search needs) loop-again
     returns-2)

@@ -1,9 +1,5 @@
 -- `rows_into` meets its contract: the rows are those of the lengths, and they are stored only where all of them are right.
-use mathlib.Core.Path.{ap, _∙_}
-use native.Mathlib.Omega.{arith}
-use lib.ListN.{length, drop}
-use lib.Seq.{length-sets}
-use borrow.Author.Needs.{needs}
+use Rattle.lists.proofs.Kit.{ap, _∙_, arith, length, drop, length-sets, needs}
 use Rattle.blocks.proofs.Block.{Counts, counts, first-three, rows-fit}
 use Rattle.sheet.proofs.RowsFrom.{rows-kept, rows-stored}
 use Rattle.sheet.proofs.rows.rows_into.Statement.{statement}
@@ -45,6 +41,5 @@ returns-2 c =
     (s .store-rows .ensures)
 
 pub rows-into-spec : {M : Type 1} → statement M
-rows-into-spec =
-    tie.close
-    (tie.spec (search needs) three (search needs) (search needs) rows-at-requires returns store-rows-requires same-length returns-2)
+rows-into-spec = tie.close (tie.spec
+    (search needs) three (search needs) (search needs) rows-at-requires returns store-rows-requires same-length returns-2)

@@ -1,17 +1,11 @@
 -- `store_rows` meets its contract. The loop's invariant: storing the words of the rows left behind those stored is storing all words.
 use Rattle.blocks.proofs.Block.{room-left}
 use Rattle.sheet.proofs.RowsFrom.{no-words}
-use native.Mathlib.Omega.{arith}
-use mathlib.Core.Path.{_≡_, refl, sym, ap, _∙_}
-use mathlib.Core.List.{List, []}
-use Prim.Native.Nat.{ℕ, _+_, _-_, _*_, _≤_}
-use lib.ListN.{length, drop}
-use lib.Seq.{sets, length-sets}
+use Rattle.lists.proofs.Kit.{arith, _≡_, refl, sym, ap, _∙_, List, [], ℕ, _+_, _-_, _*_, _≤_, length, drop, sets, length-sets, needs}
 use Rattle.text.specs.Meaning.{rowLines}
 use Rattle.sheet.specs.Private.{RowsThere, wordsOf, numbersOf}
 use Rattle.text.proofs.Stores.{sets-append}
 use Rattle.sheet.proofs.RowsFrom.{rowsLeft, rowFields, RowAt, row-at}
-use borrow.Author.Needs.{needs}
 use Rattle.sheet.proofs.rows.store_rows.Statement.{statement}
 use Rattle.sheet.proofs.rows.store_rows.Tie as tie
 
@@ -24,18 +18,12 @@ Inv-loop bytes at count n words₀ p₀ from₀ i₀ words p from i =
 abbrev μ-loop : tie.MeasureT-loop
 μ-loop bytes at count n words₀ p₀ from₀ i₀ words p from i = count - i
 
-abbrev Start : Type 0
-Start = tie.Start Inv-loop μ-loop
-
-abbrev Loop : Type 0
-Loop = tie.At-loop Inv-loop μ-loop
-
 -- the row at the place reached, and the room that it needs
 module _ (c : tie.In-loop Inv-loop μ-loop) where
-  abbrev start : Start
+  abbrev start : tie.Start Inv-loop μ-loop
   start = search
 
-  abbrev at-loop : Loop
+  abbrev at-loop : tie.At-loop Inv-loop μ-loop
   at-loop = search
 
   row : RowAt (start .args .bytes .now) (start .args .count) (start .args .n) (at-loop .loop .i) (at-loop .loop .p)
@@ -48,7 +36,7 @@ module _ (c : tie.In-loop Inv-loop μ-loop) where
 
 loop-holds : tie.Need-loop-holds Inv-loop μ-loop
 loop-holds c =
-    let start : Start = search in
+    let start : tie.Start Inv-loop μ-loop = search in
     let z : start .args .count - 0 ≡ start .args .count = omega arith in
     (omega arith, start .pre .0, refl, rw z (omega (arith, start .pre .1)), rw z (start .pre .2), rw z)
 
@@ -66,8 +54,8 @@ loop-again : tie.Need-loop-again Inv-loop μ-loop
 loop-again c =
     let after-words-into : tie.After-words-into Inv-loop μ-loop = search in
     let in-loop : tie.In-loop Inv-loop μ-loop = search in
-    let at-loop : Loop = search in
-    let start : Start = search in
+    let at-loop : tie.At-loop Inv-loop μ-loop = search in
+    let start : tie.Start Inv-loop μ-loop = search in
     let q = after-words-into .words-into in
     let l = at-loop .loop in
     let a = start .args in
@@ -90,8 +78,8 @@ loop-again c =
 
 returns : tie.Need-returns Inv-loop μ-loop
 returns c =
-    let at-loop : Loop = search in
-    let start : Start = search in
+    let at-loop : tie.At-loop Inv-loop μ-loop = search in
+    let start : tie.Start Inv-loop μ-loop = search in
     let l = at-loop .loop in
     let a = start .args in
     let e : l .i ≡ a .count = omega arith in
@@ -100,18 +88,6 @@ returns c =
     ap (sets (l .words) (l .from)) (sym none) ∙ l .inv .5
 
 pub store-rows-spec : {M : Type 1} → statement M
-store-rows-spec =
-    tie.close
-    (tie.spec
-    Inv-loop
-    μ-loop
-    loop-holds
-    (λ c. omega (arith, row c .inside))
-    words-into-requires
-    add-p
-    (λ c. omega (arith, room (search)))
-    (search needs)
-    (search needs)
-    loop-again
-    (search needs)
-    returns)
+store-rows-spec = tie.close (tie.spec
+    Inv-loop μ-loop loop-holds (λ c. omega (arith, row c .inside)) words-into-requires add-p
+    (λ c. omega (arith, room (search))) (search needs) (search needs) loop-again (search needs) returns)

@@ -1,16 +1,10 @@
 -- `values_at` meets its contract. The loop's invariant: the fields passed were read, and the array holds their numbers, then zeros.
-use lib.ListN.{set}
+use Rattle.lists.proofs.Kit.{set, arith, _≡_, sym, ap, _∙_, List, _++_, ℕ, _+_, _-_, _≤_, drop, replicate, needs}
 use Rattle.text.proofs.Lines.{fields-text}
-use native.Mathlib.Omega.{arith}
-use mathlib.Core.Path.{_≡_, sym, ap, _∙_}
-use mathlib.Core.List.{List, _++_}
-use Prim.Native.Nat.{ℕ, _+_, _-_, _≤_}
-use lib.ListN.{drop, replicate}
 use Rattle.text.specs.Read.{Reading, readFields}
 use Rattle.sheet.specs.Private.{numbersOf}
 use Rattle.sheet.proofs.Runs.{got, no-field, fields-more, taken-field}
 use Rattle.text.proofs.Stores.{zeros-more}
-use borrow.Author.Needs.{needs}
 use Rattle.sheet.proofs.values.values_at.Statement.{statement}
 use Rattle.sheet.proofs.values.values_at.Tie as tie
 
@@ -22,24 +16,18 @@ Inv-loop bytes at n out₀ p₀ i₀ out p i =
 abbrev μ-loop : tie.MeasureT-loop
 μ-loop bytes at n out₀ p₀ i₀ out p i = n - i
 
-abbrev Start : Type 0
-Start = tie.Start Inv-loop μ-loop
-
-abbrev Loop : Type 0
-Loop = tie.At-loop Inv-loop μ-loop
-
 loop-holds : tie.Need-loop-holds Inv-loop μ-loop
 loop-holds c =
-    let start : Start = search in
+    let start : tie.Start Inv-loop μ-loop = search in
     let bs = drop (start .args .at) (start .args .bytes .now) in (omega arith, got (no-field bs), rw (no-field bs))
 
 array-write-out : tie.Need-array-write-out Inv-loop μ-loop
-array-write-out c = let start : Start = search in omega (arith, start .pre .0)
+array-write-out c = let start : tie.Start Inv-loop μ-loop = search in omega (arith, start .pre .0)
 
 loop-again : tie.Need-loop-again Inv-loop μ-loop
 loop-again c =
-    let at-loop : Loop = search in
-    let start : Start = search in
+    let at-loop : tie.At-loop Inv-loop μ-loop = search in
+    let start : tie.Start Inv-loop μ-loop = search in
     let l = at-loop .loop in
     let bs = drop (start .args .at) (start .args .bytes .now) in
     let vs = numbersOf (readFields (l .i) bs) in
@@ -55,22 +43,12 @@ loop-again c =
 
 returns : tie.Need-returns Inv-loop μ-loop
 returns c =
-    let at-loop : Loop = search in
-    let start : Start = search in
+    let at-loop : tie.At-loop Inv-loop μ-loop = search in
+    let start : tie.Start Inv-loop μ-loop = search in
     let e : at-loop .loop .i ≡ start .args .n = omega arith in
     rw (← e) (at-loop .loop .inv .2)
 
 pub values-at-spec : {M : Type 1} → statement M
-values-at-spec =
-    tie.close
-    (tie.spec
-    Inv-loop
-    μ-loop
-    loop-holds
-    (search needs)
-    (search needs)
-    array-write-out
-    (search needs)
-    (search needs)
-    loop-again
+values-at-spec = tie.close (tie.spec
+    Inv-loop μ-loop loop-holds (search needs) (search needs) array-write-out (search needs) (search needs) loop-again
     returns)

@@ -1,17 +1,10 @@
 -- `words_into` meets its contract. The loop's invariant: the fields passed were read, and their numbers are stored.
-use lib.ListN.{set, length-set}
+use Rattle.lists.proofs.Kit.{set, length-set, arith, _≡_, refl, sym, ap, _∙_, List, ℕ, _+_, _-_, _≤_, length, drop, sets, needs}
 use Rattle.text.proofs.Lines.{fields-text, field-text}
-use native.Mathlib.Omega.{arith}
-use mathlib.Core.Path.{_≡_, refl, sym, ap, _∙_}
-use mathlib.Core.List.{List}
-use Prim.Native.Nat.{ℕ, _+_, _-_, _≤_}
-use lib.ListN.{length, drop}
 use Rattle.text.specs.Read.{Reading, readField, readFields}
 use Rattle.sheet.specs.Private.{numbersOf}
 use Rattle.sheet.proofs.Runs.{got, no-field, fields-more, taken-field}
-use lib.Seq.{sets}
 use Rattle.text.proofs.Stores.{sets-more}
-use borrow.Author.Needs.{needs}
 use Rattle.sheet.proofs.values.words_into.Statement.{statement}
 use Rattle.sheet.proofs.values.words_into.Tie as tie
 
@@ -23,18 +16,12 @@ Inv-loop bytes at n words₀ from p₀ i₀ words p i =
 abbrev μ-loop : tie.MeasureT-loop
 μ-loop bytes at n words₀ from p₀ i₀ words p i = n - i
 
-abbrev Start : Type 0
-Start = tie.Start Inv-loop μ-loop
-
-abbrev Loop : Type 0
-Loop = tie.At-loop Inv-loop μ-loop
-
 -- the field at the place reached is found again
 module _ (c : tie.After-struct-known Inv-loop μ-loop) where
-  abbrev start : Start
+  abbrev start : tie.Start Inv-loop μ-loop
   start = search
 
-  abbrev at-loop : Loop
+  abbrev at-loop : tie.At-loop Inv-loop μ-loop
   at-loop = search
 
   abbrev found : tie.After-field-at Inv-loop μ-loop
@@ -48,22 +35,22 @@ module _ (c : tie.After-struct-known Inv-loop μ-loop) where
 
 loop-holds : tie.Need-loop-holds Inv-loop μ-loop
 loop-holds c =
-    let start : Start = search in
+    let start : tie.Start Inv-loop μ-loop = search in
     let a = start .args in
     let bs = drop (a .at) (a .bytes .now) in
     (omega arith, got (no-field bs), refl, start .pre .0, rw (no-field bs))
 
 cast-words : tie.Need-cast-words Inv-loop μ-loop
 cast-words c =
-    let at-loop : Loop = search in
-    let start : Start = search in
+    let at-loop : tie.At-loop Inv-loop μ-loop = search in
+    let start : tie.Start Inv-loop μ-loop = search in
     omega (arith, field-text (drop (at-loop .loop .p) (start .args .bytes .now)) (again c) .1)
 
 loop-again : tie.Need-loop-again Inv-loop μ-loop
 loop-again c =
     let after-field-at : tie.After-field-at Inv-loop μ-loop = search in
-    let at-loop : Loop = search in
-    let start : Start = search in
+    let at-loop : tie.At-loop Inv-loop μ-loop = search in
+    let start : tie.Start Inv-loop μ-loop = search in
     let l = at-loop .loop in
     let bs = drop (start .args .at) (start .args .bytes .now) in
     let vs = numbersOf (readFields (l .i) bs) in
@@ -80,26 +67,13 @@ loop-again c =
 
 returns : tie.Need-returns Inv-loop μ-loop
 returns c =
-    let at-loop : Loop = search in
-    let start : Start = search in
+    let at-loop : tie.At-loop Inv-loop μ-loop = search in
+    let start : tie.Start Inv-loop μ-loop = search in
     let l = at-loop .loop in
     let e : l .i ≡ start .args .n = omega arith in
     rw (← e) (record { read = l .inv .1; inside = l .inv .3; stored = l .inv .4 })
 
 pub words-into-spec : {M : Type 1} → statement M
-words-into-spec =
-    tie.close
-    (tie.spec
-    Inv-loop
-    μ-loop
-    loop-holds
-    (search needs)
-    cast-words
-    (search needs)
-    (search needs)
-    (search needs)
-    (search needs)
-    (search needs)
-    loop-again
-    (search needs)
-    returns)
+words-into-spec = tie.close (tie.spec
+    Inv-loop μ-loop loop-holds (search needs) cast-words
+    (search needs) (search needs) (search needs) (search needs) (search needs) loop-again (search needs) returns)

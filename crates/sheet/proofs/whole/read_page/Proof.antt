@@ -37,20 +37,6 @@ returns-4 c =
     all-read (f .shape-at .ensures) (search) (s .second-at .ensures) (search) (r .rows-into .ensures) (search)
 
 pub read-page-spec : {M : Type 1} → statement M
-read-page-spec =
-    tie.close
-    (tie.spec
-    (search needs)
-    (search needs)
-    (search needs)
-    returns
-    second-at-requires
-    (search needs)
-    (search needs)
-    returns-2
-    rows-into-requires
-    (search needs)
-    (search needs)
-    returns-3
-    (search needs)
-    returns-4)
+read-page-spec = tie.close (tie.spec
+    (search needs) (search needs) (search needs) returns second-at-requires (search needs) (search needs) returns-2
+    rows-into-requires (search needs) (search needs) returns-3 (search needs) returns-4)

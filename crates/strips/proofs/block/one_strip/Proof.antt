@@ -1,11 +1,5 @@
 -- `block::one_strip` meets its contract.
-use mathlib.Core.Bool.{true≢false}
-use mathlib.Core.Logic.{inl, inr}
-use Prim.Native.Nat.{_*_}
-use native.Mathlib.Nat.{mul-le-mul}
-use native.Mathlib.Omega.{arith}
-use borrow.Author.Needs.{needs}
-use borrow.Author.Tests.{leb-true, leb-false}
+use Rattle.lists.proofs.Kit.{true≢false, inl, inr, _*_, mul-le-mul, arith, needs, leb-true, leb-false}
 use Rattle.strips.proofs.Accepted.{long-lines}
 use Rattle.strips.proofs.block.one_strip.Statement.{statement}
 use Rattle.strips.proofs.block.one_strip.Tie as tie
@@ -19,15 +13,11 @@ returns c =
     )
 
 pub one-strip-spec : {M : Type 1} → statement M
-one-strip-spec =
-    tie.close
-    (tie.spec
+one-strip-spec = tie.close (tie.spec
     (λ c. let s : tie.Start = search in record { fits = omega (arith, mul-le-mul (s .pre .0) (s .pre .1)) })
-    returns
-    (search needs)
+    returns (search needs)
     (λ c. (λ e. inl (inl (search)), λ e. absurd (true≢false e)))
     (search needs)
     (λ c.
-    let s : tie.Start = search in
-    let w = s .args .n * s .args .g in
+    let s : tie.Start = search in let w = s .args .n * s .args .g in
     (λ e. inl (inr (leb-true w 64 e)), λ e. (inl (omega arith), omega arith, leb-false w 64 e))))

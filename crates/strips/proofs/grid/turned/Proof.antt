@@ -1,10 +1,5 @@
 -- `grid::turned` meets its contract: the places have marks enough in the part of the room that is lent, so the grid is turned.
-use mathlib.Core.Path.{sym}
-use Prim.Native.Nat.{_+_, _*_, _/_, _≤_}
-use native.Mathlib.Omega.{arith}
-use lib.ListN.{length}
-use lib.Seq.{length-take-le}
-use borrow.Author.Needs.{needs}
+use Rattle.lists.proofs.Kit.{sym, _+_, _*_, _/_, _≤_, arith, length, length-take-le, needs}
 use Rattle.strips.proofs.Bounds.{lent-turnable, lent-back}
 use Rattle.strips.proofs.grid.turned.Statement.{statement}
 use Rattle.strips.proofs.grid.turned.Tie as tie
@@ -24,14 +19,6 @@ returns c =
     (w .1, lent-back ((s .args .m * s .args .n + 63) / 64) (s .args .room .now) (w .2) (enough s))
 
 pub turned-spec : {M : Type 1} → statement M
-turned-spec =
-    tie.close
-    (tie.spec
-    (search needs)
-    (search needs)
-    (search needs)
-    slice-aggregate-turn-grid
-    (λ c κs. search needs)
-    (search needs)
-    (search needs)
-    returns)
+turned-spec = tie.close (tie.spec
+    (search needs) (search needs) (search needs) slice-aggregate-turn-grid (λ c κs. search needs)
+    (search needs) (search needs) returns)

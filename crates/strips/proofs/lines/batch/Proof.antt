@@ -5,4 +5,5 @@ use Rattle.strips.proofs.lines.batch.Statement.{statement}
 use Rattle.strips.proofs.lines.batch.Tie as tie
 
 pub batch-spec : {M : Type 1} → statement M
-batch-spec = tie.close (tie.spec (search needs) (λ c. batch-most (search) (search) (search)) (λ c. batch-all (search) (search)))
+batch-spec = tie.close (tie.spec
+    (search needs) (λ c. batch-most (search) (search) (search)) (λ c. batch-all (search) (search)))

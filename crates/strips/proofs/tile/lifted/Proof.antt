@@ -1,8 +1,5 @@
 -- `tile::lifted` meets its contract: elements of one word are copied at once, others row by row; the loop keeps that the rows passed stand in the tile.
-use mathlib.Core.Path.{_≡_}
-use Prim.Native.Nat.{_*_, _-_, _≤_}
-use native.Mathlib.Omega.{arith}
-use borrow.Author.Needs.{needs}
+use Rattle.lists.proofs.Kit.{_≡_, _*_, _-_, _≤_, arith, needs}
 use Rattle.strips.specs.PrivateMoves.{Lifted}
 use Rattle.strips.proofs.Tiles.{lifted-none, lifted-more, lifted-words, sizes, next-run}
 use Rattle.strips.proofs.tile.lifted.Statement.{statement}
@@ -14,23 +11,17 @@ Inv-loop tile₀ buf m n g words i₀ tile i = (i ≤ m) × Lifted i n g buf til
 abbrev μ-loop : tie.MeasureT-loop
 μ-loop tile₀ buf m n g words i₀ tile i = m - i
 
-abbrev Loop : Type 0
-Loop = tie.At-loop Inv-loop μ-loop
-
-abbrev Begin : Type 0
-Begin = tie.Start Inv-loop μ-loop
-
 returns : tie.Need-returns Inv-loop μ-loop
 returns c =
     let k : tie.After-copy Inv-loop μ-loop = search in
-    let s : Begin = search in
+    let s : tie.Start Inv-loop μ-loop = search in
     let h = s .pre in
     lifted-words (search) (k .copy .ensures .inside (omega (arith, h .room), omega (arith, h .inside)))
 
 columns-out-requires : tie.Need-columns-out-requires Inv-loop μ-loop
 columns-out-requires c κs =
-    let l : Loop = search in
-    let s : Begin = search in
+    let l : tie.At-loop Inv-loop μ-loop = search in
+    let s : tie.Start Inv-loop μ-loop = search in
     let h = s .pre in
     let e = next-run (s .args .n * s .args .g) {j = l .loop .i} {k = s .args .m} (omega arith) in
     (h .columns, omega (arith, h .room, l .loop .inv .1 .same, e), omega (arith, h .inside, e))
@@ -38,35 +29,23 @@ columns-out-requires c κs =
 loop-again : tie.Need-loop-again Inv-loop μ-loop
 loop-again c =
     let k : tie.After-columns-out Inv-loop μ-loop = search in
-    let l : Loop = search in
+    let l : tie.At-loop Inv-loop μ-loop = search in
     (omega arith, lifted-more (l .loop .inv .1) (k .columns-out .ensures))
 
 returns-2 : tie.Need-returns-2 Inv-loop μ-loop
 returns-2 c =
-    let l : Loop = search in
-    let s : Begin = search in
+    let l : tie.At-loop Inv-loop μ-loop = search in
+    let s : tie.Start Inv-loop μ-loop = search in
     let e : l .loop .i ≡ s .args .m = omega arith in
     rw e at (l .loop .inv .1)
 
 pub lifted-spec : {M : Type 1} → statement M
-lifted-spec =
-    tie.close
-    (tie.spec
-    Inv-loop
-    μ-loop
-    (λ c. let s : Begin = search in record { fits = omega (arith, sizes (s .pre) .row) })
-    (λ c. let s : Begin = search in record { fits = omega (arith, s .pre .room) })
-    (λ c κs. search needs)
-    (search needs)
-    returns
-    (λ c. (omega arith, lifted-none))
+lifted-spec = tie.close (tie.spec
+    Inv-loop μ-loop
+    (λ c. let s : tie.Start Inv-loop μ-loop = search in record { fits = omega (arith, sizes (s .pre) .row) })
+    (λ c. let s : tie.Start Inv-loop μ-loop = search in record { fits = omega (arith, s .pre .room) })
+    (λ c κs. search needs) (search needs) returns (λ c. (omega arith, lifted-none))
     (λ c.
-    let l : Loop = search in
-    let s : Begin = search in
+    let l : tie.At-loop Inv-loop μ-loop = search in let s : tie.Start Inv-loop μ-loop = search in
     record { fits = omega (arith, s .pre .inside, next-run (s .args .n * s .args .g) {j = l .loop .i} {k = s .args .m} (omega arith)) })
-    columns-out-requires
-    (search needs)
-    (search needs)
-    loop-again
-    (search needs)
-    returns-2)
+    columns-out-requires (search needs) (search needs) loop-again (search needs) returns-2)

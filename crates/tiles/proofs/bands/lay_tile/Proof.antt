@@ -18,4 +18,5 @@ returns c =
     tile-laid (s .pre .0 .small) (s .pre .1) (s .args .scratch .now) (t .tile-rows .ensures) (r .copy-rows .ensures)
 
 pub lay-tile-spec : {M : Type 1} → statement M
-lay-tile-spec = tie.close (tie.spec (search needs) copy-rows-requires (search needs) returns)
+lay-tile-spec = tie.close (tie.spec
+    (search needs) copy-rows-requires (search needs) returns)

@@ -12,12 +12,5 @@ returns c =
     band-moved (s .pre .small .step) (p .copy .ensures) (l .lay .ensures)
 
 pub move-band-spec : {M : Type 1} → statement M
-move-band-spec =
-    tie.close
-    (tie.spec
-    (search needs)
-    (search needs)
-    (search needs)
-    (search needs)
-    (search needs)
-    returns)
+move-band-spec = tie.close (tie.spec
+    (search needs) (search needs) (search needs) (search needs) (search needs) returns)

@@ -1,8 +1,5 @@
 -- `tile_rows` meets its contract: the test of the direction chooses between the two.
-use Prim.Native.Nat.{_*_, _≤_}
-use native.Mathlib.Nat.{mul-le-mul-left}
-use native.Mathlib.Omega.{arith}
-use borrow.Author.Needs.{needs}
+use Rattle.lists.proofs.Kit.{_*_, _≤_, mul-le-mul-left, arith, needs}
 use Rattle.tiles.proofs.TileByTile.{columns-few, rows-into, rows-back}
 use Rattle.tiles.proofs.bands.tile_rows.Statement.{statement}
 use Rattle.tiles.proofs.bands.tile_rows.Tie as tie
@@ -24,13 +21,9 @@ returns-2 c =
     rows-back (s .args .b) (s .args .j) (search) (w .smaller .ensures)
 
 pub tile-rows-spec : {M : Type 1} → statement M
-tile-rows-spec =
-    tie.close
-    (tie.spec
-    (search needs)
-    (search needs)
+tile-rows-spec = tie.close (tie.spec
+    (search needs) (search needs)
     (λ c. record { fits = omega (arith, before-few (search)) })
-    (λ c. omega (arith, before-few (search)))
-    returns
+    (λ c. omega (arith, before-few (search))) returns
     (λ c. let s : tie.Start = search in omega (arith, columns-few (s .pre .0), s .pre))
     returns-2)

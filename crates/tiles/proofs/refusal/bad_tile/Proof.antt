@@ -1,8 +1,5 @@
 -- `bad_tile` meets its contract: one side after the other is tested.
-use mathlib.Core.Path.{_≡_}
-use mathlib.Core.Bool.{true, false}
-use borrow.Author.Needs.{needs}
-use Rattle.lists.proofs.Via.{via}
+use Rattle.lists.proofs.Kit.{_≡_, true, false, needs, via}
 use Rattle.tiles.specs.Promises.{noSide}
 use Rattle.tiles.proofs.refusal.bad_tile.Statement.{statement}
 use Rattle.tiles.proofs.refusal.bad_tile.Tie as tie
@@ -20,4 +17,5 @@ returns-2 c =
     rw good (c .no-side2 .ensures)
 
 pub bad-tile-spec : {M : Type 1} → statement M
-bad-tile-spec = tie.close (tie.spec (search needs) returns (search needs) returns-2)
+bad-tile-spec = tie.close (tie.spec
+    (search needs) returns (search needs) returns-2)

@@ -1,8 +1,5 @@
 -- `tiles_number` meets its contract: each test is that of a check, in its order.
-use native.Mathlib.Nat.{mul-le-mul}
-use native.Mathlib.Omega.{arith}
-use borrow.Author.Needs.{needs}
-use Rattle.lists.proofs.Via.{via}
+use Rattle.lists.proofs.Kit.{mul-le-mul, arith, needs, via}
 use Rattle.tiles.proofs.Accepted.{sizes, tile-low, size-refused, tile-refused, short-refused, long-refused, room-refused, all-passed}
 use Rattle.tiles.proofs.refusal.tiles_number.Statement.{statement}
 use Rattle.tiles.proofs.refusal.tiles_number.Tie as tie
@@ -56,17 +53,6 @@ returns-6 c =
     all-passed (a .m) (a .n) (a .r) (a .s) (a .buf .now) (a .scratch .now) (search via) (search via) (omega arith) (omega arith)
 
 pub tiles-number-spec : {M : Type 1} → statement M
-tiles-number-spec =
-    tie.close
-    (tie.spec
-    (search needs)
-    (search needs)
-    returns
-    (search needs)
-    returns-2
-    mul-words
-    returns-3
-    returns-4
-    mul-if5
-    returns-5
+tiles-number-spec = tie.close (tie.spec
+    (search needs) (search needs) returns (search needs) returns-2 mul-words returns-3 returns-4 mul-if5 returns-5
     returns-6)

@@ -1,9 +1,5 @@
 -- `copy` meets its contract: the words are stored one after the other.
-use mathlib.Core.Path.{_≡_}
-use Prim.Native.Nat.{_+_, _-_, _≤_}
-use native.Mathlib.Omega.{arith}
-use borrow.Author.Needs.{needs}
-use lib.ListN.{getD}
+use Rattle.lists.proofs.Kit.{_≡_, _+_, _-_, _≤_, arith, needs, getD}
 use Rattle.passes.specs.PrivateScratch.{Filled}
 use Rattle.passes.proofs.Filled.{filled-none, filled-more}
 use Rattle.tiles.proofs.runs.copy.Statement.{statement}
@@ -29,20 +25,7 @@ returns c =
     rw e at (l .loop .inv .1)
 
 pub copy-spec : {M : Type 1} → statement M
-copy-spec =
-    tie.close
-    (tie.spec
-    Inv-loop
-    μ-loop
-    (λ c. (omega arith, filled-none _ _ _))
-    (search needs)
-    (search needs)
-    (search needs)
-    (search needs)
-    (search needs)
-    (search needs)
-    (search needs)
-    (search needs)
-    loop-again
-    (search needs)
-    returns)
+copy-spec = tie.close (tie.spec
+    Inv-loop μ-loop (λ c. (omega arith, filled-none _ _ _))
+    (search needs) (search needs) (search needs) (search needs) (search needs) (search needs) (search needs) (search needs)
+    loop-again (search needs) returns)
