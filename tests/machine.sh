@@ -63,5 +63,7 @@ build_outside() {
     ./install.sh --target "$1" "$out/prefix" >"$out/installed.txt"
     shift
     "$cc" -std=c11 -O2 -Wall -Wextra "$@" -I"$out/prefix/include" tests/driver.c -L"$out/prefix/lib" -lzibsnarda -o "$out/driver"
-    rustc -O --edition 2021 tests/outside/main.rs -o "$out/outside"
+    # the calls have one list, the driver's
+    sed -n 's/^ *\([A-Z][A-Z0-9_]*\) = \([0-9]*\),\{0,1\}$/pub const \1: u64 = \2;/p' tests/driver.c >"$out/calls.rs"
+    CALLS=$(cd "$out" && pwd)/calls.rs rustc -O --edition 2021 tests/outside/main.rs -o "$out/outside"
 }

@@ -2,41 +2,8 @@
 use std::io::{BufReader, BufWriter, Read, Result, Write};
 use std::process::{Child, ChildStdin, ChildStdout, Command, Stdio};
 
-pub const TURN: u64 = 1;
-pub const TURN_BACK: u64 = 2;
-pub const TURN_HALVES: u64 = 3;
-pub const CHAIN: u64 = 4;
-pub const REQUEST: u64 = 5;
-pub const PLAN: u64 = 6;
-pub const READ_SHEET: u64 = 7;
-pub const WRITE_SHEET: u64 = 8;
-pub const JOB: u64 = 9;
-pub const REPEATS: u64 = 10;
-pub const REMOVE_CAMERA: u64 = 11;
-pub const ADD_CAMERA: u64 = 12;
-pub const TO_TILES: u64 = 13;
-pub const FROM_TILES: u64 = 14;
-pub const READ_RESULT: u64 = 15;
-pub const TICK: u64 = 16;
-pub const LINES: u64 = 17;
-pub const JUDGE_CYCLES: u64 = 18;
-pub const RUN_CYCLES: u64 = 19;
-pub const OFFSET_DELAY: u64 = 20;
-pub const TO_FRAMES: u64 = 21;
-pub const JOIN: u64 = 22;
-pub const CHOOSE: u64 = 23;
-pub const CHOOSE_NUMBER: u64 = 24;
-pub const WRITE_RELEASE: u64 = 30;
-pub const CHAIN5: u64 = 31;
-pub const REQUEST5: u64 = 32;
-pub const PLAN5: u64 = 33;
-pub const RESUME: u64 = 34;
-pub const TURN_PASSES: u64 = 35;
-pub const TURN_BACK_PASSES: u64 = 36;
-pub const WRITE_PAST_END: u64 = 100;
-pub const READ_PAST_END: u64 = 101;
-pub const WRITE_BEFORE_START: u64 = 102;
-pub const WRITE_TO_LENT: u64 = 103;
+// The calls by number, from the list in tests/driver.c.
+include!(env!("CALLS"));
 
 // Which end of every buffer lies against a page that nobody may touch.
 pub const AT_END: u64 = 0;

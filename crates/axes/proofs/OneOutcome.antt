@@ -8,8 +8,7 @@ use Rattle.orders.proofs.Layouts as layouts
 use Rattle.orders.proofs.Releases.{by-named}
 use Rattle.refusals.specs.FirstOf.{Check, firstOf}
 use Rattle.refusals.specs.Promise.{Rearranged}
-use Rattle.refusals.proofs.Promise.{one-outcome}
-use Rattle.plans.proofs.OneOutcome.{either-way}
+use Rattle.refusals.proofs.Promise.{either-way, one-outcome}
 use Rattle.axes.specs.declared.Answer.{Answer}
 use Rattle.axes.specs.Answers.{refused, refusedPlace}
 use Rattle.axes.specs.Promises.{ChainPromise, RequestPromise}
@@ -19,7 +18,7 @@ pub chain-once : {r : ℕ} {ds chain xs ss : List ℕ} → length ds ≡ r → {
     → ChainPromise r ds chain xs ss a ys ts → ChainPromise r ds chain xs ss a′ ys′ ts′ → (a ≡ a′) × (ys ≡ ys′) × (ts ≡ ts′)
 chain-once {r} {ds} {chain} axes p q =
     let (number, words, scratch) = one-outcome (λ ys zs f g. layouts.chain-once ds axes chain f g) (p .block) (q .block) in (
-      either-way number
+      either-way 0 number
           (λ e e′. p .given e ∙ sym (q .given e′))
           (λ n n′. p .refusal n ∙ ap (λ (k : ℕ). refused k (refusedPlace r k chain)) number ∙ sym (q .refusal n′)),
       words,
@@ -48,7 +47,7 @@ pub request-once : {r : ℕ} {ds : List ℕ} {release order : ℕ} {xs ss : List
 request-once {r} {ds} {release} {order} {xs} {ss} axes p q =
     let (number, words, scratch) =
     one-outcome (λ ys zs f g. once release order axes (request-order r ds xs ss release order (f .1)) (f .0) (g .0)) (with-checks (p .block)) (with-checks (q .block)) in (
-      either-way number
+      either-way 0 number
           (λ e e′. p .given e ∙ sym (q .given e′))
           (λ n n′. p .refusal n ∙ ap (λ (k : ℕ). refused k 0) number ∙ sym (q .refusal n′)),
       words,

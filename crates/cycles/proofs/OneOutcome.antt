@@ -1,10 +1,11 @@
 -- What the answer means: 0 exactly for the right list of a block whose size is accepted, 22 exactly for another list. Any two outcomes that
 -- the promise allows coincide, because two lists differ first at one place.
-use Rattle.lists.proofs.Kit.{_≡_, refl, sym, ap, ap₂, subst, _∙_, false, List, [], _∷_, _++_, _↔_, ⊎-elim, ℕ, _*_, T, lit<, not-false, same, same→eq, eq-or-ne}
+use Rattle.lists.proofs.Kit.{_≡_, refl, sym, ap, ap₂, subst, _∙_, false, List, [], _∷_, _++_, _↔_, ℕ, _*_, T, lit<, not-false, same, same→eq}
 use Rattle.refusals.specs.FirstOf.{Check, check, firstOf, refusing}
 use Rattle.refusals.specs.Calls.{sizeChecks}
 use Rattle.refusals.proofs.Conditions.{passed}
 use Rattle.refusals.proofs.FirstOf.{passed-first}
+use Rattle.refusals.proofs.Promise.{either-way}
 use Rattle.flat.specs.Turn.{sides}
 use Rattle.flat.proofs.Turn.{one-turn}
 use Rattle.orbits.specs.Cycles.{cycles, takes, EveryCycleOnce}
@@ -39,23 +40,13 @@ refused-other p d = none-other (p .differs d)
 pub judge-once : {checks : List Check} {m n : ℕ} {list : List ℕ} {a b : Judged} → JudgedAfter checks m n list a → JudgedAfter checks m n list b → a ≡ b
 judge-once {a = a} {b} p q =
     let one : a .number ≡ b .number = p .number-is ∙ sym (q .number-is) in
-    let place : a .place ≡ b .place =
-    ⊎-elim
-    (λ (d : a .number ≡ 22). one-other (p .differs d) (q .differs (sym one ∙ d)))
-    (λ (o : a .number ≡ 22 → ⊥). p .otherwise o ∙ sym (q .otherwise (λ d. o (one ∙ d))))
-    (eq-or-ne (a .number) 22) in
-    ap₂ answer one place
+    ap₂ answer one (either-way 22 one (λ d d′. one-other (p .differs d) (q .differs d′)) (λ o o′. p .otherwise o ∙ sym (q .otherwise o′)))
 
 pub run-once : {m n : ℕ} {list before after after′ : List ℕ} {a b : Judged} → RunAs m n list before a after → RunAs m n list before b after′
     → (a ≡ b) × (after ≡ after′)
 run-once {a = a} {b} p q =
     let one : a ≡ b = judge-once (p .answers) (q .answers) in
-    let number : b .number ≡ a .number = ap (λ (r : Judged). r .number) (sym one) in
-    let words = ⊎-elim
-    (λ (z : a .number ≡ 0). one-turn (p .words z) (q .words (number ∙ z)))
-    (λ (z : a .number ≡ 0 → ⊥). p .kept z ∙ sym (q .kept (λ y. z (sym number ∙ y))))
-    (eq-or-ne (a .number) 0) in
-    (one, words)
+    (one, either-way 0 (ap (λ (r : Judged). r .number) one) (λ z z′. one-turn (p .words z) (q .words z′)) (λ k k′. p .kept k ∙ sym (q .kept k′)))
 
 -- a list is judged 0 exactly when the size is accepted and it has every cycle once, in the words of the request
 pub judged-every-cycle : {m n : ℕ} {list : List ℕ} {a : Judged} → JudgedAs m n list a

@@ -8,7 +8,7 @@ ghost use Rattle.orbits.specs.Along.{handedOn, alongCycles};
 ghost use Rattle.orbits.specs.Private.{Small, Reciprocal};
 
 // Along one cycle: a word is put where the turn takes its offset, and the word that stood there goes on.
-fn one(buf: &mut [u32], m: usize, n: usize, inverse: usize, start: usize, count: usize)
+fn follow(buf: &mut [u32], m: usize, n: usize, inverse: usize, start: usize, count: usize)
     requires { ⌜ Small m n × Reciprocal n inverse × (start < m * n) × (length (now buf) ≡ m * n) ⌝ }
     ensures { λ _. ⌜ now (buf .exit) ≡ handedOn (takes m n) count start (getD (now (buf .entry)) start 0) (now (buf .entry)) ⌝ }
 {
@@ -23,15 +23,15 @@ fn one(buf: &mut [u32], m: usize, n: usize, inverse: usize, start: usize, count:
 }
 
 // Along every cycle of the right list, one after the other.
-pub(crate) fn all(list: &[u32], buf: &mut [u32], m: usize, n: usize)
+pub(crate) fn follow_all(list: &[u32], buf: &mut [u32], m: usize, n: usize)
     requires { ⌜ Small m n × (now list ≡ cycles m n) × (length (now buf) ≡ m * n) ⌝ }
     ensures { λ _. ⌜ now (buf .exit) ≡ alongCycles (takes m n) (cycles m n) (now (buf .entry)) ⌝ }
 {
     let inverse = steps::inverse_of(n);
     let pairs = list.len() / 2;
     for k in 0..pairs {
-        let start = steps::wide(list[2 * k]);
-        let count = steps::wide(list[2 * k + 1]);
-        one(buf, m, n, inverse, start, count);
+        let start = steps::as_count(list[2 * k]);
+        let count = steps::as_count(list[2 * k + 1]);
+        follow(buf, m, n, inverse, start, count);
     }
 }

@@ -44,10 +44,10 @@ fn pair_is(list: &[u32], place: usize, start: usize, count: usize) -> bool
     if list.len() <= at + 1 {
         return false;
     }
-    if steps::wide(list[at]) != start {
+    if steps::as_count(list[at]) != start {
         return false;
     }
-    steps::wide(list[at + 1]) == count
+    steps::as_count(list[at + 1]) == count
 }
 
 // The list against the right one: offset by offset, each that is the least of its cycle must be the next pair, and no more may follow.
@@ -101,6 +101,6 @@ pub fn run(list: &[u32], buf: &mut [u32], m: usize, n: usize) -> Judged
     if judged.number != 0 {
         return judged;
     }
-    along::all(list, buf, m, n);
+    along::follow_all(list, buf, m, n);
     judged
 }

@@ -23,7 +23,7 @@ pub(crate) fn step(m: usize, n: usize, inverse: usize, x: usize) -> usize
 }
 
 // A word as a count.
-pub(crate) fn wide(word: u32) -> usize
+pub(crate) fn as_count(word: u32) -> usize
     ensures { λ r. ⌜ r ≡ word ⌝ }
 {
     word as usize

@@ -1,6 +1,7 @@
 -- A refused answer, an accepted one, and that any two that one promise allows coincide.
-use Rattle.lists.proofs.Kit.{_≡_, refl, sym, _∙_, List, ⊎-elim, ℕ, eq-or-ne}
+use Rattle.lists.proofs.Kit.{_≡_, refl, sym, _∙_, List, ℕ}
 use Rattle.refusals.specs.FirstOf.{Check, firstOf}
+use Rattle.refusals.proofs.Promise.{either-way}
 use Rattle.desk.specs.Promises.{Answers}
 
 module _ {A : Type 0} {checks : List Check} {right nothing : A} where
@@ -14,9 +15,4 @@ module _ {A : Type 0} {checks : List Check} {right nothing : A} where
   one-number p q = p .number-is ∙ sym (q .number-is)
 
   pub one-answer : {k k′ : ℕ} {a a′ : A} → Answers checks right nothing k a → Answers checks right nothing k′ a′ → a ≡ a′
-  one-answer {k} p q =
-      let e = one-number p q in
-      ⊎-elim
-      (λ (z : k ≡ 0). p .given z ∙ sym (q .given (sym e ∙ z)))
-      (λ (n : k ≡ 0 → ⊥). p .refused n ∙ sym (q .refused (λ z. n (e ∙ z))))
-      (eq-or-ne k 0)
+  one-answer p q = either-way 0 (one-number p q) (λ z z′. p .given z ∙ sym (q .given z′)) (λ n n′. p .refused n ∙ sym (q .refused n′))

@@ -169,7 +169,7 @@ pub extern "C" fn zib_job(
     words: &mut [u32; 1024],
     scratch: &mut [u32; 1024],
     out: &mut [u8; 16384],
-) -> job::Told
+) -> job::JobAnswer
     ensures { λ r. ⌜ Done (now (bytes .entry)) (now (words .entry)) (now (scratch .entry)) (now (out .entry)) (r .number) (r .place) (r .count) (now (words .exit)) (now (scratch .exit)) (now (out .exit)) ⌝ }
 {
     job::job(bytes, words, scratch, out)

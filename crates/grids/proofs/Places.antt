@@ -6,7 +6,7 @@ use Rattle.orbits.proofs.Takes.{takes-permutes}
 use Rattle.moves.specs.Stretch.{Stretch, Outside, Traded}
 use Rattle.moves.specs.Promises.{Apart}
 use Rattle.grids.specs.declared.chunks.Grid.{Grid}
-use Rattle.grids.specs.Private.{mirror, fold, half, pairs, bitAt, MarkedToo, Fits, Level, Beside, Waiting, BothHold, BothTraded, Settled, Toured}
+use Rattle.grids.specs.Private.{mirror, fold, half, pairs, bitAt, MarkedToo, Fits, Level, Beside, Waiting, BothHold, BothFrom, BothTraded, Settled, Toured}
 use Rattle.grids.proofs.Bits.{both}
 use Rattle.grids.proofs.Mirror.{takes-mirror, fold-mirror, pair-goes, one-pair, pairs-permute}
 use Rattle.grids.proofs.Chasing.{free, Chasing, marked-now, still-free, chase-begins, chase-on, on-free, fewer-free, chase-ends}
@@ -239,7 +239,7 @@ module _ (n m w : ℕ) where
   -- the free places receive the chunks of their sources, which are free then
   chased-on : {first p x : ℕ} {before xs marks ys marked zs : List ℕ} → Chasing (pairs-permute n m) first (fold (n * m) p) before marks → p < n * m → x ≡ takes n m p
       → (fold (n * m) x ≡ first → ⊥) → Chased n m w (fold (n * m) p) xs marks ys
-      → BothHold (n * m) w p (λ u. getD ys (x * w + u) 0) (λ u. getD ys (mirror (n * m) x * w + u) 0) ys zs → MarkedToo (fold (n * m) x) marks marked
+      → BothFrom (n * m) w p x ys zs → MarkedToo (fold (n * m) x) marks marked
       → Chased n m w (fold (n * m) x) xs marked zs
   chased-on {first} {p} {x} {before} {xs} {marks} {ys} {marked} {zs} c low e ne a s mark =
       let free = on-free (pairs-permute n m) c (pair-next n m e low) ne in
@@ -362,7 +362,7 @@ module _ {g : Grid} {first : ℕ} where
         }
 
         pub following-on : {y : ℕ} {vs : List ℕ}
-            → BothHold (g .n * g .m) (g .chunk) p (λ u. getD zs (x * g .chunk + u) 0) (λ u. getD zs (mirror (g .n * g .m) x * g .chunk + u) 0) zs vs
+            → BothFrom (g .n * g .m) (g .chunk) p x zs vs
             → y ≡ takes (g .n) (g .m) x → Following g first x y ys marks vs after
         following-on s = following-by (s .same) (λ xs a. chased-on _ _ _ (f .chase) (f .low) (f .is) (λ e. away (folded ∙ e)) a s mark)
 

@@ -72,6 +72,10 @@ pub record BothHold (places w p : ℕ) (value mirrored : ℕ → ℕ) (ys zs : L
   pub stand : (q u : ℕ) → u < w → (q ≡ p → ⊥) → (q ≡ mirror places p → ⊥) → getD zs (q * w + u) 0 ≡ getD ys (q * w + u) 0
   pub others : (k : ℕ) → Beside places w k → getD zs k 0 ≡ getD ys k 0
 
+-- place p has the chunk that place x had, and its mirrored place that of the mirrored x; every other word stands
+abbrev pub BothFrom : ℕ → ℕ → ℕ → ℕ → List ℕ → List ℕ → Type 0
+BothFrom places w p x ys zs = BothHold places w p (λ u. getD ys (x * w + u) 0) (λ u. getD ys (mirror places x * w + u) 0) ys zs
+
 -- places p and x have traded their chunks, and so have their mirrored places; every other word stands
 pub record BothTraded (places w p x : ℕ) (ys zs : List ℕ) : Type 0 where
   pub same : length zs ≡ length ys

@@ -10,7 +10,7 @@ ghost use Rattle.orbits.specs.Private.{Reciprocal};
 ghost use Rattle.moves.specs.Stretch.{Stretch, Traded};
 ghost use Rattle.grids.specs.Grids.{GridTurned};
 ghost use Rattle.grids.specs.Promises.{Turnable};
-ghost use Rattle.grids.specs.Private.{mirror, fold, half, pairs, bitAt, Follows, Fits, Room, MarkedToo, Level, Waiting, BothHold, BothTraded, Crossed, Toured, Arrived};
+ghost use Rattle.grids.specs.Private.{mirror, fold, half, pairs, bitAt, Follows, Fits, Room, MarkedToo, Level, Waiting, BothHold, BothFrom, BothTraded, Crossed, Toured, Arrived};
 
 // A block of m rows and n columns of chunks, the inverse of m that a step multiplies by, and how many words a chunk has.
 pub(crate) struct Grid {
@@ -18,16 +18,6 @@ pub(crate) struct Grid {
     pub n: usize,
     pub inverse: usize,
     pub chunk: usize,
-}
-
-// The lesser of two numbers.
-fn lesser(x: usize, y: usize) -> usize
-    ensures { λ r. ⌜ r ≡ min x y ⌝ }
-{
-    if x < y {
-        return x;
-    }
-    y
 }
 
 // The inverse of m that a step multiplies by: 2 to the 40th by m, rounded down, and one more.
@@ -84,7 +74,7 @@ fn folded(g: Grid, p: usize) -> usize
     requires { ⌜ Follows g × (p < g .n * g .m) ⌝ }
     ensures { λ r. ⌜ r ≡ fold (g .n * g .m) p ⌝ }
 {
-    lesser(p, mirrored(g, p))
+    moves::smaller(p, mirrored(g, p))
 }
 
 // Marks the pair of place x.
@@ -108,7 +98,7 @@ fn keep_both(kept: &mut [u32], buf: &[u32], g: Grid, p: usize)
 fn carry_both(buf: &mut [u32], g: Grid, p: usize, x: usize)
     requires { ⌜ Fits g (now buf) × (p < g .n * g .m) × (x < g .n * g .m) ⌝ }
     requires { ⌜ (p ≡ x → ⊥) × (p ≡ mirror (g .n * g .m) p → ⊥) × (mirror (g .n * g .m) x ≡ p → ⊥) ⌝ }
-    ensures { λ _. ⌜ BothHold (g .n * g .m) (g .chunk) p (λ u. getD (now (buf .entry)) (x * g .chunk + u) 0) (λ u. getD (now (buf .entry)) (mirror (g .n * g .m) x * g .chunk + u) 0) (now (buf .entry)) (now (buf .exit)) ⌝ }
+    ensures { λ _. ⌜ BothFrom (g .n * g .m) (g .chunk) p x (now (buf .entry)) (now (buf .exit)) ⌝ }
 {
     carry(buf, g, p, x);
     carry(buf, g, mirrored(g, p), mirrored(g, x));
@@ -118,7 +108,7 @@ fn carry_both(buf: &mut [u32], g: Grid, p: usize, x: usize)
 fn advance(buf: &mut [u32], marks: &mut [u32], g: Grid, p: usize, x: usize)
     requires { ⌜ Fits g (now buf) × (p < g .n * g .m) × (x < g .n * g .m) × (g .n * g .m ≤ 64 * length (now marks)) ⌝ }
     requires { ⌜ (p ≡ x → ⊥) × (p ≡ mirror (g .n * g .m) p → ⊥) × (mirror (g .n * g .m) x ≡ p → ⊥) ⌝ }
-    ensures { λ _. ⌜ BothHold (g .n * g .m) (g .chunk) p (λ u. getD (now (buf .entry)) (x * g .chunk + u) 0) (λ u. getD (now (buf .entry)) (mirror (g .n * g .m) x * g .chunk + u) 0) (now (buf .entry)) (now (buf .exit)) ⌝ }
+    ensures { λ _. ⌜ BothFrom (g .n * g .m) (g .chunk) p x (now (buf .entry)) (now (buf .exit)) ⌝ }
     ensures { λ _. ⌜ MarkedToo (fold (g .n * g .m) x) (now (marks .entry)) (now (marks .exit)) ⌝ }
 {
     carry_both(buf, g, p, x);

@@ -1,9 +1,10 @@
 -- What the count means: the fewest repeats, at least one, that bring every block of that shape back, and the same for n by m as for m by n.
 -- Any two outcomes that the promise allows coincide, because a least power is one.
-use Rattle.lists.proofs.Kit.{_≡_, sym, ap₂, _∙_, subst, _↔_, ⊎-elim, ℕ, _*_, _<_, _≤_, mul-comm, lt-or-ge, eq-or-ne}
+use Rattle.lists.proofs.Kit.{_≡_, sym, ap₂, _∙_, subst, _↔_, ⊎-elim, ℕ, _*_, _<_, _≤_, mul-comm, lt-or-ge}
 use Rattle.refusals.specs.FirstOf.{firstOf}
 use Rattle.refusals.specs.Calls.{sizeChecks}
 use Rattle.refusals.proofs.Conditions.{sized-two}
+use Rattle.refusals.proofs.Promise.{either-way}
 use Rattle.flat.specs.Turn.{sides}
 use Rattle.orbits.specs.Turns.{Fewest}
 use Rattle.orbits.proofs.Powers.{one-order}
@@ -41,12 +42,7 @@ one-count m n {h} {k} c d =
 pub repeats-once : {m n : ℕ} {a b : Home} → RepeatsPromise m n a → RepeatsPromise m n b → a ≡ b
 repeats-once {m} {n} {a} {b} p q =
     let one : a .number ≡ b .number = p .number-is ∙ sym (q .number-is) in
-    let count : a .count ≡ b .count =
-    ⊎-elim
-    (λ (z : a .number ≡ 0). one-count m n (p .counted z) (q .counted (sym one ∙ z)))
-    (λ (z : a .number ≡ 0 → ⊥). p .refused z ∙ sym (q .refused (λ y. z (one ∙ y))))
-    (eq-or-ne (a .number) 0) in
-    ap₂ home one count
+    ap₂ home one (either-way 0 one (λ z z′. one-count m n (p .counted z) (q .counted z′)) (λ k k′. p .refused k ∙ sym (q .refused k′)))
   where
     home : ℕ → ℕ → Home
     home number count = record { number = number; count = count }

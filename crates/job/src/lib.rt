@@ -19,7 +19,7 @@ fn run(words: &mut [u32], scratch: &mut [u32], lengths: [usize; 4], swaps: &[usi
 
 // What the job answers: its number and place, 0 and 0 where the sheet is right, and how many bytes its text has.
 #[repr(C)]
-pub struct Told {
+pub struct JobAnswer {
     pub number: u32,
     pub place: usize,
     pub count: usize,
@@ -31,13 +31,13 @@ pub fn job(
     words: &mut [u32; 1024],
     scratch: &mut [u32; 1024],
     out: &mut [u8; 16384],
-) -> Told
+) -> JobAnswer
     ensures { λ r. ⌜ Done (now (bytes .entry)) (now (words .entry)) (now (scratch .entry)) (now (out .entry)) (r .number) (r .place) (r .count) (now (words .exit)) (now (scratch .exit)) (now (out .exit)) ⌝ }
 {
     let sheet = sheet::read(bytes, words);
     if sheet.number != 0 {
         let line = printer::write_refusal(sheet.number, sheet.place as u32, out);
-        return Told {
+        return JobAnswer {
             number: sheet.number,
             place: sheet.place,
             count: line.count,
@@ -50,7 +50,7 @@ pub fn job(
     let turned = answer.lengths;
     let front = [turned[0], turned[1], turned[2], turned[3]];
     let written = printer::write_result(front, answer.order, words, out);
-    Told {
+    JobAnswer {
         number: 0,
         place: 0,
         count: written.count,

@@ -5,7 +5,7 @@ mod words;
 
 ghost use mathlib.Core.Bool.{true, false};
 ghost use mathlib.Core.Path.{_≡_};
-ghost use Prim.Native.Nat.{_+_, _≤_, max};
+ghost use Prim.Native.Nat.{_+_, _≤_, max, min};
 ghost use Rattle.moves.specs.Promises.{Ahead, Apart, CopyPromise, FallPromise, HandPromise, RisePromise, ZeroPromise, TradePromise};
 
 // Whether the run of count words from an offset on ends past a buffer of so many words.
@@ -16,6 +16,16 @@ fn past(len: usize, at: usize, count: usize) -> bool
         return true;
     }
     len - count < at
+}
+
+// The smaller of two counts.
+pub fn smaller(x: usize, y: usize) -> usize
+    ensures { λ r. ⌜ r ≡ min x y ⌝ }
+{
+    if x < y {
+        return x;
+    }
+    y
 }
 
 // The larger of two offsets.

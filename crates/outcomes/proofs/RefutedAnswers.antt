@@ -1,7 +1,7 @@
 -- Wrong versions of the functions that change nothing and answer alone, as tables: the plans, the count of lines, the count of repeats; the checks and the
 -- tables, whose promise is an equation with the answer. The right count of repeats stands in its entry, and the test sees that it is the least. Two bounds on
 -- the length of every plan are refuted by theorems: they are statements about all orders, and no outcome of a call.
-use Rattle.lists.proofs.Kit.{_≡_, refl, sym, Bool, true, cond, List, [], _∷_, ℕ, zero, suc, _*_, _-_, _%_, _^_, _<_, _≤_, arith, T, ltb, length, take}
+use Rattle.lists.proofs.Kit.{_≡_, refl, sym, Bool, true, cond, List, [], _∷_, ℕ, zero, suc, _*_, _-_, _%_, _^_, min, _<_, _≤_, arith, T, ltb, length, take}
 use Rattle.layout.specs.Layout.{volume, placeOf, places}
 use Rattle.numbers.specs.Gcd.{gcdOf, euclid}
 use Rattle.orders.specs.Chains.{exchange}
@@ -186,6 +186,7 @@ numbers =
     -- 2 by 3 words counted as five
     gives "words_of/a-word-lost" (number (capped (volume (2 ∷ 3 ∷ [])))) 5
     ∷ gives "longest_of/last-for-longest" (number (longest (1 ∷ 3 ∷ 2 ∷ []))) 2
+    ∷ gives "smaller/larger-for-smaller" (number (min 3 5)) 5
     -- 4,096 words of scratch for a chain that exchanges 2 and 3
     ∷ gives "need_of/longest-for-exchanged" (number (chainNeed (4096 ∷ 1 ∷ 2 ∷ 3 ∷ []) (2 ∷ []))) 4096
     -- the place of a swap that is right

@@ -1,8 +1,14 @@
--- Any two outcomes that one promise allows coincide: number, buffer and scratch, where two right buffers of an accepted call are equal.
+-- Any two outcomes that one promise allows coincide: number, buffer and scratch, where two right buffers of an accepted call are equal. What is equal where a
+-- number is k and where it is not is equal.
 use Rattle.lists.proofs.Kit.{_≡_, refl, sym, _∙_, List, ⊎-elim, ℕ, eq-or-ne}
 use Rattle.refusals.specs.FirstOf.{Check, firstOf}
 use Rattle.refusals.specs.Scratch.{cleared}
 use Rattle.refusals.specs.Promise.{Rearranged}
+
+-- two answers to one question: equal where the number is k, and where it is not
+pub either-way : {A : Type 0} {x y : A} (k : ℕ) {n m : ℕ} → n ≡ m → (n ≡ k → m ≡ k → x ≡ y) → ((n ≡ k → ⊥) → (m ≡ k → ⊥) → x ≡ y) → x ≡ y
+either-way k {n} same is other =
+    ⊎-elim (λ (e : n ≡ k). is e (sym same ∙ e)) (λ (d : n ≡ k → ⊥). other d (λ e. d (same ∙ e))) (eq-or-ne n k)
 
 module _ {checks : List Check} {needed : ℕ} {Right : List ℕ → Type 0} {buffer₀ scratch₀ : List ℕ}
     (one : firstOf checks ≡ 0 → (ys zs : List ℕ) → Right ys → Right zs → ys ≡ zs)
@@ -12,15 +18,11 @@ module _ {checks : List Check} {needed : ℕ} {Right : List ℕ → Type 0} {buf
   one-number = p .number-is ∙ sym (q .number-is)
 
   pub one-accepted : (r ≡ r′) × (buffer ≡ buffer′) × (scratch ≡ scratch′)
-  one-accepted =
-      ⊎-elim
-      (λ (e : r ≡ 0).
-      let e′ : r′ ≡ 0 = sym one-number ∙ e in
-      (one-number, one (sym (p .number-is) ∙ e) buffer buffer′ (p .words e) (q .words e′), p .zeroed e ∙ sym (q .zeroed e′)))
-      (λ (n : r ≡ 0 → ⊥).
-      let n′ : r′ ≡ 0 → ⊥ = λ e. n (one-number ∙ e) in
-      (one-number, p .kept n .0 ∙ sym (q .kept n′ .0), p .kept n .1 ∙ sym (q .kept n′ .1)))
-      (eq-or-ne r 0)
+  one-accepted = (
+    one-number,
+    either-way 0 one-number (λ e e′. one (sym (p .number-is) ∙ e) buffer buffer′ (p .words e) (q .words e′)) (λ n n′. p .kept n .0 ∙ sym (q .kept n′ .0)),
+    either-way 0 one-number (λ e e′. p .zeroed e ∙ sym (q .zeroed e′)) (λ n n′. p .kept n .1 ∙ sym (q .kept n′ .1)),
+  )
 
 -- the same where two right buffers are equal, accepted or not
 pub one-outcome : {checks : List Check} {needed : ℕ} {Right : List ℕ → Type 0} {buffer₀ scratch₀ : List ℕ} → ((ys zs : List ℕ) → Right ys → Right zs → ys ≡ zs)

@@ -1,11 +1,19 @@
 -- A square turned across its diagonal: row by row, each element before the diagonal trades places with the one that mirrors it. After i rows the elements of the
--- first i rows and columns stand turned, and the others stand where they stood.
-use Rattle.lists.proofs.Kit.{_≡_, refl, sym, ap, _∙_, List, _⊎_, inl, inr, ⊎-elim, ℕ, _+_, _*_, _/_, _%_, _<_, _≤_, arith, digits-div, digits-mod, digits-lt, length, getD, eq-or-ne, lt-or-ge}
+-- first i rows and columns stand turned, and the others stand where they stood. A square of words goes by recursion, which takes what it is lent.
+use Rattle.lists.proofs.Kit.{_≡_, refl, sym, ap, _∙_, List, _⊎_, inl, inr, ⊎-elim, ℕ, _+_, _*_, _-_, _/_, _%_, _<_, _≤_, mul-le-mul, le-ltb, arith, digits-div, digits-mod, digits-lt, length, getD, eq-or-ne, lt-or-ge}
+use borrow.Rule.Slice.PartMut.{midOf, putMid, mid-len}
+use Rattle.layout.specs.Layout.{volume}
+use Rattle.refusals.specs.FirstOf.{firstOf}
+use Rattle.refusals.specs.Calls.{recursionChecks}
+use Rattle.refusals.proofs.Conditions.{range-in, not-short, not-long}
+use Rattle.flat.specs.Turn.{sides, Turn}
+use Rattle.flat.proofs.Turn.{volume-two}
+use Rattle.halves.proofs.Blocks.{laid-turned, part-turned}
 use Rattle.moves.specs.Stretch.{Outside, Traded}
 use Rattle.grids.specs.Grids.{GridTurned}
 use Rattle.strips.specs.PrivateBounds.{Square}
 use Rattle.strips.specs.PrivateMoves.{RowCrossed}
-use Rattle.strips.proofs.Strips.{from-words}
+use Rattle.strips.proofs.Strips.{place, from-words, turn-flat}
 use Rattle.strips.proofs.Tiles.{next-run}
 
 -- a word of another element lies outside an element
@@ -145,3 +153,37 @@ module _ {n g : ℕ} {xs : List ℕ} where
 
   pub square-all : {ys : List ℕ} → SquareTo n g n xs ys → GridTurned n n g xs ys
   square-all s = from-words n n g (s .same) (λ i j u hi hj hu. s .gone i j u hi hj hu) (s .tail)
+
+-- a square of words, lent as the part of the buffer that it fills, is accepted by the recursion, and comes back turned
+module _ {n : ℕ} {xs : List ℕ} (q : Square n 1 xs) where
+  side : n ≤ 4096
+  side = ⊎-elim (λ (h : 4096 < n). absurd (omega (arith, q .few, mul-le-mul (above h) (above h)))) (λ (h : n ≤ 4096). h) (lt-or-ge 4096 n)
+    where
+      above : 4096 < n → 4097 ≤ n
+      above h = h
+
+  exact : length (midOf 0 (n * n - 0) xs) ≡ volume (sides n n)
+  exact = omega (arith, mid-len 0 (n * n) xs (omega (arith, q .inside)), volume-two n n)
+
+  pub lent-accepted : firstOf (recursionChecks (sides n n) (midOf 0 (n * n - 0) xs)) ≡ 0
+  lent-accepted =
+      rw (
+        range-in n (λ e. omega (arith, q .some)) side,
+        le-ltb 1048576 (volume (sides n n)) (omega (arith, q .few, volume-two n n)),
+        not-short (sides n n) (midOf 0 (n * n - 0) xs) exact,
+        not-long (sides n n) (midOf 0 (n * n - 0) xs) exact,
+      )
+
+  pub lent-turned : {ys : List ℕ} → Turn n n (midOf 0 (n * n - 0) xs) ys → GridTurned n n 1 xs (putMid 0 (n * n - 0) xs ys)
+  lent-turned {ys} t =
+      let b = part-turned {m = n} {n = n} {chunk = 1} {base = 0} {end = n * n} {xs = xs} {ys = ys} (omega arith) (omega (arith, q .inside)) (laid-turned (turn-flat t)) in
+      from-words n n 1 (b .same)
+      (λ i j u hi hj hu. place (putMid 0 (n * n - 0) xs ys) (omega arith) ∙ b .placed i j u hi hj hu ∙ place xs (omega arith))
+      (λ k h. b .others k (inr (omega arith)))
+
+-- elements of one word are words
+pub words : {n g : ℕ} {xs : List ℕ} → g ≡ 1 → Square n g xs → Square n 1 xs
+words e q = rw e at q
+
+pub words-turned : {n g : ℕ} {xs ys : List ℕ} → g ≡ 1 → GridTurned n n 1 xs ys → GridTurned n n g xs ys
+words-turned e t = rw e t

@@ -1,4 +1,4 @@
-// Squares of elements of several words: elements trade places across the diagonal.
+// Squares: words by recursion, which exchanges them across the diagonal in tiles; elements of several words trade places.
 ghost use Prim.Native.Nat.{_<_};
 ghost use Rattle.grids.specs.Grids.{GridTurned};
 ghost use Rattle.strips.specs.PrivateBounds.{Square};
@@ -14,11 +14,24 @@ fn cross(buf: &mut [u32], n: usize, g: usize, i: usize)
     }
 }
 
-// Turns the square of n rows and n columns that the buffer begins with.
+// Turns the square of n rows and n columns of words that the buffer begins with.
+fn by_recursion(buf: &mut [u32], n: usize)
+    requires { ⌜ Square n 1 (now buf) ⌝ }
+    ensures { λ _. ⌜ GridTurned n n 1 (now (buf .entry)) (now (buf .exit)) ⌝ }
+{
+    let end = n * n;
+    halves::turn(&mut buf[0..end], n, n);
+}
+
+// Turns the square of n rows and n columns of elements that the buffer begins with.
 pub(crate) fn turned(buf: &mut [u32], n: usize, g: usize)
     requires { ⌜ Square n g (now buf) ⌝ }
     ensures { λ _. ⌜ GridTurned n n g (now (buf .entry)) (now (buf .exit)) ⌝ }
 {
+    if g == 1 {
+        by_recursion(buf, n);
+        return;
+    }
     for i in 1..n {
         cross(buf, n, g, i);
     }

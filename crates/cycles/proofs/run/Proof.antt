@@ -17,8 +17,8 @@ returns-2 c =
     let k : tie.After-compare = search in
     run-other _ _ _ _ (search via) (k .compare .ensures) (search)
 
-all-requires : tie.Need-all-requires
-all-requires c κs =
+follow-all-requires : tie.Need-follow-all-requires
+follow-all-requires c κs =
     let k : tie.After-compare = search in
     let s : tie.Start = search in
     let b = block-small (s .args .m) (s .args .n) (s .args .buf .now) (search via) in
@@ -26,10 +26,10 @@ all-requires c κs =
 
 returns-3 : tie.Need-returns-3
 returns-3 c =
-    let a : tie.After-all = search in
+    let a : tie.After-follow-all = search in
     let k : tie.After-compare = search in
-    run-right _ _ _ _ (search via) (k .compare .ensures) (search) (a .all .ensures)
+    run-right _ _ _ _ (search via) (k .compare .ensures) (search) (a .follow-all .ensures)
 
 pub run-spec : {M : Type 1} → statement M
 run-spec = tie.close (tie.spec
-    (search needs) (λ c κs. search needs) (search needs) returns compare-requires (search needs) returns-2 all-requires (search needs) returns-3)
+    (search needs) (λ c κs. search needs) (search needs) returns compare-requires (search needs) returns-2 follow-all-requires (search needs) returns-3)

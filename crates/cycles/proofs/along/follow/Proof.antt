@@ -1,9 +1,9 @@
--- `along::one` meets its contract. The loop's invariant: what is left to carry leaves what the whole cycle leaves; the measure is how many
+-- `along::follow` meets its contract. The loop's invariant: what is left to carry leaves what the whole cycle leaves; the measure is how many
 -- words are left.
 use Rattle.lists.proofs.Kit.{sym, _∙_, _-_, arith, needs}
 use Rattle.cycles.proofs.Carrying.{Carries, carries-none, next-low, carries-more, carries-all}
-use Rattle.cycles.proofs.along.one.Statement.{statement}
-use Rattle.cycles.proofs.along.one.Tie as tie
+use Rattle.cycles.proofs.along.follow.Statement.{statement}
+use Rattle.cycles.proofs.along.follow.Tie as tie
 
 abbrev Inv-loop : tie.InvT-loop
 Inv-loop buf₀ m n inverse start count at₀ word₀ k₀ buf at word k = Carries m n count start buf₀ buf at word k
@@ -65,7 +65,7 @@ returns c =
     let s : tie.Start Inv-loop μ-loop = search in
     carries-all (s .args .m) (s .args .n) (s .args .count) (s .args .start) (s .args .buf .now) (l .loop .inv) (search)
 
-pub one-spec : {M : Type 1} → statement M
-one-spec = tie.close (tie.spec
+pub follow-spec : {M : Type 1} → statement M
+follow-spec = tie.close (tie.spec
     Inv-loop μ-loop mul-word slice-read-word loop-holds step-requires mul-next slice-read-next mul-buf slice-write-buf
     (search needs) (search needs) loop-again same-length returns)

@@ -1,10 +1,10 @@
--- `along::all` meets its contract. The loop's invariant: what is left of the list leaves what the whole list leaves; the measure is how many
+-- `along::follow_all` meets its contract. The loop's invariant: what is left of the list leaves what the whole list leaves; the measure is how many
 -- pairs are left.
 use Rattle.lists.proofs.Kit.{sym, _∙_, _-_, arith, needs}
 use Rattle.orbits.proofs.Stepping.{columns}
 use Rattle.cycles.proofs.Carrying.{Runs, runs-none, start-low, runs-more, runs-all}
-use Rattle.cycles.proofs.along.all.Statement.{statement}
-use Rattle.cycles.proofs.along.all.Tie as tie
+use Rattle.cycles.proofs.along.follow_all.Statement.{statement}
+use Rattle.cycles.proofs.along.follow_all.Tie as tie
 
 abbrev Inv-loop : tie.InvT-loop
 Inv-loop list buf₀ m n inverse pairs k₀ buf k = Runs m n list buf₀ buf k
@@ -15,23 +15,23 @@ abbrev μ-loop : tie.MeasureT-loop
 loop-holds : tie.Need-loop-holds Inv-loop μ-loop
 loop-holds c = let s : tie.Start Inv-loop μ-loop = search in runs-none (s .args .m) (s .args .n) (s .args .list .now) (s .pre .1) (s .args .buf .now) (s .pre .2)
 
-one-requires : tie.Need-one-requires Inv-loop μ-loop
-one-requires c κs =
-    let a : tie.After-wide Inv-loop μ-loop = search in
+follow-requires : tie.Need-follow-requires Inv-loop μ-loop
+follow-requires c κs =
+    let a : tie.After-as-count Inv-loop μ-loop = search in
     let l : tie.At-loop Inv-loop μ-loop = search in
     let i : tie.After-inverse-of Inv-loop μ-loop = search in
     let s : tie.Start Inv-loop μ-loop = search in
     let low = start-low (s .args .m) (s .args .n) (s .args .list .now) (s .pre .1) (s .args .buf .now) (l .loop .k) (omega arith) in
-    (s .pre .0, i .inverse-of .ensures, omega (arith, a .wide .ensures, low), l .loop .inv .long)
+    (s .pre .0, i .inverse-of .ensures, omega (arith, a .as-count .ensures, low), l .loop .inv .long)
 
 loop-again : tie.Need-loop-again Inv-loop μ-loop
 loop-again c =
-    let o : tie.After-one Inv-loop μ-loop = search in
-    let b : tie.After-wide2 Inv-loop μ-loop = search in
-    let a : tie.After-wide Inv-loop μ-loop = search in
+    let o : tie.After-follow Inv-loop μ-loop = search in
+    let b : tie.After-as-count2 Inv-loop μ-loop = search in
+    let a : tie.After-as-count Inv-loop μ-loop = search in
     let l : tie.At-loop Inv-loop μ-loop = search in
     let s : tie.Start Inv-loop μ-loop = search in
-    runs-more (s .args .m) (s .args .n) (s .args .list .now) (s .pre .1) (s .args .buf .now) (l .loop .inv) (omega arith) (a .wide .ensures) (b .wide2 .ensures) (o .one .ensures)
+    runs-more (s .args .m) (s .args .n) (s .args .list .now) (s .pre .1) (s .args .buf .now) (l .loop .inv) (omega arith) (a .as-count .ensures) (b .as-count2 .ensures) (o .follow .ensures)
 
 same-length : tie.Need-same-length Inv-loop μ-loop
 same-length c =
@@ -45,10 +45,10 @@ returns c =
     let s : tie.Start Inv-loop μ-loop = search in
     runs-all (s .args .m) (s .args .n) (s .args .list .now) (s .pre .1) (s .args .buf .now) (l .loop .inv) (omega arith)
 
-pub all-spec : {M : Type 1} → statement M
-all-spec = tie.close (tie.spec
+pub follow-all-spec : {M : Type 1} → statement M
+follow-all-spec = tie.close (tie.spec
     Inv-loop μ-loop
     (λ c κs. let s : tie.Start Inv-loop μ-loop = search in columns (s .pre .0))
     loop-holds (search needs) (search needs) (search needs) (λ c κs. search needs)
-    (search needs) (search needs) (search needs) (search needs) (λ c κs. search needs) one-requires
+    (search needs) (search needs) (search needs) (search needs) (λ c κs. search needs) follow-requires
     (search needs) (search needs) loop-again same-length returns)
