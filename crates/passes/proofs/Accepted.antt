@@ -9,7 +9,7 @@ use Rattle.flat.proofs.Turn.{turn-home}
 pub use Rattle.flat.proofs.Accepted.{Accepted, flat-accepted}
 use Rattle.passes.specs.PrivateScratch.{Grouped, Lies, Past}
 use Rattle.passes.specs.Promises.{TurnPromise, TurnBackPromise}
-use Rattle.passes.specs.declared.line.GroupedSides.{GroupedSides}
+use Rattle.passes.specs.declared.sides.GroupedSides.{GroupedSides}
 use Rattle.passes.proofs.Fits.{side-need}
 
 -- the block of a flat call is the buffer

@@ -6,7 +6,7 @@ use Rattle.flat.specs.Turn.{sides}
 use Rattle.passes.specs.Lines.{column, row, lineAt, lineOf, lineCount, skipped, posOn}
 use Rattle.passes.specs.PrivateScratch.{Grouped, Lain, Fits, Lies, Past, lineIn, linesIn}
 use Rattle.passes.specs.declared.line.Line.{Line}
-use Rattle.passes.specs.declared.line.GroupedSides.{GroupedSides}
+use Rattle.passes.specs.declared.sides.GroupedSides.{GroupedSides}
 use Rattle.passes.proofs.Gone.{in-pass, lines-lt}
 use Rattle.passes.proofs.Passed.{line1, line2, line3, skipped-few}
 

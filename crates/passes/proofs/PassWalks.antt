@@ -12,7 +12,7 @@ use Rattle.walks.proofs.Source.{state-first, next-group, next-lap, next-round, 
 use Rattle.passes.specs.Lines.{received}
 use Rattle.passes.specs.PrivateScratch.{Grouped, Apart, OfPass}
 use Rattle.passes.specs.PrivateWalks.{begun, risen, onward, stands, Low, Small, Follows, SourceAt, Begins, Inverted}
-use Rattle.passes.specs.declared.line.GroupedSides.{GroupedSides}
+use Rattle.passes.specs.declared.sides.GroupedSides.{GroupedSides}
 use Rattle.passes.specs.declared.line.Line.{Line}
 use Rattle.passes.specs.declared.walk.Place.{Place}
 use Rattle.passes.specs.declared.walk.Walk.{Walk}
@@ -201,14 +201,14 @@ module _ {s : GroupedSides} (g : Grouped s) (l : Line) (o : OfPass (s .m) (s .n)
       rw (q .0, e) h
 
   pub walk-3 : {w : Walk} {p : Place} → (l .pass ≡ 1 → ⊥) → (l .pass ≡ 2 → ⊥) → Begins (s .m) (s .n) (l .pass) (l .index) p
-      → ((p : Place) (f : ℕ → ℕ) → Follows (record { step = s .down; modulus = s .m; size = s .a; turn = s .m - 1; round = s .m; split = 0 }) p (s .m) f → Follows w p (s .m) f)
+      → ((p : Place) (f : ℕ → ℕ) → Follows (record { step = s .remainder; modulus = s .m; size = s .a; turn = s .m - 1; round = s .m; split = 0 }) p (s .m) f → Follows w p (s .m) f)
       → Goes w p
   walk-3 {w} {p} d e y f =
       let q = rw (ne-eqb _ _ e) at o in
       let i = l .index in
       let m = s .m in
       let n = s .n in
-      let h = f (begun (i % m)) (λ k. row3 m n k i) (rw (g .down-is, g .a-is) (follows-3 flat (g .m-pos) (g .n-pos) i (q .1))) in
+      let h = f (begun (i % m)) (λ k. row3 m n k i) (rw (g .remainder-is, g .a-is) (follows-3 flat (g .m-pos) (g .n-pos) i (q .1))) in
       subst (λ (t : Bool). Follows w p (l .count) (λ k. cond t (row1 m n k i) (cond (eqb (l .pass) 2) (source2 m n i k) (row3 m n k i)))) (sym (ne-eqb _ _ d))
       (subst (λ (t : Bool). Follows w p (l .count) (λ k. cond t (source2 m n i k) (row3 m n k i))) (sym (ne-eqb _ _ e)) (rw (q .0, y .three d e) h))
 

@@ -10,7 +10,7 @@ use Rattle.stages.proofs.Moves.{tab-zero}
 use Rattle.passes.specs.Lines.{lineCount, lineOf, posOn, received}
 use Rattle.passes.specs.PrivateScratch.{Fits, Filled, Mapped, stageWords}
 use Rattle.passes.specs.Restart.{memory, turnLines, turnStages}
-use Rattle.passes.specs.declared.line.GroupedSides.{GroupedSides}
+use Rattle.passes.specs.declared.sides.GroupedSides.{GroupedSides}
 use Rattle.passes.specs.declared.line.Line.{Line}
 use Rattle.passes.proofs.Filled.{filled-is}
 use Rattle.passes.proofs.Fits.{lies-in, left-fits}

@@ -11,7 +11,7 @@ use Rattle.refusals.specs.Scratch.{need}
 use Rattle.flat.specs.Turn.{sides}
 use Rattle.flat.specs.Passes.{rowGroup, columnGroup}
 use Rattle.passes.specs.Lines.{received, column, row, posOn, skipped, lineCount, lineOf}
-use Rattle.passes.specs.declared.line.GroupedSides.{GroupedSides}
+use Rattle.passes.specs.declared.sides.GroupedSides.{GroupedSides}
 use Rattle.passes.specs.declared.line.Line.{Line}
 
 -- small numbers that share no factor
@@ -20,7 +20,7 @@ pub record Coprime (a b : ℕ) : Type 0 where
   pub b-few : b ≤ 4096
   pub apart : gcdOf a b ≡ 1
 
--- sides from 1 to 4,096, with their greatest common divisor c, a = m / c and b = n / c, what n leaves modulo m, and the columns that are left out
+-- sides from 1 to 4,096, with their greatest common divisor c, a = m / c and b = n / c, the remainder of n by m, and the columns that are left out
 pub record Grouped (s : GroupedSides) : Type 0 where
   pub m-pos : 0 < s .m
   pub n-pos : 0 < s .n
@@ -29,7 +29,7 @@ pub record Grouped (s : GroupedSides) : Type 0 where
   pub a-is : s .a ≡ rowGroup (s .m) (s .n)
   pub b-is : s .b ≡ columnGroup (s .m) (s .n)
   pub c-is : s .c ≡ gcdOf (s .m) (s .n)
-  pub down-is : s .down ≡ s .n % s .m
+  pub remainder-is : s .remainder ≡ s .n % s .m
   pub skipped-is : s .skipped ≡ skipped (s .m) (s .n)
 
 -- the first `count` places of the line lie in the buffer

@@ -1,6 +1,6 @@
 // Where the walk over a line begins: worked out for one line, or carried on from the line before, with no division.
-use crate::line::GroupedSides;
 use crate::line::Line;
+use crate::sides::GroupedSides;
 use crate::walk;
 use crate::walk::Place;
 ghost use mathlib.Core.Path.{_≡_};

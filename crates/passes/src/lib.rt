@@ -4,6 +4,7 @@ mod gcd;
 mod line;
 mod restart;
 mod scratch;
+mod sides;
 mod turning;
 mod walk;
 
@@ -20,7 +21,7 @@ pub fn turn(buf: &mut [u32], scratch: &mut [u32], m: usize, n: usize) -> u32
     if number != 0 {
         return number;
     }
-    let s = turning::group_sides(m, n);
+    let s = sides::group_sides(m, n);
     turning::turn_at(buf, scratch, s);
     scratch::clear_longest(scratch, m, n);
     0
@@ -35,7 +36,7 @@ pub fn turn_back(buf: &mut [u32], scratch: &mut [u32], m: usize, n: usize) -> u3
     if number != 0 {
         return number;
     }
-    let s = turning::group_sides(m, n);
+    let s = sides::group_sides(m, n);
     turning::turn_home_at(buf, scratch, s);
     scratch::clear_longest(scratch, m, n);
     0
@@ -57,10 +58,10 @@ pub fn lines(m: usize, n: usize) -> LineCount
     if number != 0 {
         return LineCount { number, count: 0 };
     }
-    let s = turning::group_sides(m, n);
+    let s = sides::group_sides(m, n);
     LineCount {
         number: 0,
-        count: turning::line_count(s),
+        count: sides::line_count(s),
     }
 }
 
@@ -79,8 +80,8 @@ pub fn tick(buf: &mut [u32], scratch: &mut [u32], m: usize, n: usize, done: usiz
     if number != 0 {
         return Ticked { number, done };
     }
-    let s = turning::group_sides(m, n);
-    let count = turning::line_count(s);
+    let s = sides::group_sides(m, n);
+    let count = sides::line_count(s);
     if count < done {
         return Ticked { number: 12, done };
     }
@@ -88,7 +89,7 @@ pub fn tick(buf: &mut [u32], scratch: &mut [u32], m: usize, n: usize, done: usiz
         scratch::clear_longest(scratch, m, n);
         return Ticked { number: 0, done };
     }
-    let line = turning::line_of(s, done);
+    let line = sides::line_of(s, done);
     turning::forth(buf, scratch, s, line);
     scratch::clear_longest(scratch, m, n);
     Ticked {
@@ -113,7 +114,7 @@ pub fn resume(
     if number != 0 {
         return number;
     }
-    let s = turning::group_sides(m, n);
+    let s = sides::group_sides(m, n);
     if restart::stage_count(s) < *progress as usize {
         return 23;
     }

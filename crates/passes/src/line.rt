@@ -10,18 +10,6 @@ ghost use Rattle.passes.specs.Lines.{posOn, Moved};
 ghost use Rattle.passes.specs.PrivateScratch.{Apart, Inside, Lain, Filled, Past, goesTo, comesFrom};
 ghost use Rattle.passes.specs.PrivateWalks.{steps, placeAt, RunFits, Walks};
 
-// The sides m and n, their greatest common divisor c and their quotients a and b by it, what n leaves modulo m, and the columns of pass 1 that are
-// left out.
-pub(crate) struct GroupedSides {
-    pub m: usize,
-    pub n: usize,
-    pub a: usize,
-    pub b: usize,
-    pub c: usize,
-    pub down: usize,
-    pub skipped: usize,
-}
-
 // A line: its pass, its row or column, where its first word stands, how far apart its words stand, how many they are.
 pub(crate) struct Line {
     pub pass: usize,

@@ -1,9 +1,9 @@
 // A turn in stages: two a line, into scratch and back, then the clearing. Each stage is counted in the progress word after its words.
 use crate::first;
 use crate::line;
-use crate::line::GroupedSides;
 use crate::scratch;
-use crate::turning;
+use crate::sides;
+use crate::sides::GroupedSides;
 use crate::walk;
 ghost use mathlib.Core.Path.{_≡_};
 ghost use Prim.Native.Nat.{_+_, _*_, _≤_};
@@ -19,7 +19,7 @@ pub(crate) fn stage_count(s: GroupedSides) -> usize
     requires { ⌜ Grouped s ⌝ }
     ensures { λ r. ⌜ r ≡ lineCount (s .m) (s .n) * 2 + 1 ⌝ }
 {
-    turning::line_count(s) * 2 + 1
+    sides::line_count(s) * 2 + 1
 }
 
 // How many words stage p stores.
@@ -27,8 +27,8 @@ fn stage_words(s: GroupedSides, p: usize) -> usize
     requires { ⌜ Grouped s ⌝ }
     ensures { λ r. ⌜ r ≡ stageWords (s .m) (s .n) p ⌝ }
 {
-    if p < turning::line_count(s) * 2 {
-        let line = turning::line_of(s, p / 2);
+    if p < sides::line_count(s) * 2 {
+        let line = sides::line_of(s, p / 2);
         return line.count;
     }
     let lens = [s.m, s.n];
@@ -47,11 +47,11 @@ fn store(
     requires { ⌜ Mapped s (now buf) (now scratch) × Inverted (s .m) (s .n) 2 inverse × (until ≤ stageWords (s .m) (s .n) p) ⌝ }
     ensures { λ _. ⌜ memory (now (buf .exit)) (now (scratch .exit)) p ≡ after (take until (turnStages (s .m) (s .n) .words p (memory (now (buf .entry)) (now (scratch .entry)) p))) (memory (now (buf .entry)) (now (scratch .entry)) p) ⌝ }
 {
-    if turning::line_count(s) * 2 <= p {
+    if sides::line_count(s) * 2 <= p {
         scratch::zero(scratch, until);
         return;
     }
-    let line = turning::line_of(s, p / 2);
+    let line = sides::line_of(s, p / 2);
     if p % 2 == 0 {
         let w = walk::walk_of(s, inverse, line);
         let first = first::first_of(s, inverse, line);
@@ -73,7 +73,7 @@ pub(crate) fn go_on(
     ensures { λ _. ⌜ memory (now (buf .exit)) (now (scratch .exit)) (now (progress .exit)) ≡ call (turnStages (s .m) (s .n)) budget (memory (now (buf .entry)) (now (scratch .entry)) (now (progress .entry))) ⌝ }
 {
     let total = stage_count(s);
-    let inverse = turning::inverse_for(s, 2);
+    let inverse = sides::inverse_for(s, 2);
     let mut left = budget;
     let mut p = *progress as usize;
     // Divides: for a line, to find where it starts.

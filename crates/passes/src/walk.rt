@@ -1,6 +1,6 @@
 // Walks: the places that a line receives its words from, in rising place, with no division for a word or a run.
-use crate::line::GroupedSides;
 use crate::line::Line;
+use crate::sides::GroupedSides;
 ghost use mathlib.Core.Path.{_≡_};
 ghost use Prim.Native.Nat.{ℕ, _+_, _%_, _<_, _≤_};
 ghost use Rattle.passes.specs.Lines.{received};
@@ -82,7 +82,7 @@ pub(crate) fn walk_of(s: GroupedSides, inverse: usize, l: Line) -> Walk
         return joined(sources, s.n);
     }
     let rows = Walk {
-        step: s.down,
+        step: s.remainder,
         modulus: s.m,
         size: s.a,
         turn: s.m - 1,

@@ -1,7 +1,7 @@
 -- `line_in` meets its contract: the test is the definition's; sides of at most 4,096 keep the product small.
 use Rattle.lists.proofs.Kit.{mul-le-mul, arith, eq-eqb, ne-eqb}
-use Rattle.passes.proofs.turning.line_in.Statement.{statement}
-use Rattle.passes.proofs.turning.line_in.Tie as tie
+use Rattle.passes.proofs.sides.line_in.Statement.{statement}
+use Rattle.passes.proofs.sides.line_in.Tie as tie
 
 pub line-in-spec : {M : Type 1} → statement M
 line-in-spec = tie.close (tie.spec

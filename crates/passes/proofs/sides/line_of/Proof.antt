@@ -2,8 +2,8 @@
 use Rattle.lists.proofs.Kit.{_≡_, _∙_, _+_, _-_, arith, needs, lt-ltb, le-ltb}
 use Rattle.passes.specs.Lines.{lineAt, lineOf}
 use Rattle.passes.specs.declared.line.Line.{Line}
-use Rattle.passes.proofs.turning.line_of.Statement.{statement}
-use Rattle.passes.proofs.turning.line_of.Tie as tie
+use Rattle.passes.proofs.sides.line_of.Statement.{statement}
+use Rattle.passes.proofs.sides.line_of.Tie as tie
 
 -- a line of that number, where no pass is left out, is the line asked for
 numbered : (x : tie.Start) → {i : Line} → i ≡ lineAt (x .args .s .m) (x .args .s .n) (x .args .s .skipped + x .args .l) → i ≡ lineOf (x .args .s .m) (x .args .s .n) (x .args .l)

@@ -2,8 +2,8 @@
 use native.Mathlib.Omega.{arith}
 use Rattle.flat.proofs.Sides.{sides-are}
 use Rattle.passes.proofs.Passed.{groups-le}
-use Rattle.passes.proofs.turning.inverse_for.Statement.{statement}
-use Rattle.passes.proofs.turning.inverse_for.Tie as tie
+use Rattle.passes.proofs.sides.inverse_for.Statement.{statement}
+use Rattle.passes.proofs.sides.inverse_for.Tie as tie
 
 inverse-requires : tie.Need-inverse-requires
 inverse-requires c κs =

@@ -1,7 +1,7 @@
 -- `moved_from` meets its contract: the test is the definition's.
 use borrow.Author.Tests.{eq-eqb, ne-eqb}
-use Rattle.passes.proofs.turning.moved_from.Statement.{statement}
-use Rattle.passes.proofs.turning.moved_from.Tie as tie
+use Rattle.passes.proofs.sides.moved_from.Statement.{statement}
+use Rattle.passes.proofs.sides.moved_from.Tie as tie
 
 pub moved-from-spec : {M : Type 1} → statement M
 moved-from-spec = tie.close (tie.spec
