@@ -3,14 +3,14 @@
 use mathlib.Core.Bool.{Bool, cond}
 use mathlib.Core.Path.{_≡_}
 use mathlib.Core.List.{List}
-use Prim.Native.Nat.{ℕ, _*_, _/_, _%_, _<_, _≤_}
+use Prim.Native.Nat.{ℕ, _+_, _*_, _/_, _%_, _<_, _≤_}
 use lib.Dec.{ltb, eqb}
 use lib.ListN.{length, getD}
 use Rattle.numbers.specs.Gcd.{gcdOf}
 use Rattle.refusals.specs.Scratch.{need}
 use Rattle.flat.specs.Turn.{sides}
 use Rattle.flat.specs.Passes.{rowGroup, columnGroup}
-use Rattle.passes.specs.Lines.{received, column, row, posOn, skipped, lineCount, lineOf}
+use Rattle.passes.specs.Lines.{Moved, received, column, row, posOn, skipped, lineCount, lineOf}
 use Rattle.passes.specs.declared.sides.GroupedSides.{GroupedSides}
 use Rattle.passes.specs.declared.line.Line.{Line}
 
@@ -64,6 +64,16 @@ pub record Filled (to word : ℕ → ℕ) (count : ℕ) (before after : List ℕ
   pub placed : (k : ℕ) → k < count → getD after (to k) 0 ≡ word k
   pub others : (p : ℕ) → ((k : ℕ) → k < count → to k ≡ p → ⊥) → getD after p 0 ≡ getD before p 0
 
+-- `size` words can be copied: read `gap` apart from offset `from` on, and stored at different places `step` apart from place `to` on
+pub record CanCopy (from gap to step size : ℕ) (source target : List ℕ) : Type 0 where
+  pub reads : (t : ℕ) → t < size → from + gap * t < length source
+  pub stores : (t : ℕ) → t < size → to + step * t < length target
+  pub apart : Apart (λ t. to + step * t) size
+
+-- they are copied
+abbrev pub Copied : ℕ → ℕ → ℕ → ℕ → ℕ → List ℕ → List ℕ → List ℕ → Type 0
+Copied from gap to step size source before after = Filled (λ t. to + step * t) (λ t. getD source (from + gap * t) 0) size before after
+
 -- scratch past its first n words is as it was
 pub record Past (n : ℕ) (before after : List ℕ) : Type 0 where
   pub same : length after ≡ length before
@@ -84,6 +94,14 @@ goesTo home f k = cond home (f k) k
 -- the place that it comes from
 abbrev pub comesFrom : Bool → (ℕ → ℕ) → ℕ → ℕ
 comesFrom home f k = cond home k (f k)
+
+-- scratch has the first `until` words of a line: at place k the word of place f k, or, home, there the word of place k
+abbrev pub Lifted : Line → (ℕ → ℕ) → Bool → ℕ → List ℕ → List ℕ → List ℕ → Type 0
+Lifted l f home until xs before after = Filled (goesTo home f) (λ k. getD xs (posOn l (comesFrom home f k)) 0) until before after
+
+-- each place k of a line has the word of place f k, or, home, sent its own there
+abbrev pub LineGone : Line → (ℕ → ℕ) → Bool → List ℕ → List ℕ → Type 0
+LineGone l f home xs ys = Moved (l .count) (posOn l) (goesTo home f) (comesFrom home f) xs ys
 
 -- of T families of Q words at the offsets pos t 0, pos t 1, .. those before t have moved, the others stand
 pub record Some (T Q : ℕ) (pos to from : ℕ → ℕ → ℕ) (t : ℕ) (xs ys : List ℕ) : Type 0 where

@@ -1,15 +1,20 @@
 -- These definitions serve only the contracts of private functions: a reader of the promises can pass over them.
 -- Walks over the places that a line receives its words from. Assumes nothing: these are definitions.
-use mathlib.Core.Bool.{cond}
+use mathlib.Core.Bool.{Bool, cond}
 use mathlib.Core.Path.{_≡_}
 use mathlib.Core.Logic.{_⊎_}
+use mathlib.Core.List.{List}
 use Prim.Native.Nat.{ℕ, zero, suc, _+_, _*_, _/_, _%_, _<_, _≤_}
 use lib.Dec.{eqb}
+use lib.ListN.{getD}
 use Rattle.flat.specs.Passes.{rowGroup, columnGroup}
 use Rattle.walks.specs.PrivateWalk.{walk}
 use Rattle.walks.specs.PrivateSource.{Inverse, StateAt}
-use Rattle.passes.specs.PrivateScratch.{Apart}
+use Rattle.passes.specs.Lines.{posOn}
+use Rattle.passes.specs.PrivateScratch.{Apart, Filled}
+use Rattle.passes.specs.declared.line.Line.{Line}
 use Rattle.passes.specs.declared.walk.Place.{Place}
+use Rattle.passes.specs.declared.walk.Run.{Run}
 use Rattle.passes.specs.declared.walk.Walk.{Walk}
 
 -- a walk at the first place of a group that starts at `lap`
@@ -77,13 +82,18 @@ pub record Ahead (w : Walk) (p : Place) (r : ℕ) : Type 0 where
 abbrev pub steps : Walk → ℕ → ℕ → ℕ
 steps w place t = walk place (w .step) (w .modulus) t
 
--- a run of `size` places from `place` on: they are different, and those that are read or written on the other side, from `from` on, are on the line
-pub record RunFits (w : Walk) (count from place size : ℕ) : Type 0 where
-  pub low : place < w .modulus
+-- a run of a walk over a line of `count` places: its places are different, and those over against them are on the line
+pub record RunFits (w : Walk) (count : ℕ) (r : Run) : Type 0 where
+  pub low : r .place < w .modulus
   pub short : w .step ≤ w .modulus
   pub round : w .modulus ≤ count
-  pub on-line : from + size ≤ count
-  pub apart : Apart (steps w place) size
+  pub on-line : r .from + r .size ≤ count
+  pub apart : Apart (steps w (r .place)) (r .size)
+
+-- scratch has the words of a run of a line: each in the place over against the one that the walk goes over, or, home, the other way round
+abbrev pub RunLifted : Line → Walk → Bool → Run → List ℕ → List ℕ → List ℕ → Type 0
+RunLifted l w home r xs before after =
+    Filled (λ t. cond home (steps w (r .place) t) (r .from + t)) (λ t. getD xs (posOn l (cond home (r .from + t) (steps w (r .place) t))) 0) (r .size) before after
 
 -- a walk over the sources of row i stands at place j
 pub record SourceAt (m n i j : ℕ) (p : Place) : Type 0 where

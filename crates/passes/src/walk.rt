@@ -26,6 +26,13 @@ pub(crate) struct Place {
     pub lap: usize,
 }
 
+// A run: `size` steps of a walk from `place` on, over against as many places of a line from `from` on.
+pub(crate) struct Run {
+    pub from: usize,
+    pub place: usize,
+    pub size: usize,
+}
+
 // The place a step on, modulo the modulus.
 pub(crate) fn step_on(place: usize, step: usize, modulus: usize) -> usize
     requires { ⌜ (place < modulus) × (step ≤ modulus) ⌝ }
