@@ -3,11 +3,15 @@ mod first;
 mod gcd;
 mod line;
 mod restart;
-mod scratch;
 mod sides;
 mod turning;
 mod walk;
 
+ghost use mathlib.Core.Path.{_≡_};
+ghost use Prim.Native.Nat.{_≤_};
+ghost use lib.ListN.{length};
+ghost use Rattle.refusals.specs.Scratch.{need, cleared};
+ghost use Rattle.flat.specs.Turn.{sides};
 ghost use Rattle.passes.specs.Promises.{TurnPromise, TurnBackPromise, ClearPromise};
 ghost use Rattle.passes.specs.Ticks.{LinesPromise, TickPromise};
 ghost use Rattle.passes.specs.Restart.{memory, ResumePromise};
@@ -23,7 +27,7 @@ pub fn turn(buf: &mut [u32], scratch: &mut [u32], m: usize, n: usize) -> u32
     }
     let s = sides::group_sides(m, n);
     turning::turn_at(buf, scratch, s);
-    scratch::clear_longest(scratch, m, n);
+    clear_longest(scratch, m, n);
     0
 }
 
@@ -38,7 +42,7 @@ pub fn turn_back(buf: &mut [u32], scratch: &mut [u32], m: usize, n: usize) -> u3
     }
     let s = sides::group_sides(m, n);
     turning::turn_home_at(buf, scratch, s);
-    scratch::clear_longest(scratch, m, n);
+    clear_longest(scratch, m, n);
     0
 }
 
@@ -86,12 +90,12 @@ pub fn tick(buf: &mut [u32], scratch: &mut [u32], m: usize, n: usize, done: usiz
         return Ticked { number: 12, done };
     }
     if count == done {
-        scratch::clear_longest(scratch, m, n);
+        clear_longest(scratch, m, n);
         return Ticked { number: 0, done };
     }
     let line = sides::line_of(s, done);
     turning::forth(buf, scratch, s, line);
-    scratch::clear_longest(scratch, m, n);
+    clear_longest(scratch, m, n);
     Ticked {
         number: 0,
         done: done + 1,
@@ -129,6 +133,16 @@ pub fn clear(scratch: &mut [u32], n: usize) -> u32
     if scratch.len() < n {
         return 4;
     }
-    scratch::zero(scratch, n);
+    moves::zero(scratch, 0, n);
     0
+}
+
+// Zeroes as many first words of scratch as the longer side has.
+fn clear_longest(scratch: &mut [u32], m: usize, n: usize)
+    requires { ⌜ need (sides m n) ≤ length (now scratch) ⌝ }
+    ensures { λ _. ⌜ now (scratch .exit) ≡ cleared (need (sides m n)) (now (scratch .entry)) ⌝ }
+{
+    let lens = [m, n];
+    let longest = checks::longest_of(&lens);
+    moves::zero(scratch, 0, longest);
 }

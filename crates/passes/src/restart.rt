@@ -1,7 +1,6 @@
 // A turn in stages: two a line, into scratch and back, then the clearing. Each stage is counted in the progress word after its words.
 use crate::first;
 use crate::line;
-use crate::scratch;
 use crate::sides;
 use crate::sides::GroupedSides;
 use crate::walk;
@@ -48,7 +47,7 @@ fn store(
     ensures { λ _. ⌜ memory (now (buf .exit)) (now (scratch .exit)) p ≡ after (take until (turnStages (s .m) (s .n) .words p (memory (now (buf .entry)) (now (scratch .entry)) p))) (memory (now (buf .entry)) (now (scratch .entry)) p) ⌝ }
 {
     if sides::line_count(s) * 2 <= p {
-        scratch::zero(scratch, until);
+        moves::zero(scratch, 0, until);
         return;
     }
     let line = sides::line_of(s, p / 2);

@@ -4,14 +4,9 @@ use Rattle.passes.specs.Lines.{posOn}
 use Rattle.passes.specs.PrivateScratch.{Fits}
 use Rattle.passes.specs.PrivateWalks.{Inverted}
 use Rattle.passes.proofs.Filled.{filled-as}
-use Rattle.passes.proofs.Stages.{clear-words, stage-fits, stage-few, stored-lift, stored-back, stored-clear}
+use Rattle.passes.proofs.Stages.{stage-fits, stage-few, stored-lift, stored-back, stored-clear}
 use Rattle.passes.proofs.restart.store.Statement.{statement}
 use Rattle.passes.proofs.restart.store.Tie as tie
-
-zero-requires : tie.Need-zero-requires
-zero-requires c κs =
-    let x : tie.Start = search in
-    omega (arith, x .pre .2, clear-words (x .args .s .m) (x .args .s .n) (x .args .p) (omega arith), x .pre .0 .room)
 
 returns : tie.Need-returns
 returns c =
@@ -73,7 +68,7 @@ returns-3 c =
 
 pub store-spec : {M : Type 1} → statement M
 store-spec = tie.close (tie.spec
-    (λ c κs. search needs) (search needs) zero-requires (search needs) returns (λ c κs. search needs)
+    (λ c κs. search needs) (search needs) (search needs) (search needs) returns (λ c κs. search needs)
     (λ c κs. let l : tie.After-line-of = search in let x : tie.Start = search in (x .pre .0 .grouped, fits l .0 .of-pass, inverted x _))
     first-of-requires lift-requires (search needs) (search needs) returns-2 put-back-requires
     (search needs) (search needs) returns-3)
