@@ -4,7 +4,7 @@ use mathlib.Core.Bool.{Bool, cond}
 use mathlib.Core.Path.{_≡_}
 use mathlib.Core.List.{List}
 use Prim.Native.Nat.{ℕ, _+_, _*_, _/_, _%_, _<_, _≤_}
-use lib.Dec.{ltb, eqb}
+use lib.Dec.{ltb}
 use lib.ListN.{length, getD}
 use Rattle.numbers.specs.Gcd.{gcdOf}
 use Rattle.refusals.specs.Scratch.{need}
@@ -13,6 +13,8 @@ use Rattle.flat.specs.Passes.{rowGroup, columnGroup}
 use Rattle.passes.specs.Lines.{Moved, received, column, row, posOn, skipped, lineCount, lineOf}
 use Rattle.passes.specs.declared.sides.GroupedSides.{GroupedSides}
 use Rattle.passes.specs.declared.line.Line.{Line}
+use Rattle.passes.specs.declared.line.Pass.{Pass}
+use Rattle.passes.specs.declared.line.Pass.the-variants.{First, Second, Third}
 
 -- small numbers that share no factor
 pub record Coprime (a b : ℕ) : Type 0 where
@@ -49,9 +51,21 @@ pub record Lain (l : Line) (xs scratch : List ℕ) : Type 0 where
   pub near : l .stride ≤ 4096
   pub front : l .start ≤ 16777216
 
--- the line is one that its pass has: a row of n words in pass 2, else a column of m words
+-- how many lines a pass has
+abbrev pub linesIn : ℕ → ℕ → Pass → ℕ
+linesIn m n First = n
+linesIn m n Second = m
+linesIn m n Third = n
+
+-- how many words its lines have
+abbrev pub wordsIn : ℕ → ℕ → Pass → ℕ
+wordsIn m n First = m
+wordsIn m n Second = n
+wordsIn m n Third = m
+
+-- the line is one that its pass has
 abbrev pub OfPass : ℕ → ℕ → Line → Type 0
-OfPass m n l = (l .count ≡ cond (eqb (l .pass) 2) n m) × (l .index < cond (eqb (l .pass) 2) m n)
+OfPass m n l = (l .count ≡ wordsIn m n (l .pass)) × (l .index < linesIn m n (l .pass))
 
 -- the line is one of its pass, lies in the buffer, and scratch has room for it
 pub record Fits (m n : ℕ) (l : Line) (xs scratch : List ℕ) : Type 0 where
@@ -111,19 +125,19 @@ pub record Some (T Q : ℕ) (pos to from : ℕ → ℕ → ℕ) (t : ℕ) (xs ys
   pub others : (p : ℕ) → ((u k : ℕ) → u < T → k < Q → pos u k ≡ p → ⊥) → getD ys p 0 ≡ getD xs p 0
 
 -- line t of pass p
-abbrev pub lineIn : ℕ → ℕ → ℕ → ℕ → Line
-lineIn m n p t = cond (eqb p 2) (row n t) (column m n p t)
+abbrev pub lineIn : ℕ → ℕ → Pass → ℕ → Line
+lineIn m n First t = column m n First t
+lineIn m n Second t = row n t
+lineIn m n Third t = column m n Third t
 
--- how many lines a pass has
-abbrev pub linesIn : ℕ → ℕ → ℕ → ℕ
-linesIn m n p = cond (eqb p 2) m n
-
--- how many words its lines have
-abbrev pub wordsIn : ℕ → ℕ → ℕ → ℕ
-wordsIn m n p = cond (eqb p 2) n m
+-- the first line of a pass that moves
+abbrev pub movedFrom : ℕ → ℕ → Pass → ℕ
+movedFrom m n First = columnGroup m n
+movedFrom m n Second = 0
+movedFrom m n Third = 0
 
 -- the first t lines of pass p have received their words, or have gone home
-abbrev pub Gone : ℕ → ℕ → ℕ → Bool → ℕ → List ℕ → List ℕ → Type 0
+abbrev pub Gone : ℕ → ℕ → Pass → Bool → ℕ → List ℕ → List ℕ → Type 0
 Gone m n p home t xs ys =
     Some (linesIn m n p) (wordsIn m n p) (λ u k. posOn (lineIn m n p u) k) (λ u k. goesTo home (received m n p u) k) (λ u k. comesFrom home (received m n p u) k) t xs ys
 

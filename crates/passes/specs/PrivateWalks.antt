@@ -13,6 +13,8 @@ use Rattle.walks.specs.PrivateSource.{Inverse, StateAt}
 use Rattle.passes.specs.Lines.{posOn}
 use Rattle.passes.specs.PrivateScratch.{Apart, Filled}
 use Rattle.passes.specs.declared.line.Line.{Line}
+use Rattle.passes.specs.declared.line.Pass.{Pass}
+use Rattle.passes.specs.declared.line.Pass.the-variants.{First, Second, Third}
 use Rattle.passes.specs.declared.walk.Place.{Place}
 use Rattle.passes.specs.declared.walk.Run.{Run}
 use Rattle.passes.specs.declared.walk.Walk.{Walk}
@@ -101,12 +103,14 @@ pub record SourceAt (m n i j : ℕ) (p : Place) : Type 0 where
   pub state : StateAt m n i j (p .group) (p .lap) column
   pub place : p .place ≡ p .group * columnGroup m n + column
 
--- the walk over a line of a pass begins at p
-pub record Begins (m n pass index : ℕ) (p : Place) : Type 0 where
-  pub one : pass ≡ 1 → p ≡ risen (index / columnGroup m n)
-  pub two : pass ≡ 2 → SourceAt m n index 0 p
-  pub three : (pass ≡ 1 → ⊥) → (pass ≡ 2 → ⊥) → p ≡ begun (index % m)
+-- the walk over line `index` of a pass begins at p
+abbrev pub Begins : ℕ → ℕ → Pass → ℕ → Place → Type 0
+Begins m n First index p = p ≡ risen (index / columnGroup m n)
+Begins m n Second index p = SourceAt m n index 0 p
+Begins m n Third index p = p ≡ begun (index % m)
 
 -- a row needs the inverse of a modulo b
-abbrev pub Inverted : ℕ → ℕ → ℕ → ℕ → Type 0
-Inverted m n pass x = pass ≡ 2 → Inverse (rowGroup m n) (columnGroup m n) x
+abbrev pub Inverted : ℕ → ℕ → Pass → ℕ → Type 0
+Inverted m n First x = Unit
+Inverted m n Second x = Inverse (rowGroup m n) (columnGroup m n) x
+Inverted m n Third x = Unit

@@ -11,9 +11,16 @@ ghost use Rattle.passes.specs.Lines.{posOn};
 ghost use Rattle.passes.specs.PrivateScratch.{Inside, Lain, CanCopy, Copied, Filled, Lifted, LineGone, Past};
 ghost use Rattle.passes.specs.PrivateWalks.{placeAt, RunFits, RunLifted, Walks};
 
+// The passes of a turn: over the columns, over the rows, over the columns again.
+pub(crate) enum Pass {
+    First,
+    Second,
+    Third,
+}
+
 // A line: its pass, its row or column, where its first word stands, how far apart its words stand, how many they are.
 pub(crate) struct Line {
-    pub pass: usize,
+    pub pass: Pass,
     pub index: usize,
     pub start: usize,
     pub stride: usize,

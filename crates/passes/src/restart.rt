@@ -1,6 +1,7 @@
 // A turn in stages: two a line, into scratch and back, then the clearing. Each stage is counted in the progress word after its words.
 use crate::first;
 use crate::line;
+use crate::line::Pass;
 use crate::sides;
 use crate::sides::GroupedSides;
 use crate::walk;
@@ -43,7 +44,7 @@ fn store(
     p: usize,
     until: usize,
 )
-    requires { ⌜ Mapped s (now buf) (now scratch) × Inverted (s .m) (s .n) 2 inverse × (until ≤ stageWords (s .m) (s .n) p) ⌝ }
+    requires { ⌜ Mapped s (now buf) (now scratch) × Inverted (s .m) (s .n) Pass.Second inverse × (until ≤ stageWords (s .m) (s .n) p) ⌝ }
     ensures { λ _. ⌜ memory (now (buf .exit)) (now (scratch .exit)) p ≡ after (take until (turnStages (s .m) (s .n) .words p (memory (now (buf .entry)) (now (scratch .entry)) p))) (memory (now (buf .entry)) (now (scratch .entry)) p) ⌝ }
 {
     if sides::line_count(s) * 2 <= p {
@@ -72,7 +73,7 @@ pub(crate) fn go_on(
     ensures { λ _. ⌜ memory (now (buf .exit)) (now (scratch .exit)) (now (progress .exit)) ≡ call (turnStages (s .m) (s .n)) budget (memory (now (buf .entry)) (now (scratch .entry)) (now (progress .entry))) ⌝ }
 {
     let total = stage_count(s);
-    let inverse = sides::inverse_for(s, 2);
+    let inverse = sides::inverse_for(s, Pass::Second);
     let mut left = budget;
     let mut p = *progress as usize;
     // Divides: for a line, to find where it starts.

@@ -1,12 +1,13 @@
 // The sides of a block with what is known of them, and the lines that they make.
 use crate::gcd;
 use crate::line::Line;
+use crate::line::Pass;
 ghost use mathlib.Core.Bool.{cond};
 ghost use mathlib.Core.Path.{_≡_};
 ghost use Prim.Native.Nat.{_<_, _≤_};
-ghost use lib.Dec.{eqb, ltb};
-ghost use Rattle.passes.specs.Lines.{lineCount, lineOf};
-ghost use Rattle.passes.specs.PrivateScratch.{Grouped, lineIn, linesIn};
+ghost use lib.Dec.{ltb};
+ghost use Rattle.passes.specs.Lines.{column, row, lineCount, lineOf};
+ghost use Rattle.passes.specs.PrivateScratch.{Grouped, lineIn, linesIn, movedFrom};
 ghost use Rattle.passes.specs.PrivateWalks.{Inverted};
 
 // The sides m and n, their greatest common divisor c and their quotients a and b by it, the remainder of n by m, and the columns of pass 1 that are
@@ -49,14 +50,15 @@ pub(crate) fn group_sides(m: usize, n: usize) -> GroupedSides
 }
 
 // The inverse of a modulo b, which the rows of pass 2 need; the columns need none.
-pub(crate) fn inverse_for(s: GroupedSides, number: usize) -> usize
+pub(crate) fn inverse_for(s: GroupedSides, pass: Pass) -> usize
     requires { ⌜ Grouped s ⌝ }
-    ensures { λ r. ⌜ Inverted (s .m) (s .n) number r ⌝ }
+    ensures { λ r. ⌜ Inverted (s .m) (s .n) pass r ⌝ }
 {
-    if number == 2 {
-        return gcd::inverse(s.a, s.b);
+    match pass {
+        Pass::First => 0,
+        Pass::Second => gcd::inverse(s.a, s.b),
+        Pass::Third => 0,
     }
-    0
 }
 
 // How many lines the passes have.
@@ -68,45 +70,64 @@ pub(crate) fn line_count(s: GroupedSides) -> usize
 }
 
 // How many lines one pass has.
-pub(crate) fn lines_in(s: GroupedSides, number: usize) -> usize
-    ensures { λ r. ⌜ r ≡ linesIn (s .m) (s .n) number ⌝ }
+pub(crate) fn lines_in(s: GroupedSides, pass: Pass) -> usize
+    ensures { λ r. ⌜ r ≡ linesIn (s .m) (s .n) pass ⌝ }
 {
-    if number == 2 {
-        return s.m;
+    match pass {
+        Pass::First => s.n,
+        Pass::Second => s.m,
+        Pass::Third => s.n,
     }
-    s.n
 }
 
 // The first line of a pass that moves: the columns of pass 1 before column b stand still, and where the sides share no factor b is n.
-pub(crate) fn moved_from(s: GroupedSides, number: usize) -> usize
-    ensures { λ r. ⌜ r ≡ cond (eqb number 1) (s .b) 0 ⌝ }
+pub(crate) fn moved_from(s: GroupedSides, pass: Pass) -> usize
+    requires { ⌜ Grouped s ⌝ }
+    ensures { λ r. ⌜ r ≡ movedFrom (s .m) (s .n) pass ⌝ }
 {
-    if number == 1 {
-        return s.b;
+    match pass {
+        Pass::First => s.b,
+        Pass::Second => 0,
+        Pass::Third => 0,
     }
-    0
+}
+
+// Column j of a pass.
+fn column_in(s: GroupedSides, pass: Pass, j: usize) -> Line
+    ensures { λ r. ⌜ r ≡ column (s .m) (s .n) pass j ⌝ }
+{
+    Line {
+        pass,
+        index: j,
+        start: j,
+        stride: s.n,
+        count: s.m,
+    }
+}
+
+// Row i of pass 2.
+fn row_in(s: GroupedSides, i: usize) -> Line
+    requires { ⌜ Grouped s × (i ≤ 4096) ⌝ }
+    ensures { λ r. ⌜ r ≡ row (s .n) i ⌝ }
+{
+    Line {
+        pass: Pass::Second,
+        index: i,
+        start: i * s.n,
+        stride: 1,
+        count: s.n,
+    }
 }
 
 // Line t of a pass.
-pub(crate) fn line_in(s: GroupedSides, number: usize, t: usize) -> Line
+pub(crate) fn line_in(s: GroupedSides, pass: Pass, t: usize) -> Line
     requires { ⌜ Grouped s × (t ≤ 4096) ⌝ }
-    ensures { λ r. ⌜ r ≡ lineIn (s .m) (s .n) number t ⌝ }
+    ensures { λ r. ⌜ r ≡ lineIn (s .m) (s .n) pass t ⌝ }
 {
-    if number == 2 {
-        return Line {
-            pass: 2,
-            index: t,
-            start: t * s.n,
-            stride: 1,
-            count: s.n,
-        };
-    }
-    Line {
-        pass: number,
-        index: t,
-        start: t,
-        stride: s.n,
-        count: s.m,
+    match pass {
+        Pass::First => column_in(s, Pass::First, t),
+        Pass::Second => row_in(s, t),
+        Pass::Third => column_in(s, Pass::Third, t),
     }
 }
 
@@ -117,10 +138,10 @@ pub(crate) fn line_of(s: GroupedSides, l: usize) -> Line
 {
     let t = s.skipped + l;
     if t < s.n {
-        return line_in(s, 1, t);
+        return column_in(s, Pass::First, t);
     }
     if t < s.n + s.m {
-        return line_in(s, 2, t - s.n);
+        return row_in(s, t - s.n);
     }
-    line_in(s, 3, t - (s.n + s.m))
+    column_in(s, Pass::Third, t - (s.n + s.m))
 }

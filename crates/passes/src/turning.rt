@@ -2,6 +2,7 @@
 use crate::first;
 use crate::line;
 use crate::line::Line;
+use crate::line::Pass;
 use crate::sides;
 use crate::sides::GroupedSides;
 use crate::walk;
@@ -12,23 +13,23 @@ ghost use Rattle.passes.specs.PrivateScratch.{Grouped, Fits, Lies, Past,
 ghost use Rattle.passes.specs.PrivateWalks.{Inverted};
 
 // The lines of one pass receive their words, or go home, one after the other.
-fn pass(
+fn run_pass(
     buf: &mut [u32],
     scratch: &mut [u32],
     s: GroupedSides,
     inverse: usize,
-    number: usize,
+    pass: Pass,
     home: bool,
 )
-    requires { ⌜ Grouped s × Lies (s .m) (s .n) (now buf) (now scratch) × Inverted (s .m) (s .n) number inverse ⌝ }
-    ensures { λ _. ⌜ Gone (s .m) (s .n) number home (linesIn (s .m) (s .n) number) (now (buf .entry)) (now (buf .exit)) × Past (need (sides (s .m) (s .n))) (now (scratch .entry)) (now (scratch .exit)) ⌝ }
+    requires { ⌜ Grouped s × Lies (s .m) (s .n) (now buf) (now scratch) × Inverted (s .m) (s .n) pass inverse ⌝ }
+    ensures { λ _. ⌜ Gone (s .m) (s .n) pass home (linesIn (s .m) (s .n) pass) (now (buf .entry)) (now (buf .exit)) × Past (need (sides (s .m) (s .n))) (now (scratch .entry)) (now (scratch .exit)) ⌝ }
 {
-    let from = sides::moved_from(s, number);
-    let count = sides::lines_in(s, number);
-    let opening = sides::line_in(s, number, from);
+    let from = sides::moved_from(s, pass);
+    let count = sides::lines_in(s, pass);
+    let opening = sides::line_in(s, pass, from);
     let mut p = first::first_of(s, inverse, opening);
     for t in from..count {
-        let l = sides::line_in(s, number, t);
+        let l = sides::line_in(s, pass, t);
         let w = walk::walk_of(s, inverse, l);
         line::move_line(buf, scratch, l, w, p, home);
         p = first::next_first(s, inverse, l, p);
@@ -40,10 +41,10 @@ pub(crate) fn turn_at(buf: &mut [u32], scratch: &mut [u32], s: GroupedSides)
     requires { ⌜ Grouped s × Lies (s .m) (s .n) (now buf) (now scratch) ⌝ }
     ensures { λ _. ⌜ Turn (s .m) (s .n) (now (buf .entry)) (now (buf .exit)) × Past (need (sides (s .m) (s .n))) (now (scratch .entry)) (now (scratch .exit)) ⌝ }
 {
-    let inverse = sides::inverse_for(s, 2);
-    pass(buf, scratch, s, inverse, 1, false);
-    pass(buf, scratch, s, inverse, 2, false);
-    pass(buf, scratch, s, inverse, 3, false);
+    let inverse = sides::inverse_for(s, Pass::Second);
+    run_pass(buf, scratch, s, inverse, Pass::First, false);
+    run_pass(buf, scratch, s, inverse, Pass::Second, false);
+    run_pass(buf, scratch, s, inverse, Pass::Third, false);
 }
 
 // The passes of the block are undone, the last first.
@@ -51,10 +52,10 @@ pub(crate) fn turn_home_at(buf: &mut [u32], scratch: &mut [u32], s: GroupedSides
     requires { ⌜ Grouped s × Lies (s .m) (s .n) (now buf) (now scratch) ⌝ }
     ensures { λ _. ⌜ Turn (s .m) (s .n) (now (buf .exit)) (now (buf .entry)) × Past (need (sides (s .m) (s .n))) (now (scratch .entry)) (now (scratch .exit)) ⌝ }
 {
-    let inverse = sides::inverse_for(s, 2);
-    pass(buf, scratch, s, inverse, 3, true);
-    pass(buf, scratch, s, inverse, 2, true);
-    pass(buf, scratch, s, inverse, 1, true);
+    let inverse = sides::inverse_for(s, Pass::Second);
+    run_pass(buf, scratch, s, inverse, Pass::Third, true);
+    run_pass(buf, scratch, s, inverse, Pass::Second, true);
+    run_pass(buf, scratch, s, inverse, Pass::First, true);
 }
 
 // One line moves as its pass says.
@@ -62,7 +63,8 @@ pub(crate) fn forth(buf: &mut [u32], scratch: &mut [u32], s: GroupedSides, l: Li
     requires { ⌜ Grouped s × Fits (s .m) (s .n) l (now buf) (now scratch) ⌝ }
     ensures { λ _. ⌜ LineMoved (s .m) (s .n) l (now (buf .entry)) (now (buf .exit)) × Past (l .count) (now (scratch .entry)) (now (scratch .exit)) ⌝ }
 {
-    let inverse = sides::inverse_for(s, l.pass);
+    let pass = l.pass;
+    let inverse = sides::inverse_for(s, pass);
     let w = walk::walk_of(s, inverse, l);
     let p = first::first_of(s, inverse, l);
     line::move_line(buf, scratch, l, w, p, false);

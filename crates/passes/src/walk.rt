@@ -1,5 +1,6 @@
 // Walks: the places that a line receives its words from, in rising place, with no division for a word or a run.
 use crate::line::Line;
+use crate::line::Pass;
 use crate::sides::GroupedSides;
 ghost use mathlib.Core.Path.{_≡_};
 ghost use Prim.Native.Nat.{ℕ, _+_, _%_, _<_, _≤_};
@@ -67,36 +68,39 @@ pub(crate) fn walk_of(s: GroupedSides, inverse: usize, l: Line) -> Walk
     requires { ⌜ Grouped s × OfPass (s .m) (s .n) l × Inverted (s .m) (s .n) (l .pass) inverse ⌝ }
     ensures { λ r. ⌜ ((p : Place) → Begins (s .m) (s .n) (l .pass) (l .index) p → Follows r p (l .count) (received (s .m) (s .n) (l .pass) (l .index))) ⌝ }
 {
-    if l.pass == 1 {
-        return Walk {
+    let pass = l.pass;
+    match pass {
+        Pass::First => Walk {
             step: 1,
             modulus: s.m,
             size: s.m,
             turn: 0,
             round: s.m,
             split: 0,
-        };
+        },
+        Pass::Second => {
+            let sources = Walk {
+                step: s.b,
+                modulus: s.n,
+                size: s.c,
+                turn: inverse,
+                round: s.b,
+                split: s.m - l.index,
+            };
+            joined(sources, s.n)
+        }
+        Pass::Third => {
+            let rows = Walk {
+                step: s.remainder,
+                modulus: s.m,
+                size: s.a,
+                turn: s.m - 1,
+                round: s.m,
+                split: 0,
+            };
+            joined(rows, s.m)
+        }
     }
-    if l.pass == 2 {
-        let sources = Walk {
-            step: s.b,
-            modulus: s.n,
-            size: s.c,
-            turn: inverse,
-            round: s.b,
-            split: s.m - l.index,
-        };
-        return joined(sources, s.n);
-    }
-    let rows = Walk {
-        step: s.remainder,
-        modulus: s.m,
-        size: s.a,
-        turn: s.m - 1,
-        round: s.m,
-        split: 0,
-    };
-    joined(rows, s.m)
 }
 
 // How many places lie ahead in the run: up to the break of the group, or to its end.

@@ -3,6 +3,8 @@ use Rattle.lists.proofs.Kit.{refl, ap, ℕ, _≤_, arith, le-trans, needs, getD
 use Rattle.passes.specs.Lines.{posOn}
 use Rattle.passes.specs.PrivateScratch.{Fits}
 use Rattle.passes.specs.PrivateWalks.{Inverted}
+use Rattle.passes.specs.declared.line.Pass.{Pass}
+use Rattle.passes.specs.declared.line.Pass.the-variants.{First, Second, Third}
 use Rattle.passes.proofs.Filled.{filled-as}
 use Rattle.passes.proofs.Stages.{stage-fits, stage-few, stored-lift, stored-back, stored-clear}
 use Rattle.passes.proofs.restart.store.Statement.{statement}
@@ -21,14 +23,16 @@ fits c =
     rw (c .line-of .ensures) (stage-fits (x .pre .0) (x .args .p) (x .args .until) (x .pre .2) (omega arith), stage-few (x .pre .0) (x .args .p) (x .args .until) (x .pre .2) (omega arith))
 
 -- the inverse serves a line of any pass
-inverted : (x : tie.Start) (pass : ℕ) → Inverted (x .args .s .m) (x .args .s .n) pass (x .args .inverse)
-inverted x pass _ = x .pre .1 refl
+inverted : (x : tie.Start) (pass : Pass) → Inverted (x .args .s .m) (x .args .s .n) pass (x .args .inverse)
+inverted x First = tt
+inverted x Second = x .pre .1
+inverted x Third = tt
 
 first-of-requires : tie.Need-first-of-requires
 first-of-requires c κs =
     let l : tie.After-line-of = search in
     let x : tie.Start = search in
-    (x .pre .0 .grouped, λ e. let o = rw e at (fits l .0 .of-pass) in o .1, inverted x _)
+    (x .pre .0 .grouped, λ e. rw e at (fits l .0 .of-pass .1), inverted x (l .line-of .result .pass))
 
 lift-requires : tie.Need-lift-requires
 lift-requires c κs =
@@ -69,6 +73,6 @@ returns-3 c =
 pub store-spec : {M : Type 1} → statement M
 store-spec = tie.close (tie.spec
     (λ c κs. search needs) (search needs) (search needs) (search needs) returns (λ c κs. search needs)
-    (λ c κs. let l : tie.After-line-of = search in let x : tie.Start = search in (x .pre .0 .grouped, fits l .0 .of-pass, inverted x _))
+    (λ c κs. let l : tie.After-line-of = search in let x : tie.Start = search in (x .pre .0 .grouped, fits l .0 .of-pass, inverted x (l .line-of .result .pass)))
     first-of-requires lift-requires (search needs) (search needs) returns-2 put-back-requires
     (search needs) (search needs) returns-3)

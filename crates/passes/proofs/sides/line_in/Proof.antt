@@ -1,10 +1,11 @@
--- `line_in` meets its contract: the test is the definition's; sides of at most 4,096 keep the product small.
-use Rattle.lists.proofs.Kit.{mul-le-mul, arith, eq-eqb, ne-eqb}
+-- `line_in` meets its contract: a row in pass 2, else a column.
+use borrow.Author.Needs.{needs}
 use Rattle.passes.proofs.sides.line_in.Statement.{statement}
 use Rattle.passes.proofs.sides.line_in.Tie as tie
 
 pub line-in-spec : {M : Type 1} → statement M
 line-in-spec = tie.close (tie.spec
-    (λ c. let x : tie.Start = search in omega (arith, mul-le-mul (x .pre .1) (x .pre .0 .n-few)))
-    (λ c. let t : tie.Then1 = search in rw (eq-eqb _ _ (t .if1 .taken)))
-    (λ c. let t : tie.Else1 = search in rw (ne-eqb _ _ (t .if1 .left))))
+    (search needs) (search needs) (search needs) (search needs) (search needs) (search needs)
+    (λ c. let r : tie.After-column-in = search in let t : tie.After-enum-told = search in rw (t .enum-told .given .1) (r .column-in .ensures))
+    (λ c. let r : tie.After-row-in = search in let t : tie.After-enum-told2 = search in rw (t .enum-told2 .given .1) (r .row-in .ensures))
+    (λ c. let r : tie.After-column-in2 = search in let t : tie.After-enum-told3 = search in rw (t .enum-told3 .given .1) (r .column-in2 .ensures)))

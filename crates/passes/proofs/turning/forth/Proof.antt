@@ -9,7 +9,7 @@ first-of-requires : tie.Need-first-of-requires
 first-of-requires c κs =
     let i : tie.After-inverse-for = search in
     let x : tie.Start = search in
-    (x .pre .0, λ e. let o = rw e at (x .pre .1 .of-pass) in o .1, i .inverse-for .ensures)
+    (x .pre .0, λ e. rw e at (x .pre .1 .of-pass .1), i .inverse-for .ensures)
 
 move-line-requires : tie.Need-move-line-requires
 move-line-requires c κs =
