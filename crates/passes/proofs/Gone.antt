@@ -1,12 +1,13 @@
 -- The lines of a pass, one after the other, whether they receive their words or go home: they share no word, all of them are the pass, and the three passes
 -- are the turn.
-use Rattle.lists.proofs.Kit.{_≡_, refl, sym, ap, _∙_, Bool, true, false, cond, List, ℕ, _+_, _*_, _/_, _%_, _<_, _≤_, arith, mul-comm, div-eq-of-lt, add-zero, mod-eq-of-lt, digits-div, digits-mod, digits-lt}
+use Rattle.lists.proofs.Kit.{_≡_, refl, sym, ap, _∙_, Bool, true, false, not, cond, List, ℕ, _+_, _*_, _/_, _%_, _<_, _≤_, arith, mul-comm, div-eq-of-lt, add-zero, mod-eq-of-lt, digits-div, digits-mod, digits-lt}
 use Rattle.flat.specs.Turn.{Turn}
 use Rattle.flat.specs.Passes.{columnGroup, row1, column2, row3}
+use Rattle.flat.proofs.Turn.{turn-home}
 use Rattle.flat.proofs.Sides.{Sides, sides-are, column2-lt}
 use Rattle.flat.proofs.Passes.{source-is, passes-turn}
 use Rattle.passes.specs.Lines.{Moved, column, row, posOn, received}
-use Rattle.passes.specs.PrivateScratch.{OfPass, Gone, goesTo, comesFrom, lineIn, linesIn, wordsIn, movedFrom}
+use Rattle.passes.specs.PrivateScratch.{OfPass, Gone, PassGone, Turned, endPass, goesTo, comesFrom, lineIn, linesIn, wordsIn, movedFrom}
 use Rattle.passes.specs.PrivateWalks.{placeAt, Follows}
 use Rattle.passes.specs.declared.line.Line.{Line}
 use Rattle.passes.specs.declared.line.Pass.{Pass}
@@ -96,7 +97,7 @@ module _ {m n : ℕ} (hm : 0 < m) (hn : 0 < n) where
   gone-still Third home xs = some-none _ _ _ _ _ xs
 
   -- what went home, seen from there
-  pub homeward : (p : Pass) {xs ys : List ℕ} → Gone m n p true (linesIn m n p) xs ys → Gone m n p false (linesIn m n p) ys xs
+  homeward : (p : Pass) {xs ys : List ℕ} → PassGone m n p true xs ys → PassGone m n p false ys xs
   homeward p g = record {
     same = sym (g .same);
     placed = λ u k h d. sym (g .placed u k h d);
@@ -105,7 +106,7 @@ module _ {m n : ℕ} (hm : 0 < m) (hn : 0 < n) where
   }
 
   -- the three passes are the turn
-  pub gone-turn : {xs ys zs ws : List ℕ} → Gone m n First false n xs ys → Gone m n Second false m ys zs → Gone m n Third false n zs ws → Turn m n xs ws
+  pub gone-turn : {xs ys zs ws : List ℕ} → PassGone m n First false xs ys → PassGone m n Second false ys zs → PassGone m n Third false zs ws → Turn m n xs ws
   gone-turn {xs} {ys} {zs} {ws} f g h =
       passes-turn m n xs ys zs ws
       (record {
@@ -118,3 +119,9 @@ module _ {m n : ℕ} (hm : 0 < m) (hn : 0 < n) where
     where
       past : (p : Pass) (k : ℕ) → m * n ≤ k → (u j : ℕ) → u < linesIn m n p → j < wordsIn m n p → posOn (lineIn m n p u) j ≡ k → ⊥
       past p k d u j a b e = omega (arith, lines-lt m n p u j a b)
+
+  -- and home, the last first, they undo it
+  pub gone-turned : (home : Bool) {xs ys zs ws : List ℕ} → PassGone m n (endPass home) home xs ys → PassGone m n Second home ys zs
+      → PassGone m n (endPass (not home)) home zs ws → Turned m n home xs ws
+  gone-turned false f g h = gone-turn f g h
+  gone-turned true f g h = turn-home (gone-turn (homeward First h) (homeward Second g) (homeward Third f))

@@ -3,14 +3,16 @@
 use Rattle.lists.proofs.Kit.{_≡_, refl, sym, ap, _∙_, subst, Bool, true, false, cond, List, ℕ, zero, suc, _+_, _*_, _<_, _≤_, arith, mul-one, le-mul-of-pos-right, ltb, getD, lt-ltb, le-ltb, ltb-false}
 use Rattle.numbers.specs.Gcd.{gcdOf}
 use Rattle.flat.specs.Turn.{Turn}
-use Rattle.flat.specs.Passes.{columnGroup}
+use Rattle.flat.specs.Passes.{rowGroup, columnGroup}
 use Rattle.flat.proofs.Sides.{Sides, sides-are}
+use Rattle.walks.specs.PrivateSource.{Inverse}
 use Rattle.passes.specs.Lines.{column, row, lineAt, skipped, posOn, LineMoved}
 use Rattle.passes.specs.declared.line.Line.{Line}
 use Rattle.passes.specs.declared.sides.GroupedSides.{GroupedSides}
 use Rattle.passes.specs.declared.line.Pass.{Pass}
 use Rattle.passes.specs.declared.line.Pass.the-variants.{First, Second, Third}
 use Rattle.passes.specs.PrivateScratch.{Grouped, Gone, lineIn, linesIn, movedFrom}
+use Rattle.passes.specs.PrivateWalks.{Inverted}
 use Rattle.passes.proofs.Received.{moved-received}
 use Rattle.passes.proofs.Gone.{named, of-pass, gone-family, gone-turn, still}
 use Rattle.passes.proofs.Ran.{Ran, cut, ran-some}
@@ -59,6 +61,12 @@ pub moved-few : (m n : ℕ) → 0 < m → 0 < n → (p : Pass) → movedFrom m n
 moved-few m n hm hn First = groups-le m n hm hn
 moved-few m n hm hn Second = omega arith
 moved-few m n hm hn Third = omega arith
+
+-- an inverse serves the lines of any pass
+pub serves : (m n x : ℕ) → Inverse (rowGroup m n) (columnGroup m n) x → (p : Pass) → Inverted m n p x
+serves m n x v First = tt
+serves m n x v Second = v
+serves m n x v Third = tt
 
 -- no more columns are left out than there are
 pub skipped-few : (m n : ℕ) → 0 < m → 0 < n → skipped m n ≤ n

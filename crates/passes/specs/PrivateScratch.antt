@@ -1,14 +1,16 @@
 -- These definitions serve only the contracts of private functions: a reader of the promises can pass over them.
 -- What the functions that move lines and blocks through scratch ask and leave. Assumes nothing: these are definitions.
-use mathlib.Core.Bool.{Bool, cond}
+use mathlib.Core.Bool.{Bool, true, false, cond}
 use mathlib.Core.Path.{_≡_}
 use mathlib.Core.List.{List}
 use Prim.Native.Nat.{ℕ, _+_, _*_, _/_, _%_, _<_, _≤_}
 use lib.Dec.{ltb}
 use lib.ListN.{length, getD}
 use Rattle.numbers.specs.Gcd.{gcdOf}
+use Rattle.refusals.specs.Calls.{passesChecks}
 use Rattle.refusals.specs.Scratch.{need}
-use Rattle.flat.specs.Turn.{sides}
+use Rattle.refusals.specs.Promise.{Rearranged}
+use Rattle.flat.specs.Turn.{sides, Turn, TurnBack}
 use Rattle.flat.specs.Passes.{rowGroup, columnGroup}
 use Rattle.passes.specs.Lines.{Moved, received, column, row, posOn, skipped, lineCount, lineOf}
 use Rattle.passes.specs.declared.sides.GroupedSides.{GroupedSides}
@@ -140,6 +142,24 @@ movedFrom m n Third = 0
 abbrev pub Gone : ℕ → ℕ → Pass → Bool → ℕ → List ℕ → List ℕ → Type 0
 Gone m n p home t xs ys =
     Some (linesIn m n p) (wordsIn m n p) (λ u k. posOn (lineIn m n p u) k) (λ u k. goesTo home (received m n p u) k) (λ u k. comesFrom home (received m n p u) k) t xs ys
+
+-- all of them have
+abbrev pub PassGone : ℕ → ℕ → Pass → Bool → List ℕ → List ℕ → Type 0
+PassGone m n p home xs ys = Gone m n p home (linesIn m n p) xs ys
+
+-- the pass that a turn begins with, and the one that it ends with
+abbrev pub endPass : Bool → Pass
+endPass false = First
+endPass true = Third
+
+-- the block has been turned, or, home, its turn has been undone
+abbrev pub Turned : ℕ → ℕ → Bool → List ℕ → List ℕ → Type 0
+Turned m n false xs ys = Turn m n xs ys
+Turned m n true xs ys = TurnBack m n xs ys
+
+-- what the turn promises, and, home, its reverse
+abbrev pub TurnsPromise : ℕ → ℕ → Bool → List ℕ → List ℕ → ℕ → List ℕ → List ℕ → Type 0
+TurnsPromise m n home buffer scratch = Rearranged (passesChecks (sides m n) buffer scratch) (need (sides m n)) (Turned m n home buffer) buffer scratch
 
 -- a mapped turn can go on: its block is the buffer, and scratch has room for its longer side
 pub record Mapped (s : GroupedSides) (xs scratch : List ℕ) : Type 0 where

@@ -13,12 +13,13 @@ ghost use lib.ListN.{length};
 ghost use Rattle.refusals.specs.Scratch.{need, cleared};
 ghost use Rattle.flat.specs.Turn.{sides};
 ghost use Rattle.passes.specs.Promises.{TurnPromise, TurnBackPromise, ClearPromise};
+ghost use Rattle.passes.specs.PrivateScratch.{TurnsPromise};
 ghost use Rattle.passes.specs.Ticks.{LinesPromise, TickPromise};
 ghost use Rattle.passes.specs.Restart.{memory, ResumePromise};
 
-// Turns the m by n block that fills a buffer, through scratch of max(m, n) words: 0, or 1, 2, 3, 13, 4.
-pub fn turn(buf: &mut [u32], scratch: &mut [u32], m: usize, n: usize) -> u32
-    ensures { λ r. ⌜ TurnPromise m n (now (buf .entry)) (now (scratch .entry)) r (now (buf .exit)) (now (scratch .exit)) ⌝ }
+// Turns the m by n block that fills a buffer, or, home, undoes its turn, through scratch of max(m, n) words: 0, or 1, 2, 3, 13, 4.
+fn turn_or_home(buf: &mut [u32], scratch: &mut [u32], m: usize, n: usize, home: bool) -> u32
+    ensures { λ r. ⌜ TurnsPromise m n home (now (buf .entry)) (now (scratch .entry)) r (now (buf .exit)) (now (scratch .exit)) ⌝ }
 {
     let lens = [m, n];
     let number = checks::passes_number(&lens, buf, scratch);
@@ -26,24 +27,23 @@ pub fn turn(buf: &mut [u32], scratch: &mut [u32], m: usize, n: usize) -> u32
         return number;
     }
     let s = sides::group_sides(m, n);
-    turning::turn_at(buf, scratch, s);
+    turning::turn_at(buf, scratch, s, home);
     clear_longest(scratch, m, n);
     0
+}
+
+// Turns the m by n block that fills a buffer, through scratch of max(m, n) words: 0, or 1, 2, 3, 13, 4.
+pub fn turn(buf: &mut [u32], scratch: &mut [u32], m: usize, n: usize) -> u32
+    ensures { λ r. ⌜ TurnPromise m n (now (buf .entry)) (now (scratch .entry)) r (now (buf .exit)) (now (scratch .exit)) ⌝ }
+{
+    turn_or_home(buf, scratch, m, n, false)
 }
 
 // Undoes the turn of an m by n block: the same checks and the same scratch.
 pub fn turn_back(buf: &mut [u32], scratch: &mut [u32], m: usize, n: usize) -> u32
     ensures { λ r. ⌜ TurnBackPromise m n (now (buf .entry)) (now (scratch .entry)) r (now (buf .exit)) (now (scratch .exit)) ⌝ }
 {
-    let lens = [m, n];
-    let number = checks::passes_number(&lens, buf, scratch);
-    if number != 0 {
-        return number;
-    }
-    let s = sides::group_sides(m, n);
-    turning::turn_home_at(buf, scratch, s);
-    clear_longest(scratch, m, n);
-    0
+    turn_or_home(buf, scratch, m, n, true)
 }
 
 // How many lines a turn has: the number, and the count, 0 in a refusal.

@@ -6,10 +6,11 @@ use crate::line::Pass;
 use crate::sides;
 use crate::sides::GroupedSides;
 use crate::walk;
-ghost use Rattle.flat.specs.Turn.{sides, Turn};
+ghost use mathlib.Core.Path.{_≡_};
+ghost use Rattle.flat.specs.Turn.{sides};
 ghost use Rattle.refusals.specs.Scratch.{need};
 ghost use Rattle.passes.specs.Lines.{LineMoved};
-ghost use Rattle.passes.specs.PrivateScratch.{Grouped, Fits, Lies, Past, Gone, linesIn};
+ghost use Rattle.passes.specs.PrivateScratch.{Grouped, Fits, Lies, Past, PassGone, Turned, endPass};
 ghost use Rattle.passes.specs.PrivateWalks.{Inverted};
 
 // The lines of one pass receive their words, or go home, one after the other.
@@ -22,7 +23,7 @@ fn run_pass(
     home: bool,
 )
     requires { ⌜ Grouped s × Lies (s .m) (s .n) (now buf) (now scratch) × Inverted (s .m) (s .n) pass inverse ⌝ }
-    ensures { λ _. ⌜ Gone (s .m) (s .n) pass home (linesIn (s .m) (s .n) pass) (now (buf .entry)) (now (buf .exit)) × Past (need (sides (s .m) (s .n))) (now (scratch .entry)) (now (scratch .exit)) ⌝ }
+    ensures { λ _. ⌜ PassGone (s .m) (s .n) pass home (now (buf .entry)) (now (buf .exit)) × Past (need (sides (s .m) (s .n))) (now (scratch .entry)) (now (scratch .exit)) ⌝ }
 {
     let from = sides::moved_from(s, pass);
     let count = sides::lines_in(s, pass);
@@ -36,26 +37,27 @@ fn run_pass(
     }
 }
 
-// The block is turned by its passes.
-pub(crate) fn turn_at(buf: &mut [u32], scratch: &mut [u32], s: GroupedSides)
-    requires { ⌜ Grouped s × Lies (s .m) (s .n) (now buf) (now scratch) ⌝ }
-    ensures { λ _. ⌜ Turn (s .m) (s .n) (now (buf .entry)) (now (buf .exit)) × Past (need (sides (s .m) (s .n))) (now (scratch .entry)) (now (scratch .exit)) ⌝ }
+// The pass that a turn begins with, or the one that it ends with.
+fn end_pass(last: bool) -> Pass
+    ensures { λ r. ⌜ r ≡ endPass last ⌝ }
 {
-    let inverse = sides::inverse_for(s, Pass::Second);
-    run_pass(buf, scratch, s, inverse, Pass::First, false);
-    run_pass(buf, scratch, s, inverse, Pass::Second, false);
-    run_pass(buf, scratch, s, inverse, Pass::Third, false);
+    if last {
+        return Pass::Third;
+    }
+    Pass::First
 }
 
-// The passes of the block are undone, the last first.
-pub(crate) fn turn_home_at(buf: &mut [u32], scratch: &mut [u32], s: GroupedSides)
+// The block is turned by its passes, or, home, they are undone, the last first.
+pub(crate) fn turn_at(buf: &mut [u32], scratch: &mut [u32], s: GroupedSides, home: bool)
     requires { ⌜ Grouped s × Lies (s .m) (s .n) (now buf) (now scratch) ⌝ }
-    ensures { λ _. ⌜ Turn (s .m) (s .n) (now (buf .exit)) (now (buf .entry)) × Past (need (sides (s .m) (s .n))) (now (scratch .entry)) (now (scratch .exit)) ⌝ }
+    ensures { λ _. ⌜ Turned (s .m) (s .n) home (now (buf .entry)) (now (buf .exit)) × Past (need (sides (s .m) (s .n))) (now (scratch .entry)) (now (scratch .exit)) ⌝ }
 {
     let inverse = sides::inverse_for(s, Pass::Second);
-    run_pass(buf, scratch, s, inverse, Pass::Third, true);
-    run_pass(buf, scratch, s, inverse, Pass::Second, true);
-    run_pass(buf, scratch, s, inverse, Pass::First, true);
+    let begin = end_pass(home);
+    let end = end_pass(!home);
+    run_pass(buf, scratch, s, inverse, begin, home);
+    run_pass(buf, scratch, s, inverse, Pass::Second, home);
+    run_pass(buf, scratch, s, inverse, end, home);
 }
 
 // One line moves as its pass says.

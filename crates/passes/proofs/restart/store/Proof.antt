@@ -4,8 +4,8 @@ use Rattle.passes.specs.Lines.{posOn}
 use Rattle.passes.specs.PrivateScratch.{Fits}
 use Rattle.passes.specs.PrivateWalks.{Inverted}
 use Rattle.passes.specs.declared.line.Pass.{Pass}
-use Rattle.passes.specs.declared.line.Pass.the-variants.{First, Second, Third}
 use Rattle.passes.proofs.Filled.{filled-as}
+use Rattle.passes.proofs.Passed.{serves}
 use Rattle.passes.proofs.Stages.{stage-fits, stage-few, stored-lift, stored-back, stored-clear}
 use Rattle.passes.proofs.restart.store.Statement.{statement}
 use Rattle.passes.proofs.restart.store.Tie as tie
@@ -24,9 +24,7 @@ fits c =
 
 -- the inverse serves a line of any pass
 inverted : (x : tie.Start) (pass : Pass) → Inverted (x .args .s .m) (x .args .s .n) pass (x .args .inverse)
-inverted x First = tt
-inverted x Second = x .pre .1
-inverted x Third = tt
+inverted x = serves (x .args .s .m) (x .args .s .n) (x .args .inverse) (x .pre .1)
 
 first-of-requires : tie.Need-first-of-requires
 first-of-requires c κs =
