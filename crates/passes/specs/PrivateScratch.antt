@@ -5,14 +5,16 @@ use mathlib.Core.Path.{_≡_}
 use mathlib.Core.List.{List}
 use Prim.Native.Nat.{ℕ, _+_, _*_, _/_, _%_, _<_, _≤_}
 use lib.Dec.{ltb}
-use lib.ListN.{length, getD}
+use lib.ListN.{length, getD, take}
 use Rattle.numbers.specs.Gcd.{gcdOf}
 use Rattle.refusals.specs.Calls.{passesChecks}
 use Rattle.refusals.specs.Scratch.{need}
 use Rattle.refusals.specs.Promise.{Rearranged}
 use Rattle.flat.specs.Turn.{sides, Turn, TurnBack}
 use Rattle.flat.specs.Passes.{rowGroup, columnGroup}
+use Rattle.stages.specs.Stages.{after, call}
 use Rattle.passes.specs.Lines.{Moved, received, column, row, posOn, skipped, lineCount, lineOf}
+use Rattle.passes.specs.Restart.{memory, turnStages}
 use Rattle.passes.specs.declared.sides.GroupedSides.{GroupedSides}
 use Rattle.passes.specs.declared.line.Line.{Line}
 use Rattle.passes.specs.declared.line.Pass.{Pass}
@@ -170,3 +172,13 @@ pub record Mapped (s : GroupedSides) (xs scratch : List ℕ) : Type 0 where
 -- how many words stage p stores: those of its line, or those that are cleared
 abbrev pub stageWords : ℕ → ℕ → ℕ → ℕ
 stageWords m n p = cond (ltb p (lineCount m n * 2)) (lineOf m n (p / 2) .count) (need (sides m n))
+
+-- the first `until` words of stage p have been stored
+abbrev pub StageStored : ℕ → ℕ → ℕ → ℕ → List ℕ → List ℕ → List ℕ → List ℕ → Type 0
+StageStored m n p until buffer scratch buffer′ scratch′ =
+    memory buffer′ scratch′ p ≡ after (take until (turnStages m n .words p (memory buffer scratch p))) (memory buffer scratch p)
+
+-- the turn has gone on for `budget` stores, from the stage that the progress word names
+abbrev pub GoneOn : ℕ → ℕ → ℕ → List ℕ → List ℕ → ℕ → List ℕ → List ℕ → ℕ → Type 0
+GoneOn m n budget buffer scratch progress buffer′ scratch′ progress′ =
+    memory buffer′ scratch′ progress′ ≡ call (turnStages m n) budget (memory buffer scratch progress)

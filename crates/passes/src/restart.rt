@@ -7,12 +7,9 @@ use crate::sides::GroupedSides;
 use crate::walk;
 ghost use mathlib.Core.Path.{_≡_};
 ghost use Prim.Native.Nat.{_+_, _*_, _≤_};
-ghost use lib.ListN.{take};
-ghost use Rattle.stages.specs.Stages.{after, call};
 ghost use Rattle.passes.specs.Lines.{lineCount};
-ghost use Rattle.passes.specs.PrivateScratch.{Grouped, Mapped, stageWords};
+ghost use Rattle.passes.specs.PrivateScratch.{Grouped, Mapped, StageStored, GoneOn, stageWords};
 ghost use Rattle.passes.specs.PrivateWalks.{Inverted};
-ghost use Rattle.passes.specs.Restart.{memory, turnStages};
 
 // How many stages a turn has.
 pub(crate) fn stage_count(s: GroupedSides) -> usize
@@ -45,7 +42,7 @@ fn store(
     until: usize,
 )
     requires { ⌜ Mapped s (now buf) (now scratch) × Inverted (s .m) (s .n) Pass.Second inverse × (until ≤ stageWords (s .m) (s .n) p) ⌝ }
-    ensures { λ _. ⌜ memory (now (buf .exit)) (now (scratch .exit)) p ≡ after (take until (turnStages (s .m) (s .n) .words p (memory (now (buf .entry)) (now (scratch .entry)) p))) (memory (now (buf .entry)) (now (scratch .entry)) p) ⌝ }
+    ensures { λ _. ⌜ StageStored (s .m) (s .n) p until (now (buf .entry)) (now (scratch .entry)) (now (buf .exit)) (now (scratch .exit)) ⌝ }
 {
     if sides::line_count(s) * 2 <= p {
         moves::zero(scratch, 0, until);
@@ -70,7 +67,7 @@ pub(crate) fn go_on(
     budget: usize,
 )
     requires { ⌜ Mapped s (now buf) (now scratch) × (now progress ≤ lineCount (s .m) (s .n) * 2 + 1) ⌝ }
-    ensures { λ _. ⌜ memory (now (buf .exit)) (now (scratch .exit)) (now (progress .exit)) ≡ call (turnStages (s .m) (s .n)) budget (memory (now (buf .entry)) (now (scratch .entry)) (now (progress .entry))) ⌝ }
+    ensures { λ _. ⌜ GoneOn (s .m) (s .n) budget (now (buf .entry)) (now (scratch .entry)) (now (progress .entry)) (now (buf .exit)) (now (scratch .exit)) (now (progress .exit)) ⌝ }
 {
     let total = stage_count(s);
     let inverse = sides::inverse_for(s, Pass::Second);
