@@ -1,6 +1,6 @@
 -- What the functions of a mapped turn store is what its stages say: the words of a line into scratch, back, or the zeros, up to any word.
 -- A line that fits has its places apart, so the loops' outcome is the list stored into one word after the other.
-use Rattle.lists.proofs.Kit.{_≡_, sym, ap, _∙_, List, ℕ, _+_, _*_, _/_, _%_, _<_, _≤_, arith, eq-of-mul-eq-mul-left, div-lt-iff-lt-mul, le-trans, length, getD, lt-ltb, le-ltb}
+use Rattle.lists.proofs.Kit.{_≡_, sym, ap, _∙_, List, ℕ, _*_, _/_, _%_, _<_, _≤_, arith, eq-of-mul-eq-mul-left, div-lt-iff-lt-mul, le-trans, length, getD, lt-ltb, le-ltb}
 use Rattle.refusals.specs.Scratch.{need}
 use Rattle.flat.specs.Turn.{sides}
 use Rattle.stages.specs.Stages.{Memory}

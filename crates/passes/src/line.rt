@@ -3,7 +3,7 @@ use crate::walk;
 use crate::walk::Place;
 use crate::walk::Run;
 use crate::walk::Walk;
-ghost use mathlib.Core.Bool.{Bool, true, false};
+ghost use mathlib.Core.Bool.{true, false};
 ghost use mathlib.Core.Path.{_≡_};
 ghost use Prim.Native.Nat.{_<_, _≤_};
 ghost use lib.ListN.{length, getD};

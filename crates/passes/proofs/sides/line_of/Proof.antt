@@ -1,5 +1,5 @@
 -- `line_of` meets its contract: the three passes by their line numbers.
-use Rattle.lists.proofs.Kit.{_≡_, _∙_, _+_, _-_, arith, needs, lt-ltb, le-ltb}
+use Rattle.lists.proofs.Kit.{_≡_, _∙_, _+_, arith, needs, lt-ltb, le-ltb}
 use Rattle.passes.specs.Lines.{lineAt, lineOf}
 use Rattle.passes.specs.declared.line.Line.{Line}
 use Rattle.passes.proofs.sides.line_of.Statement.{statement}
