@@ -150,8 +150,8 @@ fn lift_run(buf: &[u32], scratch: &mut [u32], l: Line, w: Walk, home: bool, run:
 }
 
 // The smaller of two numbers.
-fn smaller(x: usize, y: usize) -> usize
-    ensures { λ r. ⌜ (r ≤ x) × (r ≤ y) × (r < y → r ≡ x) ⌝ }
+pub(crate) fn smaller(x: usize, y: usize) -> usize
+    ensures { λ r. ⌜ (r ≤ x) × (r ≤ y) × (r < y → r ≡ x) × (y ≤ x → r ≡ y) ⌝ }
 {
     if x < y {
         return x;

@@ -76,11 +76,10 @@ pub(crate) fn go_on(
     // Divides: for a line, to find where it starts.
     while 0 < left && p < total {
         let words = stage_words(s, p);
+        store(buf, scratch, s, inverse, p, line::smaller(words, left));
         if left <= words {
-            store(buf, scratch, s, inverse, p, left);
             left = 0;
         } else {
-            store(buf, scratch, s, inverse, p, words);
             p += 1;
             *progress = p as u32;
             left = left - words - 1;
