@@ -7,7 +7,7 @@ use Rattle.flat.proofs.Turn.{turn-home}
 use Rattle.flat.proofs.Sides.{Sides, sides-are, column2-lt}
 use Rattle.flat.proofs.Passes.{source-is, passes-turn}
 use Rattle.passes.specs.Lines.{Moved, column, row, posOn, received}
-use Rattle.passes.specs.PrivateScratch.{OfPass, Gone, PassGone, Turned, endPass, goesTo, comesFrom, lineIn, linesIn, wordsIn, movedFrom}
+use Rattle.passes.specs.PrivateScratch.{OfPass, Gone, PassGone, LineGone, Turned, endPass, goesTo, comesFrom, lineIn, linesIn, wordsIn, movedFrom}
 use Rattle.passes.specs.PrivateWalks.{placeAt, Follows}
 use Rattle.passes.specs.declared.line.Line.{Line}
 use Rattle.passes.specs.declared.line.Pass.{Pass}
@@ -73,14 +73,11 @@ module _ {m n : ℕ} (hm : 0 < m) (hn : 0 < n) where
 
   -- one line more, by a walk over the places that it receives from
   pub gone-on : (p : Pass) (home : Bool) {t : ℕ} {l : Line} {w : Walk} {first : Place} {xs ys zs : List ℕ} → t < linesIn m n p → l ≡ lineIn m n p t
-      → Follows w first (l .count) (received m n (l .pass) (l .index)) → Gone m n p home t xs ys
-      → Moved (l .count) (posOn l) (goesTo home (placeAt w first)) (comesFrom home (placeAt w first)) ys zs → Gone m n p home (t + 1) xs zs
-  gone-on p home {t} {l} {w} {first} {ys = ys} {zs} h e f g moved =
-      let (pass, index, count) = named m n p t in
-      let f′ : Follows w first (wordsIn m n p) (received m n p t) = rw (e, pass, index, count) at f in
-      let moved′ : Moved (wordsIn m n p) (posOn (lineIn m n p t)) (goesTo home (placeAt w first)) (comesFrom home (placeAt w first)) ys zs = rw (e, count) at moved in
+      → Follows w first (wordsIn m n p) (received m n p t) → Gone m n p home t xs ys → LineGone l (placeAt w first) home ys zs → Gone m n p home (t + 1) xs zs
+  gone-on p home {t} {w = w} {first} {ys = ys} {zs} h e f g moved =
+      let moved′ : Moved (wordsIn m n p) (posOn (lineIn m n p t)) (goesTo home (placeAt w first)) (comesFrom home (placeAt w first)) ys zs = rw (e, named m n p t .2) at moved in
       gone-more p home h g
-      (moved-as (λ k d. ap (λ (z : ℕ). cond home z k) (f′ .places k d)) (λ k d. ap (λ (z : ℕ). cond home k z) (f′ .places k d)) moved′)
+      (moved-as (λ k d. ap (λ (z : ℕ). cond home z k) (f .places k d)) (λ k d. ap (λ (z : ℕ). cond home k z) (f .places k d)) moved′)
 
   -- the columns of pass 1 before column b stand still
   pub still : (t k : ℕ) → t < columnGroup m n → k < m → row1 m n k t ≡ k

@@ -9,11 +9,9 @@ use Rattle.walks.specs.PrivateWalk.{walk}
 use Rattle.walks.proofs.Steps.{walk-start, walk-more, walk-lt}
 use Rattle.walks.proofs.Passes.{shared-le, row1-start, row3-walk, row-below}
 use Rattle.walks.proofs.Source.{state-first, next-group, next-lap, next-round, row-next, row-round, source-at, column-lt}
-use Rattle.passes.specs.Lines.{received}
-use Rattle.passes.specs.PrivateScratch.{Grouped, Apart, wordsIn}
-use Rattle.passes.specs.PrivateWalks.{begun, risen, onward, stands, Low, Small, Follows, SourceAt, Begins}
+use Rattle.passes.specs.PrivateScratch.{Grouped, Apart}
+use Rattle.passes.specs.PrivateWalks.{begun, risen, onward, stands, Low, Small, Follows, SourceAt, WalkOf}
 use Rattle.passes.specs.declared.sides.GroupedSides.{GroupedSides}
-use Rattle.passes.specs.declared.line.Pass.{Pass}
 use Rattle.passes.specs.declared.line.Pass.the-variants.{First, Second, Third}
 use Rattle.passes.specs.declared.walk.Place.{Place}
 use Rattle.passes.specs.declared.walk.Walk.{Walk}
@@ -185,23 +183,19 @@ module _ {s : GroupedSides} (g : Grouped s) where
   flat : Sides (s .m) (s .n)
   flat = sides-are (s .m) (s .n) (g .m-pos) (g .n-pos)
 
-  -- a walk, wherever it begins, follows the places that line i of a pass receives from
-  abbrev pub Goes : Pass → ℕ → Walk → Type 0
-  Goes p i w = (q : Place) → Begins (s .m) (s .n) p i q → Follows w q (wordsIn (s .m) (s .n) p) (received (s .m) (s .n) p i)
-
   -- a walk that follows all that another follows
   abbrev Joins : Walk → Walk → ℕ → Type 0
   Joins v w count = (q : Place) (f : ℕ → ℕ) → Follows v q count f → Follows w q count f
 
-  pub walk-1 : {i : ℕ} → i < s .n → Goes First i (record { step = 1; modulus = s .m; size = s .m; turn = 0; round = s .m; split = 0 })
+  pub walk-1 : {i : ℕ} → i < s .n → WalkOf (s .m) (s .n) First i (record { step = 1; modulus = s .m; size = s .m; turn = 0; round = s .m; split = 0 })
   walk-1 {i} h q e = rw e (follows-1 flat (g .m-pos) (g .n-pos) i h)
 
   pub walk-2 : {w : Walk} {i x : ℕ} → i < s .m → Inverse (rowGroup (s .m) (s .n)) (columnGroup (s .m) (s .n)) x
-      → Joins (record { step = s .b; modulus = s .n; size = s .c; turn = x; round = s .b; split = s .m - i }) w (s .n) → Goes Second i w
+      → Joins (record { step = s .b; modulus = s .n; size = s .c; turn = x; round = s .b; split = s .m - i }) w (s .n) → WalkOf (s .m) (s .n) Second i w
   walk-2 {i = i} h v f q y = f q (source2 (s .m) (s .n) i) (rw (g .b-is, g .c-is) (follows-2 flat (g .m-pos) (g .n-pos) v h y))
 
   pub walk-3 : {w : Walk} {i : ℕ} → i < s .n
-      → Joins (record { step = s .remainder; modulus = s .m; size = s .a; turn = s .m - 1; round = s .m; split = 0 }) w (s .m) → Goes Third i w
+      → Joins (record { step = s .remainder; modulus = s .m; size = s .a; turn = s .m - 1; round = s .m; split = 0 }) w (s .m) → WalkOf (s .m) (s .n) Third i w
   walk-3 {i = i} h f q e = rw e (f (begun (i % s .m)) (λ k. row3 (s .m) (s .n) k i) (rw (g .remainder-is, g .a-is) (follows-3 flat (g .m-pos) (g .n-pos) i h)))
 
 -- the numbers on the way to the source of place 0 of row i, where k·c is the first multiple of c from i on

@@ -10,8 +10,8 @@ use lib.ListN.{getD}
 use Rattle.flat.specs.Passes.{rowGroup, columnGroup}
 use Rattle.walks.specs.PrivateWalk.{walk}
 use Rattle.walks.specs.PrivateSource.{Inverse, StateAt}
-use Rattle.passes.specs.Lines.{posOn}
-use Rattle.passes.specs.PrivateScratch.{Apart, Filled}
+use Rattle.passes.specs.Lines.{received, posOn}
+use Rattle.passes.specs.PrivateScratch.{Apart, Filled, wordsIn}
 use Rattle.passes.specs.declared.line.Line.{Line}
 use Rattle.passes.specs.declared.line.Pass.{Pass}
 use Rattle.passes.specs.declared.line.Pass.the-variants.{First, Second, Third}
@@ -114,3 +114,7 @@ abbrev pub Inverted : ℕ → ℕ → Pass → ℕ → Type 0
 Inverted m n First x = Unit
 Inverted m n Second x = Inverse (rowGroup m n) (columnGroup m n) x
 Inverted m n Third x = Unit
+
+-- the walk, wherever it begins, goes over the places that line t of a pass receives from
+abbrev pub WalkOf : ℕ → ℕ → Pass → ℕ → Walk → Type 0
+WalkOf m n pass t w = (p : Place) → Begins m n pass t p → Follows w p (wordsIn m n pass) (received m n pass t)

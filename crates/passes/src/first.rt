@@ -1,5 +1,4 @@
 // Where the walk over a line begins: worked out for one line, or carried on from the line before, with no division.
-use crate::line::Line;
 use crate::line::Pass;
 use crate::sides::GroupedSides;
 use crate::walk;
@@ -9,7 +8,7 @@ ghost use Prim.Native.Nat.{_+_, _/_, _<_, _≤_};
 ghost use Rattle.flat.specs.Passes.{rowGroup, columnGroup};
 ghost use Rattle.walks.specs.PrivateSource.{Inverse};
 ghost use Rattle.passes.specs.declared.line.Pass.{Pass};
-ghost use Rattle.passes.specs.PrivateScratch.{Grouped, OfPass};
+ghost use Rattle.passes.specs.PrivateScratch.{Grouped, linesIn};
 ghost use Rattle.passes.specs.PrivateWalks.{begun, risen, SourceAt, Begins, Inverted};
 
 // The source of place 0 of row i.
@@ -98,28 +97,26 @@ fn begin(row: usize) -> Place
     }
 }
 
-// The first place of the walk over a line.
-pub(crate) fn first_of(s: GroupedSides, inverse: usize, l: Line) -> Place
-    requires { ⌜ Grouped s × (l .pass ≡ Pass.Second → l .index < s .m) × Inverted (s .m) (s .n) (l .pass) inverse ⌝ }
-    ensures { λ r. ⌜ Begins (s .m) (s .n) (l .pass) (l .index) r ⌝ }
+// The first place of the walk over line t of a pass.
+pub(crate) fn first_of(s: GroupedSides, inverse: usize, pass: Pass, t: usize) -> Place
+    requires { ⌜ Grouped s × (pass ≡ Pass.Second → t < s .m) × Inverted (s .m) (s .n) pass inverse ⌝ }
+    ensures { λ r. ⌜ Begins (s .m) (s .n) pass t r ⌝ }
 {
-    let pass = l.pass;
     match pass {
-        Pass::First => rise(l.index / s.b),
-        Pass::Second => source(s, inverse, l.index),
-        Pass::Third => begin(l.index % s.m),
+        Pass::First => rise(t / s.b),
+        Pass::Second => source(s, inverse, t),
+        Pass::Third => begin(t % s.m),
     }
 }
 
-// The first place of the walk over the line after line l of its pass, of which it is p.
-pub(crate) fn next_first(s: GroupedSides, inverse: usize, l: Line, p: Place) -> Place
-    requires { ⌜ Grouped s × OfPass (s .m) (s .n) l × Inverted (s .m) (s .n) (l .pass) inverse × Begins (s .m) (s .n) (l .pass) (l .index) p ⌝ }
-    ensures { λ r. ⌜ Begins (s .m) (s .n) (l .pass) (l .index + 1) r ⌝ }
+// The first place of the walk over the line after line t of a pass, of which it is p.
+pub(crate) fn next_first(s: GroupedSides, inverse: usize, pass: Pass, t: usize, p: Place) -> Place
+    requires { ⌜ Grouped s × (t < linesIn (s .m) (s .n) pass) × Inverted (s .m) (s .n) pass inverse × Begins (s .m) (s .n) pass t p ⌝ }
+    ensures { λ r. ⌜ Begins (s .m) (s .n) pass (t + 1) r ⌝ }
 {
-    let pass = l.pass;
     match pass {
-        Pass::First => rise(quotient_on(p.place, l.index, s.b)),
-        Pass::Second => below(s, inverse, l.index, p),
+        Pass::First => rise(quotient_on(p.place, t, s.b)),
+        Pass::Second => below(s, inverse, t, p),
         Pass::Third => begin(walk::step_on(p.place, 1, s.m)),
     }
 }

@@ -50,8 +50,9 @@ fn store(
     }
     let line = sides::line_of(s, p / 2);
     if p % 2 == 0 {
-        let w = walk::walk_of(s, inverse, line);
-        let first = first::first_of(s, inverse, line);
+        let pass = line.pass;
+        let w = walk::walk_of(s, inverse, pass, line.index);
+        let first = first::first_of(s, inverse, pass, line.index);
         line::lift(buf, scratch, line, w, first, false, until);
         return;
     }

@@ -27,13 +27,12 @@ fn run_pass(
 {
     let from = sides::moved_from(s, pass);
     let count = sides::lines_in(s, pass);
-    let opening = sides::line_in(s, pass, from);
-    let mut p = first::first_of(s, inverse, opening);
+    let mut p = first::first_of(s, inverse, pass, from);
     for t in from..count {
         let l = sides::line_in(s, pass, t);
-        let w = walk::walk_of(s, inverse, l);
+        let w = walk::walk_of(s, inverse, pass, t);
         line::move_line(buf, scratch, l, w, p, home);
-        p = first::next_first(s, inverse, l, p);
+        p = first::next_first(s, inverse, pass, t, p);
     }
 }
 
@@ -67,7 +66,7 @@ pub(crate) fn forth(buf: &mut [u32], scratch: &mut [u32], s: GroupedSides, l: Li
 {
     let pass = l.pass;
     let inverse = sides::inverse_for(s, pass);
-    let w = walk::walk_of(s, inverse, l);
-    let p = first::first_of(s, inverse, l);
+    let w = walk::walk_of(s, inverse, pass, l.index);
+    let p = first::first_of(s, inverse, pass, l.index);
     line::move_line(buf, scratch, l, w, p, false);
 }

@@ -17,7 +17,7 @@ returns c =
     let r : tie.After-rise = search in
     let t : tie.After-enum-told = search in
     let x : tie.Start = search in
-    rw (t .enum-told .given .1) (r .rise .ensures ∙ ap (λ (z : ℕ). risen (x .args .l .index / z)) (x .pre .0 .b-is))
+    rw (t .enum-told .given .1) (r .rise .ensures ∙ ap (λ (z : ℕ). risen (x .args .t / z)) (x .pre .0 .b-is))
 
 returns-2 : tie.Need-returns-2
 returns-2 c = let r : tie.After-source = search in let t : tie.After-enum-told2 = search in rw (t .enum-told2 .given .1) (r .source .ensures)

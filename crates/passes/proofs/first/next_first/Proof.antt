@@ -13,7 +13,7 @@ quotient-on-requires c κs =
     let x : tie.Start = search in
     let g = x .pre .0 in
     let e = t .enum-told .given .1 in
-    let index = rw e at (x .pre .1 .1) in
+    let index = rw e at (x .pre .1) in
     let begins = rw e at (x .pre .3) in
     let d = sides-are (x .args .s .m) (x .args .s .n) (g .m-pos) (g .n-pos) in
     rw (g .b-is) (
@@ -30,17 +30,17 @@ returns c =
     let t : tie.After-enum-told = search in
     let x : tie.Start = search in
     rw (t .enum-told .given .1)
-    (r .rise .ensures ∙ ap risen (q .quotient-on .ensures ∙ ap (λ (z : ℕ). (x .args .l .index + 1) / z) (x .pre .0 .b-is)))
+    (r .rise .ensures ∙ ap risen (q .quotient-on .ensures ∙ ap (λ (z : ℕ). (x .args .t + 1) / z) (x .pre .0 .b-is)))
 
 below-requires : tie.Need-below-requires
 below-requires c κs =
     let t : tie.After-enum-told2 = search in
     let x : tie.Start = search in
     let e = t .enum-told2 .given .1 in
-    (x .pre .0, rw e at (x .pre .2), rw e at (x .pre .1 .1), rw e at (x .pre .3))
+    (x .pre .0, rw e at (x .pre .2), rw e at (x .pre .1), rw e at (x .pre .3))
 
 -- the row that a column of pass 3 begins at
-row : (t : tie.After-enum-told3) → let x = t .before .before in x .args .p .place ≡ x .args .l .index % x .args .s .m
+row : (t : tie.After-enum-told3) → let x = t .before .before in x .args .p .place ≡ x .args .t % x .args .s .m
 row t = let x : tie.Start = search in let begins = rw (t .enum-told3 .given .1) at (x .pre .3) in ap (λ (p : Place). p .place) begins
 
 returns-3 : tie.Need-returns-3
@@ -50,12 +50,12 @@ returns-3 c =
     let t : tie.After-enum-told3 = search in
     let x : tie.Start = search in
     rw (t .enum-told3 .given .1)
-    (r .begin .ensures ∙ ap begun (o .step-on .ensures ∙ ap (λ (z : ℕ). (z + 1) % x .args .s .m) (row t) ∙ mod-add-mod (x .args .l .index) (x .args .s .m) 1))
+    (r .begin .ensures ∙ ap begun (o .step-on .ensures ∙ ap (λ (z : ℕ). (z + 1) % x .args .s .m) (row t) ∙ mod-add-mod (x .args .t) (x .args .s .m) 1))
 
 pub next-first-spec : {M : Type 1} → statement M
 next-first-spec = tie.close (tie.spec
     (search needs) quotient-on-requires (search needs) (search needs) below-requires (search needs)
-    (λ c κs. let x : tie.Start = search in (rw (row (search)) (mod-lt (x .args .l .index) (x .pre .0 .m-pos)), x .pre .0 .m-pos))
+    (λ c κs. let x : tie.Start = search in (rw (row (search)) (mod-lt (x .args .t) (x .pre .0 .m-pos)), x .pre .0 .m-pos))
     (search needs) returns
     (λ c. let r : tie.After-below = search in let t : tie.After-enum-told2 = search in rw (t .enum-told2 .given .1) (r .below .ensures))
     returns-3)

@@ -9,11 +9,11 @@ returns c =
     let t : tie.After-enum-told = search in
     let x : tie.Start = search in
     let e = t .enum-told .given .1 in
-    rw (x .pre .1 .0, e) (walk-1 (x .pre .0) (rw e at (x .pre .1 .1)))
+    rw e (walk-1 (x .pre .0) (rw e at (x .pre .1)))
 
 -- a row of the block
-row : (t : tie.After-enum-told2) → let x = t .before .before in x .args .l .index < x .args .s .m
-row t = let x : tie.Start = search in rw (t .enum-told2 .given .1) at (x .pre .1 .1)
+row : (t : tie.After-enum-told2) → let x = t .before .before in x .args .t < x .args .s .m
+row t = let x : tie.Start = search in rw (t .enum-told2 .given .1) at (x .pre .1)
 
 returns-2 : tie.Need-returns-2
 returns-2 c =
@@ -21,7 +21,7 @@ returns-2 c =
     let t : tie.After-enum-told2 = search in
     let x : tie.Start = search in
     let e = t .enum-told2 .given .1 in
-    rw (x .pre .1 .0, e) (walk-2 (x .pre .0) (row t) (rw e at (x .pre .2)) (j .joined .ensures))
+    rw e (walk-2 (x .pre .0) (row t) (rw e at (x .pre .2)) (j .joined .ensures))
 
 returns-3 : tie.Need-returns-3
 returns-3 c =
@@ -29,7 +29,7 @@ returns-3 c =
     let t : tie.After-enum-told3 = search in
     let x : tie.Start = search in
     let e = t .enum-told3 .given .1 in
-    rw (x .pre .1 .0, e) (walk-3 (x .pre .0) (rw e at (x .pre .1 .1)) (j .joined2 .ensures))
+    rw e (walk-3 (x .pre .0) (rw e at (x .pre .1)) (j .joined2 .ensures))
 
 pub walk-of-spec : {M : Type 1} → statement M
 walk-of-spec = tie.close (tie.spec
