@@ -1,15 +1,13 @@
 -- What the calls' checks tell where none holds, and what the block's turn and the cleared scratch are then.
-use Rattle.lists.proofs.Kit.{_≡_, sym, ap, _∙_, List, _++_, ℕ, _+_, _-_, arith, le-trans, drop, replicate, length-drop, ext-getD, getD-drop}
+use Rattle.lists.proofs.Kit.{_≡_, sym, ap, _∙_, Bool, List, _++_, ℕ, _+_, _-_, arith, le-trans, drop, replicate, length-drop, ext-getD, getD-drop}
 use Rattle.refusals.specs.FirstOf.{firstOf}
 use Rattle.refusals.specs.Calls.{passesChecks}
 use Rattle.refusals.specs.Scratch.{need, cleared}
 use Rattle.refusals.proofs.Promise.{accepted}
-use Rattle.flat.specs.Turn.{sides, Turn}
-use Rattle.flat.proofs.Turn.{turn-home}
+use Rattle.flat.specs.Turn.{sides}
 pub use Rattle.flat.proofs.Accepted.{Accepted, flat-accepted}
-use Rattle.passes.specs.PrivateScratch.{Grouped, Lies, Past}
-use Rattle.passes.specs.Promises.{TurnPromise, TurnBackPromise}
-use Rattle.passes.specs.declared.line.GroupedSides.{GroupedSides}
+use Rattle.passes.specs.PrivateScratch.{Grouped, Lies, Past, Turned, TurnsPromise}
+use Rattle.passes.specs.declared.sides.GroupedSides.{GroupedSides}
 use Rattle.passes.proofs.Fits.{side-need}
 
 -- the block of a flat call is the buffer
@@ -34,9 +32,6 @@ module _ {m n : ℕ} {s : GroupedSides} (is : (s .m ≡ m) × (s .n ≡ n) × Gr
   pub flat-asked : {b sc : List ℕ} → Accepted m n b sc → Grouped s × Lies (s .m) (s .n) b sc
   flat-asked a = (is .2, rw (is .0, is .1) (flat-lies a))
 
-  module _ {b₀ sc₀ b sc sc′ : List ℕ} (good : firstOf (passesChecks (sides m n) b₀ sc₀) ≡ 0) (zeroed : sc′ ≡ cleared (need (sides m n)) sc) where
-    pub turn-outcome : Turn (s .m) (s .n) b₀ b × Past (need (sides (s .m) (s .n))) sc₀ sc → TurnPromise m n b₀ sc₀ 0 b sc′
-    turn-outcome t = let u = rw (is .0, is .1) at t in accepted good (u .0) (zeroed ∙ past-cleared (u .1))
-
-    pub turn-back-outcome : Turn (s .m) (s .n) b b₀ × Past (need (sides (s .m) (s .n))) sc₀ sc → TurnBackPromise m n b₀ sc₀ 0 b sc′
-    turn-back-outcome t = let u = rw (is .0, is .1) at t in accepted good (turn-home (u .0)) (zeroed ∙ past-cleared (u .1))
+  pub turned-outcome : (home : Bool) {b₀ sc₀ b sc sc′ : List ℕ} → firstOf (passesChecks (sides m n) b₀ sc₀) ≡ 0 → sc′ ≡ cleared (need (sides m n)) sc
+      → Turned (s .m) (s .n) home b₀ b × Past (need (sides (s .m) (s .n))) sc₀ sc → TurnsPromise m n home b₀ sc₀ 0 b sc′
+  turned-outcome home good zeroed t = let u = rw (is .0, is .1) at t in accepted good (u .0) (zeroed ∙ past-cleared (u .1))

@@ -1,18 +1,20 @@
 -- Every line of a block that lies in the buffer fits: its words lie in the buffer, and scratch holds it. And what a line leaves of scratch.
-use Rattle.lists.proofs.Kit.{_≡_, refl, sym, ap, _∙_, subst, List, ⊎-elim, ℕ, _+_, _-_, _<_, _≤_, arith, le-trans, mul-le-mul, Bool, true, false, cond, lit<, eqb, length, lt-or-ge}
+use Rattle.lists.proofs.Kit.{_≡_, refl, sym, ap, _∙_, subst, List, ⊎-elim, ℕ, _+_, _-_, _<_, _≤_, arith, le-trans, mul-le-mul, lit<, length, lt-or-ge}
 use Rattle.refusals.proofs.Scratch.{need-entry}
 use Rattle.refusals.specs.Scratch.{need}
 use Rattle.flat.specs.Turn.{sides}
 use Rattle.passes.specs.Lines.{column, row, lineAt, lineOf, lineCount, skipped, posOn}
 use Rattle.passes.specs.PrivateScratch.{Grouped, Lain, Fits, Lies, Past, lineIn, linesIn}
 use Rattle.passes.specs.declared.line.Line.{Line}
-use Rattle.passes.specs.declared.line.GroupedSides.{GroupedSides}
-use Rattle.passes.proofs.Gone.{in-pass, lines-lt}
+use Rattle.passes.specs.declared.line.Pass.{Pass}
+use Rattle.passes.specs.declared.line.Pass.the-variants.{First, Second, Third}
+use Rattle.passes.specs.declared.sides.GroupedSides.{GroupedSides}
+use Rattle.passes.proofs.Gone.{of-pass, lines-lt}
 use Rattle.passes.proofs.Passed.{line1, line2, line3, skipped-few}
 
 -- what holds of the columns of passes 1 and 3 and of the rows of pass 2 holds of every line
-every-line : (m n : ℕ) (P : Line → Type 0) → ((j : ℕ) → j < n → P (column m n 1 j)) → ((i : ℕ) → i < m → P (row n i))
-    → ((j : ℕ) → j < n → P (column m n 3 j)) → (t : ℕ) → t < n + m + n → P (lineAt m n t)
+every-line : (m n : ℕ) (P : Line → Type 0) → ((j : ℕ) → j < n → P (column m n First j)) → ((i : ℕ) → i < m → P (row n i))
+    → ((j : ℕ) → j < n → P (column m n Third j)) → (t : ℕ) → t < n + m + n → P (lineAt m n t)
 every-line m n P first second third t h =
     ⊎-elim
     (λ (a : t < n). subst P (sym (line1 m n t a)) (first t a))
@@ -26,17 +28,25 @@ every-line m n P first second third t h =
 
 module _ {m n : ℕ} {xs scratch : List ℕ} (hm : 0 < m) (hn : 0 < n) (y : Lies m n xs scratch) where
   -- a line of a pass lies in the buffer
-  pub lain-in : (p t : ℕ) → t < linesIn m n p → Lain (lineIn m n p t) xs scratch
-  lain-in p t h = go (eqb p 2) h (λ k d. omega (arith, y .inside, lines-lt m n p t k h d))
-    where
-      go : (b : Bool) → t < cond b m n → ((k : ℕ) → k < cond b n m → posOn (cond b (row n t) (column m n p t)) k < length xs) → Lain (cond b (row n t) (column m n p t)) xs scratch
-      go true d i = record { inside = i; step = omega arith; room = y .columns; few = y .wide; near = omega arith; front = mul-le-mul {n₂ = 4096} {m₂ = 4096} (omega (arith, y .tall)) (y .wide) }
-      go false d i = record { inside = i; step = hn; room = y .rows; few = y .tall; near = y .wide; front = omega (arith, y .wide) }
+  column-lain : (p : Pass) (t : ℕ) → t < n → ((k : ℕ) → k < m → posOn (column m n p t) k < length xs) → Lain (column m n p t) xs scratch
+  column-lain p t h i = record { inside = i; step = hn; room = y .rows; few = y .tall; near = y .wide; front = omega (arith, y .wide) }
+
+  pub lain-in : (p : Pass) (t : ℕ) → t < linesIn m n p → Lain (lineIn m n p t) xs scratch
+  lain-in First t h = column-lain First t h (λ k d. omega (arith, y .inside, lines-lt m n First t k h d))
+  lain-in Second t h = record {
+    inside = λ k d. omega (arith, y .inside, lines-lt m n Second t k h d);
+    step = omega arith;
+    room = y .columns;
+    few = y .wide;
+    near = omega arith;
+    front = mul-le-mul {n₂ = 4096} {m₂ = 4096} (omega (arith, y .tall)) (y .wide);
+  }
+  lain-in Third t h = column-lain Third t h (λ k d. omega (arith, y .inside, lines-lt m n Third t k h d))
 
   pub line-fits : (t : ℕ) → t < n + m + n → Fits m n (lineAt m n t) xs scratch
   line-fits =
-      let in-its : (p t : ℕ) → t < linesIn m n p → Fits m n (lineIn m n p t) xs scratch = λ p t h. record { of-pass = in-pass m n p t h .0; lain = lain-in p t h } in
-      every-line m n (λ l. Fits m n l xs scratch) (in-its 1) (in-its 2) (in-its 3)
+      let in-its : (p : Pass) (t : ℕ) → t < linesIn m n p → Fits m n (lineIn m n p t) xs scratch = λ p t h. record { of-pass = of-pass m n p t h; lain = lain-in p t h } in
+      every-line m n (λ l. Fits m n l xs scratch) (in-its First) (in-its Second) (in-its Third)
 
 -- a line is no longer than what the call needs of scratch
 pub side-need : (m n : ℕ) → (m ≤ need (sides m n)) × (n ≤ need (sides m n))
@@ -73,9 +83,7 @@ module _ {s : GroupedSides} {xs scratch : List ℕ} (g : Grouped s) (y : Lies (s
   left-short = line-short (s .m) (s .n) (skipped (s .m) (s .n) + l) (omega (arith, skipped-few (s .m) (s .n) (g .m-pos) (g .n-pos)))
 
 -- so is a line of a pass
-pub in-short : (m n p t : ℕ) → lineIn m n p t .count ≤ need (sides m n)
-in-short m n p t = go (eqb p 2)
-  where
-    go : (b : Bool) → cond b (row n t) (column m n p t) .count ≤ need (sides m n)
-    go true = side-need m n .1
-    go false = side-need m n .0
+pub in-short : (m n : ℕ) (p : Pass) (t : ℕ) → lineIn m n p t .count ≤ need (sides m n)
+in-short m n First t = side-need m n .0
+in-short m n Second t = side-need m n .1
+in-short m n Third t = side-need m n .0

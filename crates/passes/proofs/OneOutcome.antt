@@ -19,18 +19,18 @@ pub turn-back-once : {m n r r′ : ℕ} {b₀ s₀ b s b′ s′ : List ℕ}
     → TurnBackPromise m n b₀ s₀ r b s → TurnBackPromise m n b₀ s₀ r′ b′ s′ → Same r r′ b b′ s s′
 turn-back-once p q = one-outcome (λ ys zs t u. one-turn t u) p q
 
-pub clear-once : {n r r′ : ℕ} {s₀ s s′ : List ℕ} → ClearPromise n s₀ r s → ClearPromise n s₀ r′ s′ → (r ≡ r′) × (s ≡ s′)
-clear-once {r = r} p q =
-    let e = p .number-is ∙ sym (q .number-is) in
+-- two answers whose number is told, and whose outcome is told by whether that is 0
+pub one-answer : {A : Type 0} {n r r′ : ℕ} {y y′ done kept : A} → r ≡ n → r′ ≡ n → (r ≡ 0 → y ≡ done) → (r′ ≡ 0 → y′ ≡ done)
+    → ((r ≡ 0 → ⊥) → y ≡ kept) → ((r′ ≡ 0 → ⊥) → y′ ≡ kept) → (r ≡ r′) × (y ≡ y′)
+one-answer {r = r} e e′ z z′ k k′ =
+    let same = e ∙ sym e′ in
     ⊎-elim
-    (λ (z : r ≡ 0). (e, p .zeroed z ∙ sym (q .zeroed (sym e ∙ z))))
-    (λ (ne : r ≡ 0 → ⊥). (e, p .kept ne ∙ sym (q .kept (λ z. ne (e ∙ z)))))
+    (λ (h : r ≡ 0). (same, z h ∙ sym (z′ (sym same ∙ h))))
+    (λ (h : r ≡ 0 → ⊥). (same, k h ∙ sym (k′ (λ q. h (same ∙ q)))))
     (eq-or-ne r 0)
 
+pub clear-once : {n r r′ : ℕ} {s₀ s s′ : List ℕ} → ClearPromise n s₀ r s → ClearPromise n s₀ r′ s′ → (r ≡ r′) × (s ≡ s′)
+clear-once p q = one-answer (p .number-is) (q .number-is) (p .zeroed) (q .zeroed) (p .kept) (q .kept)
+
 pub resume-once : {m n budget r r′ : ℕ} {x y y′ : Memory} → ResumePromise m n budget x r y → ResumePromise m n budget x r′ y′ → (r ≡ r′) × (y ≡ y′)
-resume-once {r = r} p q =
-    let e = p .number-is ∙ sym (q .number-is) in
-    ⊎-elim
-    (λ (z : r ≡ 0). (e, p .stored z ∙ sym (q .stored (sym e ∙ z))))
-    (λ (ne : r ≡ 0 → ⊥). (e, p .kept ne ∙ sym (q .kept (λ z. ne (e ∙ z)))))
-    (eq-or-ne r 0)
+resume-once p q = one-answer (p .number-is) (q .number-is) (p .stored) (q .stored) (p .kept) (q .kept)

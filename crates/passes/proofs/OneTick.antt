@@ -1,8 +1,8 @@
 -- Any two outcomes of a tick coincide: each place of the line receives the word that its pass says, and every other word stands.
-use Rattle.lists.proofs.Kit.{_≡_, sym, ap₂, _∙_, List, ⊎-elim, ℕ, _<_, _≤_, getD, lt-or-ge, eq-or-ne}
+use Rattle.lists.proofs.Kit.{_≡_, sym, ap₂, _∙_, List, ⊎-elim, ℕ, _<_, _≤_, getD, lt-or-ge}
 use Rattle.refusals.specs.FirstOf.{firstOf}
 use Rattle.refusals.specs.Calls.{passesChecks}
-use Rattle.refusals.proofs.Promise.{one-outcome}
+use Rattle.refusals.proofs.Promise.{one-accepted}
 use Rattle.flat.specs.Turn.{sides}
 use Rattle.passes.specs.Lines.{lineCount, lineOf, LineMoved, posOn, received}
 use Rattle.passes.specs.PrivateScratch.{Filled}
@@ -13,6 +13,7 @@ use Rattle.passes.specs.declared.LineCount.{LineCount}
 use Rattle.flat.proofs.Sides.{sides-are}
 use Rattle.passes.proofs.Accepted.{flat-accepted}
 use Rattle.passes.proofs.Filled.{one-filled}
+use Rattle.passes.proofs.OneOutcome.{one-answer}
 use Rattle.passes.proofs.Received.{moved-received}
 use Rattle.passes.proofs.Ticks.{flat-passed, line-there, stepped}
 
@@ -37,27 +38,12 @@ module _ {m n done : ℕ} {b₀ : List ℕ} where
 
   pub tick-once : {s₀ : List ℕ} {t t′ : Ticked} {b s b′ s′ : List ℕ} → TickPromise m n done b₀ s₀ t b s → TickPromise m n done b₀ s₀ t′ b′ s′
       → (t ≡ t′) × (b ≡ b′) × (s ≡ s′)
-  tick-once {s₀} {t} {t′} p q =
-      let number = p .block .number-is ∙ sym (q .block .number-is) in
-      ⊎-elim
-      (λ (z : t .number ≡ 0).
-      let one = one-outcome (one-line s₀ (flat-passed m n done b₀ s₀ (sym (p .block .number-is) ∙ z))) (p .block) (q .block) in
-      let done-too : t .done ≡ t′ .done = p .given z ∙ sym (q .given (sym number ∙ z)) in
-      (ap₂ (λ (k d : ℕ). let r : Ticked = record { number = k; done = d } in r) number done-too, one .1, one .2))
-      (λ (k : t .number ≡ 0 → ⊥).
-      let k′ : t′ .number ≡ 0 → ⊥ = λ e. k (number ∙ e) in (
-        ap₂ (λ (i d : ℕ). let r : Ticked = record { number = i; done = d } in r) number (p .refusal k ∙ sym (q .refusal k′)),
-        p .block .kept k .0 ∙ sym (q .block .kept k′ .0),
-        p .block .kept k .1 ∙ sym (q .block .kept k′ .1),
-      ))
-      (eq-or-ne (t .number) 0)
+  tick-once {s₀} p q =
+      let (number, done-too) = one-answer (p .block .number-is) (q .block .number-is) (p .given) (q .given) (p .refusal) (q .refusal) in
+      let (_, buffer, scratch) = one-accepted (λ e. one-line s₀ (flat-passed m n done b₀ s₀ e)) (p .block) (q .block) in
+      (ap₂ (λ (k d : ℕ). let r : Ticked = record { number = k; done = d } in r) number done-too, buffer, scratch)
 
 pub lines-once : {m n : ℕ} {l l′ : LineCount} → LinesPromise m n l → LinesPromise m n l′ → l ≡ l′
-lines-once {l = l} {l′} p q =
-    let number = p .number-is ∙ sym (q .number-is) in
-    let count : l .count ≡ l′ .count =
-    ⊎-elim
-    (λ (z : l .number ≡ 0). p .given z ∙ sym (q .given (sym number ∙ z)))
-    (λ (k : l .number ≡ 0 → ⊥). p .refusal k ∙ sym (q .refusal (λ e. k (number ∙ e))))
-    (eq-or-ne (l .number) 0) in
+lines-once p q =
+    let (number, count) = one-answer (p .number-is) (q .number-is) (p .given) (q .given) (p .refusal) (q .refusal) in
     ap₂ (λ (i c : ℕ). let r : LineCount = record { number = i; count = c } in r) number count

@@ -1,6 +1,6 @@
 -- The walks over the lines of the passes go over the places that the lines receive from, by the laws of crate walks; and where they begin, worked out or
 -- carried on from the line before.
-use Rattle.lists.proofs.Kit.{_≡_, refl, sym, ap, _∙_, subst, Bool, cond, ⊎-elim, ℕ, _+_, _*_, _-_, _/_, _%_, _<_, _≤_, arith, mod-lt, mod-eq-of-lt, mod-self, zero-mod, mod-add-mod, add-comm, add-zero, add-mul, one-mul, zero-mul, add-mod-right, mul-comm, mul-le-mul, le-mul-of-pos-right, div-eq-of-lt, div-eq-of-lt-le, div-add-mod', div-le-self, eqb, eq-or-ne, ne-eqb}
+use Rattle.lists.proofs.Kit.{_≡_, refl, sym, ap, _∙_, subst, ⊎-elim, ℕ, _+_, _*_, _-_, _/_, _%_, _<_, _≤_, arith, mod-lt, mod-eq-of-lt, mod-self, zero-mod, mod-add-mod, add-comm, add-zero, add-mul, one-mul, zero-mul, add-mod-right, mul-comm, mul-le-mul, le-mul-of-pos-right, div-eq-of-lt, div-eq-of-lt-le, div-add-mod', div-le-self, eq-or-ne, ne-eqb}
 use Rattle.numbers.specs.Gcd.{gcdOf}
 use Rattle.flat.specs.Passes.{rowGroup, columnGroup, row1, source2, row3}
 use Rattle.flat.proofs.Sides.{Sides, sides-are, rows1-apart, rows3-apart}
@@ -9,11 +9,10 @@ use Rattle.walks.specs.PrivateWalk.{walk}
 use Rattle.walks.proofs.Steps.{walk-start, walk-more, walk-lt}
 use Rattle.walks.proofs.Passes.{shared-le, row1-start, row3-walk, row-below}
 use Rattle.walks.proofs.Source.{state-first, next-group, next-lap, next-round, row-next, row-round, source-at, column-lt}
-use Rattle.passes.specs.Lines.{received}
-use Rattle.passes.specs.PrivateScratch.{Grouped, Apart, OfPass}
-use Rattle.passes.specs.PrivateWalks.{begun, risen, onward, stands, Low, Small, Follows, SourceAt, Begins, Inverted}
-use Rattle.passes.specs.declared.line.GroupedSides.{GroupedSides}
-use Rattle.passes.specs.declared.line.Line.{Line}
+use Rattle.passes.specs.PrivateScratch.{Grouped, Apart}
+use Rattle.passes.specs.PrivateWalks.{begun, risen, onward, stands, Low, Small, Follows, SourceAt, WalkOf}
+use Rattle.passes.specs.declared.sides.GroupedSides.{GroupedSides}
+use Rattle.passes.specs.declared.line.Pass.the-variants.{First, Second, Third}
 use Rattle.passes.specs.declared.walk.Place.{Place}
 use Rattle.passes.specs.declared.walk.Walk.{Walk}
 use Rattle.passes.proofs.Walks.{past-end, at-break, within-run, keeps}
@@ -118,7 +117,7 @@ module _ {m n : ℕ} (d : Sides m n) (hm : 0 < m) (hn : 0 < n) where
         follow (SourceAt m n i)
         (record { short = b-le; turns = omega (arith, v .small); modulus = omega arith; round = b-le; size = c-le })
         (λ e. w .place ∙ ap (λ (z : ℕ). z * b + w .column) e ∙ omega (arith, zero-mul b, early w (omega arith)))
-        (received-apart d hm hn 2 i h)
+        (received-apart d hm hn Second i h)
         w
         (λ k q _ y. source-next k q y)
         (λ k q l y. (
@@ -179,38 +178,25 @@ module _ {m n : ℕ} (d : Sides m n) (hm : 0 < m) (hn : 0 < n) where
           ap (λ (z : ℕ). row3 m n z j) (w .at) ∙ row3-walk d j (w .g) (p .group) (group-lt w l) (w .low) ∙ ap (λ (z : ℕ). walk z (n % m) m (p .group)) (sym (w .lap)) ∙ sym (w .place),
         ))
 
--- the walk that the test of the pass picks is that of the line
-module _ {s : GroupedSides} (g : Grouped s) (l : Line) (o : OfPass (s .m) (s .n) l) where
+-- the walk of each pass, as the function makes it of the sides, is that of line i
+module _ {s : GroupedSides} (g : Grouped s) where
   flat : Sides (s .m) (s .n)
   flat = sides-are (s .m) (s .n) (g .m-pos) (g .n-pos)
 
-  -- what follows the sources, or the rows, of the line
-  abbrev Goes : Walk → Place → Type 0
-  Goes w p = Follows w p (l .count) (received (s .m) (s .n) (l .pass) (l .index))
+  -- a walk that follows all that another follows
+  abbrev Joins : Walk → Walk → ℕ → Type 0
+  Joins v w count = (q : Place) (f : ℕ → ℕ) → Follows v q count f → Follows w q count f
 
-  pub walk-1 : {p : Place} → l .pass ≡ 1 → Begins (s .m) (s .n) (l .pass) (l .index) p
-      → Goes (record { step = 1; modulus = s .m; size = s .m; turn = 0; round = s .m; split = 0 }) p
-  walk-1 e y = let q = rw e at o in rw (y .one e, q .0, e) (follows-1 flat (g .m-pos) (g .n-pos) (l .index) (q .1))
+  pub walk-1 : {i : ℕ} → i < s .n → WalkOf (s .m) (s .n) First i (record { step = 1; modulus = s .m; size = s .m; turn = 0; round = s .m; split = 0 })
+  walk-1 {i} h q e = rw e (follows-1 flat (g .m-pos) (g .n-pos) i h)
 
-  pub walk-2 : {w : Walk} {p : Place} {x : ℕ} → l .pass ≡ 2 → Inverted (s .m) (s .n) (l .pass) x → Begins (s .m) (s .n) (l .pass) (l .index) p
-      → ((p : Place) (f : ℕ → ℕ) → Follows (record { step = s .b; modulus = s .n; size = s .c; turn = x; round = s .b; split = s .m - l .index }) p (s .n) f → Follows w p (s .n) f)
-      → Goes w p
-  walk-2 {p = p} e v y f =
-      let q = rw e at o in
-      let h = f p (source2 (s .m) (s .n) (l .index)) (rw (g .b-is, g .c-is) (follows-2 flat (g .m-pos) (g .n-pos) (v e) (q .1) (y .two e))) in
-      rw (q .0, e) h
+  pub walk-2 : {w : Walk} {i x : ℕ} → i < s .m → Inverse (rowGroup (s .m) (s .n)) (columnGroup (s .m) (s .n)) x
+      → Joins (record { step = s .b; modulus = s .n; size = s .c; turn = x; round = s .b; split = s .m - i }) w (s .n) → WalkOf (s .m) (s .n) Second i w
+  walk-2 {i = i} h v f q y = f q (source2 (s .m) (s .n) i) (rw (g .b-is, g .c-is) (follows-2 flat (g .m-pos) (g .n-pos) v h y))
 
-  pub walk-3 : {w : Walk} {p : Place} → (l .pass ≡ 1 → ⊥) → (l .pass ≡ 2 → ⊥) → Begins (s .m) (s .n) (l .pass) (l .index) p
-      → ((p : Place) (f : ℕ → ℕ) → Follows (record { step = s .down; modulus = s .m; size = s .a; turn = s .m - 1; round = s .m; split = 0 }) p (s .m) f → Follows w p (s .m) f)
-      → Goes w p
-  walk-3 {w} {p} d e y f =
-      let q = rw (ne-eqb _ _ e) at o in
-      let i = l .index in
-      let m = s .m in
-      let n = s .n in
-      let h = f (begun (i % m)) (λ k. row3 m n k i) (rw (g .down-is, g .a-is) (follows-3 flat (g .m-pos) (g .n-pos) i (q .1))) in
-      subst (λ (t : Bool). Follows w p (l .count) (λ k. cond t (row1 m n k i) (cond (eqb (l .pass) 2) (source2 m n i k) (row3 m n k i)))) (sym (ne-eqb _ _ d))
-      (subst (λ (t : Bool). Follows w p (l .count) (λ k. cond t (source2 m n i k) (row3 m n k i))) (sym (ne-eqb _ _ e)) (rw (q .0, y .three d e) h))
+  pub walk-3 : {w : Walk} {i : ℕ} → i < s .n
+      → Joins (record { step = s .remainder; modulus = s .m; size = s .a; turn = s .m - 1; round = s .m; split = 0 }) w (s .m) → WalkOf (s .m) (s .n) Third i w
+  walk-3 {i = i} h f q e = rw e (f (begun (i % s .m)) (λ k. row3 (s .m) (s .n) k i) (rw (g .remainder-is, g .a-is) (follows-3 flat (g .m-pos) (g .n-pos) i h)))
 
 -- the numbers on the way to the source of place 0 of row i, where k·c is the first multiple of c from i on
 pub record Sought (s : GroupedSides) (x i k : ℕ) : Type 0 where

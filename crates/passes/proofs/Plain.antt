@@ -6,6 +6,7 @@ use Rattle.flat.specs.Passes.{row1, column2, row3}
 use Rattle.passes.specs.Lines.{Moved, column, row, lineOf, skipped, lineCount, posOn, LineMoved}
 use Rattle.passes.specs.Plain.{ColumnMoved, RowMoved, firstLines, LineTicked}
 use Rattle.passes.specs.declared.line.Line.{Line}
+use Rattle.passes.specs.declared.line.Pass.the-variants.{First, Third}
 use Rattle.passes.proofs.Gone.{column-at, row-at}
 use Rattle.passes.proofs.Passed.{line1, line2, line3}
 
@@ -93,8 +94,8 @@ module _ (m n done : ℕ) (xs ys : List ℕ) (hn : 0 < n) (exact : length xs ≡
   in-1 h =
       let z : skipped m n + done ≡ done = omega (arith, none-out m n done h) in
       let d : done < n = omega (arith, shared m n) in
-      named (column m n 1 done) (rw z (line1 m n done d))
-      (column-plain m n xs ys hn exact (posOn (column m n 1 done)) (λ i. row1 m n i done) done d (column-at m n 1 done))
+      named (column m n First done) (rw z (line1 m n done d))
+      (column-plain m n xs ys hn exact (posOn (column m n First done)) (λ i. row1 m n i done) done d (column-at m n First done))
 
   in-2 : (i : ℕ) → i < m → done ≡ firstLines m n + i → RowMoved m n i (λ j. column2 m n i j) xs ys ↔ Now
   in-2 i h e =
@@ -105,8 +106,8 @@ module _ (m n done : ℕ) (xs ys : List ℕ) (hn : 0 < n) (exact : length xs ≡
   in-3 : (j : ℕ) → j < n → done ≡ firstLines m n + m + j → ColumnMoved m n j (λ i. row3 m n i j) xs ys ↔ Now
   in-3 j h e =
       let z : skipped m n + done ≡ n + m + j = omega (arith, shared m n) in
-      named (column m n 3 j) (rw z (line3 m n j))
-      (column-plain m n xs ys hn exact (posOn (column m n 3 j)) (λ i. row3 m n i j) j h (column-at m n 3 j))
+      named (column m n Third j) (rw z (line3 m n j))
+      (column-plain m n xs ys hn exact (posOn (column m n Third j)) (λ i. row3 m n i j) j h (column-at m n Third j))
 
   -- what a tick leaves, in plain words and as the functions have it
   pub plain-ticked : LineTicked m n done xs ys ↔ Stepped m n done xs ys

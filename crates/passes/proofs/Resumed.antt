@@ -9,7 +9,7 @@ use Rattle.stages.specs.Stages.{Memory, call}
 use Rattle.passes.specs.Lines.{lineCount}
 use Rattle.passes.specs.PrivateScratch.{Grouped, Mapped}
 use Rattle.passes.specs.Restart.{turnStages, pastStages, resumeChecks, ResumePromise}
-use Rattle.passes.specs.declared.line.GroupedSides.{GroupedSides}
+use Rattle.passes.specs.declared.sides.GroupedSides.{GroupedSides}
 use Rattle.passes.proofs.Accepted.{Accepted, flat-asked}
 
 -- a call that is refused

@@ -1,42 +1,43 @@
 -- Runs of a line into scratch: the numbers fit, a run that does not come round is a copy, and a line that was lifted and put back has moved.
 use Rattle.lists.proofs.Kit.{_≡_, sym, ap, _∙_, Bool, true, false, List, ⊎-elim, ℕ, _+_, _*_, _-_, _<_, _≤_, mul-le-mul, mul-le-mul-left, mul-add, mul-assoc, mul-one, arith, length, getD, lt-or-ge}
 use Rattle.walks.proofs.Steps.{walk-straight}
-use Rattle.passes.specs.Lines.{Moved, posOn}
-use Rattle.passes.specs.PrivateScratch.{Apart, Lain, Filled, Past, goesTo, comesFrom}
+use Rattle.passes.specs.Lines.{posOn}
+use Rattle.passes.specs.PrivateScratch.{Apart, Lain, Filled, Lifted, LineGone, Past, goesTo}
 use Rattle.passes.specs.PrivateWalks.{placeAt, Walks, Ahead, steps, RunFits}
 use Rattle.passes.specs.declared.line.Line.{Line}
 use Rattle.passes.specs.declared.walk.Place.{Place}
+use Rattle.passes.specs.declared.walk.Run.{Run}
 use Rattle.passes.specs.declared.walk.Walk.{Walk}
 
 -- a line lies in lists of the same lengths
 pub lain-same : {l : Line} {xs scratch held : List ℕ} → length held ≡ length scratch → Lain l xs scratch → Lain l xs held
 lain-same e a = record { inside = a .inside; step = a .step; room = rw e (a .room); few = a .few; near = a .near; front = a .front }
 
-module _ {l : Line} {w : Walk} {from place size : ℕ} {xs scratch : List ℕ} (a : Lain l xs scratch) (f : RunFits w (l .count) from place size) where
+module _ {l : Line} {w : Walk} {r : Run} {xs scratch : List ℕ} (a : Lain l xs scratch) (f : RunFits w (l .count) r) where
   -- the products fit
-  pub run-small : (w .step * size ≤ 16777216) × (l .stride * w .step ≤ 16777216) × (l .stride * from ≤ 16777216)
+  pub run-small : (w .step * r .size ≤ 16777216) × (l .stride * w .step ≤ 16777216)
   run-small =
       let step : w .step ≤ 4096 = omega (arith, f .short, f .round, a .few) in
-      (mul-le-mul {n₂ = 4096} {m₂ = 4096} step (omega (arith, f .on-line, a .few)), mul-le-mul {n₂ = 4096} {m₂ = 4096} (a .near) step, mul-le-mul {n₂ = 4096} {m₂ = 4096} (a .near) (omega (arith, f .on-line, a .few)))
+      (mul-le-mul {n₂ = 4096} {m₂ = 4096} step (omega (arith, f .on-line, a .few)), mul-le-mul {n₂ = 4096} {m₂ = 4096} (a .near) step)
 
   -- a run that does not come round: its places, and where they stand
-  module _ (h : place + w .step * size < w .modulus + w .step) where
-    pub plain-place : (t : ℕ) → t < size → steps w place t ≡ place + w .step * t
-    plain-place t d = walk-straight place (w .step) (w .modulus) t size h d
+  module _ (h : r .place + w .step * r .size < w .modulus + w .step) where
+    pub plain-place : (t : ℕ) → t < r .size → steps w (r .place) t ≡ r .place + w .step * t
+    plain-place t d = walk-straight (r .place) (w .step) (w .modulus) t (r .size) h d
 
-    pub plain-low : (t : ℕ) → t < size → place + w .step * t < l .count
-    plain-low t d = let up : w .step * (t + 1) ≤ w .step * size = mul-le-mul-left (w .step) (omega arith) in omega (arith, f .round, mul-add (w .step) t 1, mul-one (w .step))
+    pub plain-low : (t : ℕ) → t < r .size → r .place + w .step * t < l .count
+    plain-low t d = let up : w .step * (t + 1) ≤ w .step * r .size = mul-le-mul-left (w .step) (omega arith) in omega (arith, f .round, mul-add (w .step) t 1, mul-one (w .step))
 
-    pub plain-at : (t : ℕ) → t < size → posOn l (steps w place t) ≡ l .start + l .stride * place + l .stride * w .step * t
+    pub plain-at : (t : ℕ) → t < r .size → posOn l (steps w (r .place) t) ≡ posOn l (r .place) + l .stride * w .step * t
     plain-at t d =
-        ap (posOn l) (plain-place t d) ∙ omega (arith, mul-add (l .stride) place (w .step * t), mul-assoc (l .stride) (w .step) t)
+        ap (posOn l) (plain-place t d) ∙ omega (arith, mul-add (l .stride) (r .place) (w .step * t), mul-assoc (l .stride) (w .step) t)
 
-    pub plain-apart : Apart (λ t. place + w .step * t) size
+    pub plain-apart : Apart (λ t. r .place + w .step * t) (r .size)
     plain-apart i j hi hj e = f .apart i j hi hj (plain-place i hi ∙ e ∙ sym (plain-place j hj))
 
   -- the words of the line from `from` on
-  pub on-at : (t : ℕ) → posOn l (from + t) ≡ l .start + l .stride * from + l .stride * t
-  on-at t = omega (arith, mul-add (l .stride) from t)
+  pub on-at : (t : ℕ) → posOn l (r .from + t) ≡ posOn l (r .from) + l .stride * t
+  on-at t = omega (arith, mul-add (l .stride) (r .from) t)
 
 -- a run ends with its group at the latest
 pub ahead-le : {w : Walk} {p : Place} {r : ℕ} → p .group < w .size → Ahead w p r → p .group + r ≤ w .size
@@ -58,9 +59,8 @@ module _ {w : Walk} {first : Place} {count : ℕ} (y : Walks w first count) wher
 
 -- lifted, then put back
 module _ (l : Line) {w : Walk} {first : Place} (y : Walks w first (l .count)) (home : Bool) (xs : List ℕ) {scratch held : List ℕ}
-    (h : Filled (goesTo home (placeAt w first)) (λ k. getD xs (posOn l (comesFrom home (placeAt w first) k)) 0) (l .count) scratch held) where
-  pub moved-through : {ys : List ℕ} → Filled (posOn l) (λ k. getD held k 0) (l .count) xs ys
-      → Moved (l .count) (posOn l) (goesTo home (placeAt w first)) (comesFrom home (placeAt w first)) xs ys
+    (h : Lifted l (placeAt w first) home (l .count) xs scratch held) where
+  pub moved-through : {ys : List ℕ} → Filled (posOn l) (λ k. getD held k 0) (l .count) xs ys → LineGone l (placeAt w first) home xs ys
   moved-through r = record {
     same = r .same;
     placed = λ k d. r .placed (goesTo home (placeAt w first) k) (goes-within y home k d) ∙ h .placed k d;

@@ -1,18 +1,17 @@
 -- What the functions of a mapped turn store is what its stages say: the words of a line into scratch, back, or the zeros, up to any word.
 -- A line that fits has its places apart, so the loops' outcome is the list stored into one word after the other.
-use Rattle.lists.proofs.Kit.{_≡_, sym, ap, _∙_, List, _++_, ℕ, _+_, _*_, _/_, _%_, _<_, _≤_, arith, eq-of-mul-eq-mul-left, div-lt-iff-lt-mul, le-trans, length, getD, take, drop, lt-ltb, le-ltb}
-use Rattle.refusals.specs.Scratch.{need, cleared}
+use Rattle.lists.proofs.Kit.{_≡_, sym, ap, _∙_, List, ℕ, _*_, _/_, _%_, _<_, _≤_, arith, eq-of-mul-eq-mul-left, div-lt-iff-lt-mul, le-trans, length, getD, lt-ltb, le-ltb}
+use Rattle.refusals.specs.Scratch.{need}
 use Rattle.flat.specs.Turn.{sides}
-use Rattle.stages.specs.Stages.{Memory, after}
-use Rattle.stages.proofs.Filled.{filled-front}
+use Rattle.stages.specs.Stages.{Memory}
 use Rattle.stages.proofs.Lines.{length-words, part-lift, part-return, part-clear}
-use Rattle.stages.proofs.Moves.{tab-zero}
+use Rattle.moves.specs.Promises.{ZeroPromise}
 use Rattle.passes.specs.Lines.{lineCount, lineOf, posOn, received}
-use Rattle.passes.specs.PrivateScratch.{Fits, Filled, Mapped, stageWords}
+use Rattle.passes.specs.PrivateScratch.{Fits, Filled, Mapped, StageStored, stageWords}
 use Rattle.passes.specs.Restart.{memory, turnLines, turnStages}
-use Rattle.passes.specs.declared.line.GroupedSides.{GroupedSides}
+use Rattle.passes.specs.declared.sides.GroupedSides.{GroupedSides}
 use Rattle.passes.specs.declared.line.Line.{Line}
-use Rattle.passes.proofs.Filled.{filled-is}
+use Rattle.passes.proofs.Filled.{filled-is, zero-filled}
 use Rattle.passes.proofs.Fits.{lies-in, left-fits}
 
 -- the line of a stage
@@ -44,22 +43,21 @@ module _ {s : GroupedSides} {b sc : List ℕ} (g : Mapped s b sc) (p until : ℕ
 
     pub stored-lift : {sc′ : List ℕ} → p % 2 ≡ 0
         → (let l = lineOf (s .m) (s .n) (p / 2) in Filled (λ k. k) (λ k. getD b (posOn l (received (s .m) (s .n) (l .pass) (l .index) k)) 0) until sc sc′)
-        → memory b sc′ p ≡ after (take until (turnStages (s .m) (s .n) .words p (memory b sc p))) (memory b sc p)
+        → StageStored (s .m) (s .n) p until b sc b sc′
     stored-lift e f =
         ap (λ (l : List ℕ). memory b l p) (filled-is (λ i j _ _ q. q) (λ k d. omega (arith, stage-few, stage-fits .lain .room)) f)
         ∙ sym (part-lift (turnLines (s .m) (s .n)) p until (memory b sc p) h e stage-few)
 
     pub stored-back : {b′ : List ℕ} → (p % 2 ≡ 0 → ⊥) → Filled (posOn (lineOf (s .m) (s .n) (p / 2))) (λ k. getD sc k 0) until b b′
-        → memory b′ sc p ≡ after (take until (turnStages (s .m) (s .n) .words p (memory b sc p))) (memory b sc p)
+        → StageStored (s .m) (s .n) p until b sc b′ sc
     stored-back e f =
         let l = lineOf (s .m) (s .n) (p / 2) in
         ap (λ (z : List ℕ). memory z sc p)
         (filled-is (λ i j _ _ q. eq-of-mul-eq-mul-left (l .stride) (stage-fits .lain .step) i j (omega arith)) (λ k d. stage-fits .lain .inside k (le-trans d stage-few)) f)
         ∙ sym (part-return (turnLines (s .m) (s .n)) p until (memory b sc p) h e stage-few)
 
-  pub stored-clear : {sc′ : List ℕ} → lineCount (s .m) (s .n) * 2 ≤ p → sc′ ≡ cleared until sc
-      → memory b sc′ p ≡ after (take until (turnStages (s .m) (s .n) .words p (memory b sc p))) (memory b sc p)
-  stored-clear h e =
+  pub stored-clear : {sc′ : List ℕ} → lineCount (s .m) (s .n) * 2 ≤ p → ZeroPromise 0 until sc sc′
+      → StageStored (s .m) (s .n) p until b sc b sc′
+  stored-clear h z =
       let k : until ≤ need (sides (s .m) (s .n)) = rw (le-ltb p (lineCount (s .m) (s .n) * 2) h) at few in
-      ap (λ (l : List ℕ). memory b l p) (e ∙ sym (filled-front until (λ k. 0) sc (omega (arith, g .room)) ∙ ap (λ (l : List ℕ). l ++ drop until sc) (tab-zero until)))
-      ∙ sym (part-clear (turnLines (s .m) (s .n)) p until (memory b sc p) h k)
+      ap (λ (l : List ℕ). memory b l p) (zero-filled (omega (arith, g .room)) z) ∙ sym (part-clear (turnLines (s .m) (s .n)) p until (memory b sc p) h k)

@@ -12,7 +12,7 @@ use Rattle.passes.specs.Lines.{skipped, lineCount, lineOf, LineMoved}
 use Rattle.passes.specs.PrivateScratch.{Grouped, Lies, Past, Fits}
 use Rattle.passes.specs.Plain.{LineTicked}
 use Rattle.passes.specs.Ticks.{pastCount, tickChecks, TickPromise}
-use Rattle.passes.specs.declared.line.GroupedSides.{GroupedSides}
+use Rattle.passes.specs.declared.sides.GroupedSides.{GroupedSides}
 use Rattle.passes.proofs.Accepted.{flat-accepted, flat-lies, flat-asked, past-cleared}
 use Rattle.passes.proofs.Fits.{line-fits, left-fits, left-short, past-none, past-more}
 use Rattle.passes.proofs.Passed.{skipped-few}

@@ -82,7 +82,7 @@ module _ {w : Walk} {first : Place} {count : ℕ} (y : Walks w first count) {k :
   run-place t d =
       ap (λ (q : Place). q .place) (stands-on w first k t ∙ ap (λ (q : Place). stands w q t) (sym is) ∙ in-run w p (here-low .place) a t d)
 
-  pub run-fits : (size : ℕ) → size ≤ r → k + size ≤ count → RunFits w count k (p .place) size
+  pub run-fits : (size : ℕ) → size ≤ r → k + size ≤ count → RunFits w count (record { from = k; place = p .place; size = size })
   run-fits size few on-line = record {
     low = here-low .place;
     short = y .small .short;

@@ -4,11 +4,13 @@ use mathlib.Core.Bool.{cond}
 use mathlib.Core.Path.{_≡_}
 use mathlib.Core.List.{List}
 use Prim.Native.Nat.{ℕ, _+_, _*_, _-_, _<_}
-use lib.Dec.{ltb, eqb}
+use lib.Dec.{ltb}
 use lib.ListN.{length, getD}
 use Rattle.numbers.specs.Gcd.{gcdOf}
 use Rattle.flat.specs.Passes.{row1, column2, source2, row3}
 use Rattle.passes.specs.declared.line.Line.{Line}
+use Rattle.passes.specs.declared.line.Pass.{Pass}
+use Rattle.passes.specs.declared.line.Pass.the-variants.{First, Second, Third}
 
 -- of `count` words of the buffer at the offsets pos 0, pos 1, .. the one at place `from k` now stands at place `to k`; every other word stands
 pub record Moved (count : ℕ) (pos to from : ℕ → ℕ) (xs ys : List ℕ) : Type 0 where
@@ -16,27 +18,25 @@ pub record Moved (count : ℕ) (pos to from : ℕ → ℕ) (xs ys : List ℕ) : 
   pub placed : (k : ℕ) → k < count → getD ys (pos (to k)) 0 ≡ getD xs (pos (from k)) 0
   pub others : (p : ℕ) → ((k : ℕ) → k < count → pos k ≡ p → ⊥) → getD ys p 0 ≡ getD xs p 0
 
--- the place with which pass p pairs place k of its line t: the row that row k receives from in passes 1 and 3, the column that column k goes to in pass 2
-abbrev pub paired : ℕ → ℕ → ℕ → ℕ → ℕ → ℕ
-paired m n p t k = cond (eqb p 1) (row1 m n k t) (cond (eqb p 2) (column2 m n t k) (row3 m n k t))
-
--- the place of line t from which place k receives its word in pass p
-abbrev pub received : ℕ → ℕ → ℕ → ℕ → ℕ → ℕ
-received m n p t k = cond (eqb p 1) (row1 m n k t) (cond (eqb p 2) (source2 m n t k) (row3 m n k t))
+-- the place of line t from which place k receives its word in a pass
+abbrev pub received : ℕ → ℕ → Pass → ℕ → ℕ → ℕ
+received m n First t k = row1 m n k t
+received m n Second t k = source2 m n t k
+received m n Third t k = row3 m n k t
 
 -- column j in pass p
-abbrev pub column : ℕ → ℕ → ℕ → ℕ → Line
+abbrev pub column : ℕ → ℕ → Pass → ℕ → Line
 column m n p j = record { pass = p; index = j; start = j; stride = n; count = m }
 
 -- row i in pass 2
 abbrev pub row : ℕ → ℕ → Line
-row n i = record { pass = 2; index = i; start = i * n; stride = 1; count = n }
+row n i = record { pass = Second; index = i; start = i * n; stride = 1; count = n }
 
 -- line t where no pass is left out: the n columns of pass 1, then the m rows of pass 2, then the n columns of pass 3
 unfoldable pub lineAt : ℕ → ℕ → ℕ → Line
 lineAt m n t =
-    cond (ltb t n) (column m n 1 t)
-    (cond (ltb t (n + m)) (row n (t - n)) (column m n 3 (t - (n + m))))
+    cond (ltb t n) (column m n First t)
+    (cond (ltb t (n + m)) (row n (t - n)) (column m n Third (t - (n + m))))
 
 -- how many columns of pass 1 are left out: all of them where the sides share no factor
 unfoldable pub skipped : ℕ → ℕ → ℕ
@@ -54,14 +54,18 @@ lineOf m n l = lineAt m n (skipped m n + l)
 abbrev pub posOn : Line → ℕ → ℕ
 posOn l k = l .start + l .stride * k
 
--- the place of the line that the k-th word goes to: passes 1 and 3 gather, pass 2 scatters
-abbrev pub toPlace : ℕ → ℕ → Line → ℕ → ℕ
-toPlace m n l k = cond (eqb (l .pass) 2) (paired m n (l .pass) (l .index) k) k
+-- the place of line t that its k-th word goes to in a pass: passes 1 and 3 gather, pass 2 scatters
+abbrev pub toPlace : ℕ → ℕ → Pass → ℕ → ℕ → ℕ
+toPlace m n First t k = k
+toPlace m n Second t k = column2 m n t k
+toPlace m n Third t k = k
 
--- the place of the line that it comes from
-abbrev pub fromPlace : ℕ → ℕ → Line → ℕ → ℕ
-fromPlace m n l k = cond (eqb (l .pass) 2) k (paired m n (l .pass) (l .index) k)
+-- the place of line t that it comes from
+abbrev pub fromPlace : ℕ → ℕ → Pass → ℕ → ℕ → ℕ
+fromPlace m n First t k = row1 m n k t
+fromPlace m n Second t k = k
+fromPlace m n Third t k = row3 m n k t
 
 -- the line has moved as its pass says
 abbrev pub LineMoved : ℕ → ℕ → Line → List ℕ → List ℕ → Type 0
-LineMoved m n l xs ys = Moved (l .count) (posOn l) (toPlace m n l) (fromPlace m n l) xs ys
+LineMoved m n l xs ys = Moved (l .count) (posOn l) (toPlace m n (l .pass) (l .index)) (fromPlace m n (l .pass) (l .index)) xs ys

@@ -1,15 +1,22 @@
 -- These definitions serve only the contracts of private functions: a reader of the promises can pass over them.
 -- Walks over the places that a line receives its words from. Assumes nothing: these are definitions.
-use mathlib.Core.Bool.{cond}
+use mathlib.Core.Bool.{Bool, cond}
 use mathlib.Core.Path.{_≡_}
 use mathlib.Core.Logic.{_⊎_}
+use mathlib.Core.List.{List}
 use Prim.Native.Nat.{ℕ, zero, suc, _+_, _*_, _/_, _%_, _<_, _≤_}
 use lib.Dec.{eqb}
+use lib.ListN.{getD}
 use Rattle.flat.specs.Passes.{rowGroup, columnGroup}
 use Rattle.walks.specs.PrivateWalk.{walk}
 use Rattle.walks.specs.PrivateSource.{Inverse, StateAt}
-use Rattle.passes.specs.PrivateScratch.{Apart}
+use Rattle.passes.specs.Lines.{received, posOn}
+use Rattle.passes.specs.PrivateScratch.{Apart, Filled, wordsIn}
+use Rattle.passes.specs.declared.line.Line.{Line}
+use Rattle.passes.specs.declared.line.Pass.{Pass}
+use Rattle.passes.specs.declared.line.Pass.the-variants.{First, Second, Third}
 use Rattle.passes.specs.declared.walk.Place.{Place}
+use Rattle.passes.specs.declared.walk.Run.{Run}
 use Rattle.passes.specs.declared.walk.Walk.{Walk}
 
 -- a walk at the first place of a group that starts at `lap`
@@ -77,13 +84,18 @@ pub record Ahead (w : Walk) (p : Place) (r : ℕ) : Type 0 where
 abbrev pub steps : Walk → ℕ → ℕ → ℕ
 steps w place t = walk place (w .step) (w .modulus) t
 
--- a run of `size` places from `place` on: they are different, and those that are read or written on the other side, from `from` on, are on the line
-pub record RunFits (w : Walk) (count from place size : ℕ) : Type 0 where
-  pub low : place < w .modulus
+-- a run of a walk over a line of `count` places: its places are different, and those over against them are on the line
+pub record RunFits (w : Walk) (count : ℕ) (r : Run) : Type 0 where
+  pub low : r .place < w .modulus
   pub short : w .step ≤ w .modulus
   pub round : w .modulus ≤ count
-  pub on-line : from + size ≤ count
-  pub apart : Apart (steps w place) size
+  pub on-line : r .from + r .size ≤ count
+  pub apart : Apart (steps w (r .place)) (r .size)
+
+-- scratch has the words of a run of a line: each in the place over against the one that the walk goes over, or, home, the other way round
+abbrev pub RunLifted : Line → Walk → Bool → Run → List ℕ → List ℕ → List ℕ → Type 0
+RunLifted l w home r xs before after =
+    Filled (λ t. cond home (steps w (r .place) t) (r .from + t)) (λ t. getD xs (posOn l (cond home (r .from + t) (steps w (r .place) t))) 0) (r .size) before after
 
 -- a walk over the sources of row i stands at place j
 pub record SourceAt (m n i j : ℕ) (p : Place) : Type 0 where
@@ -91,12 +103,18 @@ pub record SourceAt (m n i j : ℕ) (p : Place) : Type 0 where
   pub state : StateAt m n i j (p .group) (p .lap) column
   pub place : p .place ≡ p .group * columnGroup m n + column
 
--- the walk over a line of a pass begins at p
-pub record Begins (m n pass index : ℕ) (p : Place) : Type 0 where
-  pub one : pass ≡ 1 → p ≡ risen (index / columnGroup m n)
-  pub two : pass ≡ 2 → SourceAt m n index 0 p
-  pub three : (pass ≡ 1 → ⊥) → (pass ≡ 2 → ⊥) → p ≡ begun (index % m)
+-- the walk over line `index` of a pass begins at p
+abbrev pub Begins : ℕ → ℕ → Pass → ℕ → Place → Type 0
+Begins m n First index p = p ≡ risen (index / columnGroup m n)
+Begins m n Second index p = SourceAt m n index 0 p
+Begins m n Third index p = p ≡ begun (index % m)
 
 -- a row needs the inverse of a modulo b
-abbrev pub Inverted : ℕ → ℕ → ℕ → ℕ → Type 0
-Inverted m n pass x = pass ≡ 2 → Inverse (rowGroup m n) (columnGroup m n) x
+abbrev pub Inverted : ℕ → ℕ → Pass → ℕ → Type 0
+Inverted m n First x = Unit
+Inverted m n Second x = Inverse (rowGroup m n) (columnGroup m n) x
+Inverted m n Third x = Unit
+
+-- the walk, wherever it begins, goes over the places that line t of a pass receives from
+abbrev pub WalkOf : ℕ → ℕ → Pass → ℕ → Walk → Type 0
+WalkOf m n pass t w = (p : Place) → Begins m n pass t p → Follows w p (wordsIn m n pass) (received m n pass t)

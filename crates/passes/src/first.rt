@@ -1,14 +1,15 @@
 // Where the walk over a line begins: worked out for one line, or carried on from the line before, with no division.
-use crate::line::GroupedSides;
-use crate::line::Line;
+use crate::line::Pass;
+use crate::sides::GroupedSides;
 use crate::walk;
 use crate::walk::Place;
 ghost use mathlib.Core.Path.{_≡_};
 ghost use Prim.Native.Nat.{_+_, _/_, _<_, _≤_};
 ghost use Rattle.flat.specs.Passes.{rowGroup, columnGroup};
 ghost use Rattle.walks.specs.PrivateSource.{Inverse};
-ghost use Rattle.passes.specs.PrivateScratch.{Grouped, OfPass};
-ghost use Rattle.passes.specs.PrivateWalks.{SourceAt, Begins, Inverted};
+ghost use Rattle.passes.specs.declared.line.Pass.{Pass};
+ghost use Rattle.passes.specs.PrivateScratch.{Grouped, linesIn};
+ghost use Rattle.passes.specs.PrivateWalks.{begun, risen, SourceAt, Begins, Inverted};
 
 // The source of place 0 of row i.
 fn source(s: GroupedSides, inverse: usize, i: usize) -> Place
@@ -74,23 +75,21 @@ fn quotient_on(q: usize, j: usize, b: usize) -> usize
     q
 }
 
-// The first place of the walk over a line.
-pub(crate) fn first_of(s: GroupedSides, inverse: usize, l: Line) -> Place
-    requires { ⌜ Grouped s × (l .pass ≡ 2 → l .index < s .m) × Inverted (s .m) (s .n) (l .pass) inverse ⌝ }
-    ensures { λ r. ⌜ Begins (s .m) (s .n) (l .pass) (l .index) r ⌝ }
+// A walk over one group of places, in their own order, stands at a row.
+fn rise(row: usize) -> Place
+    ensures { λ r. ⌜ r ≡ risen row ⌝ }
 {
-    if l.pass == 2 {
-        return source(s, inverse, l.index);
+    Place {
+        place: row,
+        group: row,
+        lap: 0,
     }
-    if l.pass == 1 {
-        let turn = l.index / s.b;
-        return Place {
-            place: turn,
-            group: turn,
-            lap: 0,
-        };
-    }
-    let row = l.index % s.m;
+}
+
+// A walk stands at the first place of a group that starts at a row.
+fn begin(row: usize) -> Place
+    ensures { λ r. ⌜ r ≡ begun row ⌝ }
+{
     Place {
         place: row,
         group: 0,
@@ -98,26 +97,26 @@ pub(crate) fn first_of(s: GroupedSides, inverse: usize, l: Line) -> Place
     }
 }
 
-// The first place of the walk over the line after line l of its pass, of which it is p.
-pub(crate) fn next_first(s: GroupedSides, inverse: usize, l: Line, p: Place) -> Place
-    requires { ⌜ Grouped s × OfPass (s .m) (s .n) l × Inverted (s .m) (s .n) (l .pass) inverse × Begins (s .m) (s .n) (l .pass) (l .index) p ⌝ }
-    ensures { λ r. ⌜ Begins (s .m) (s .n) (l .pass) (l .index + 1) r ⌝ }
+// The first place of the walk over line t of a pass.
+pub(crate) fn first_of(s: GroupedSides, inverse: usize, pass: Pass, t: usize) -> Place
+    requires { ⌜ Grouped s × (pass ≡ Pass.Second → t < s .m) × Inverted (s .m) (s .n) pass inverse ⌝ }
+    ensures { λ r. ⌜ Begins (s .m) (s .n) pass t r ⌝ }
 {
-    if l.pass == 2 {
-        return below(s, inverse, l.index, p);
+    match pass {
+        Pass::First => rise(t / s.b),
+        Pass::Second => source(s, inverse, t),
+        Pass::Third => begin(t % s.m),
     }
-    if l.pass == 1 {
-        let turn = quotient_on(p.place, l.index, s.b);
-        return Place {
-            place: turn,
-            group: turn,
-            lap: 0,
-        };
-    }
-    let row = walk::step_on(p.place, 1, s.m);
-    Place {
-        place: row,
-        group: 0,
-        lap: row,
+}
+
+// The first place of the walk over the line after line t of a pass, of which it is p.
+pub(crate) fn next_first(s: GroupedSides, inverse: usize, pass: Pass, t: usize, p: Place) -> Place
+    requires { ⌜ Grouped s × (t < linesIn (s .m) (s .n) pass) × Inverted (s .m) (s .n) pass inverse × Begins (s .m) (s .n) pass t p ⌝ }
+    ensures { λ r. ⌜ Begins (s .m) (s .n) pass (t + 1) r ⌝ }
+{
+    match pass {
+        Pass::First => rise(quotient_on(p.place, t, s.b)),
+        Pass::Second => below(s, inverse, t, p),
+        Pass::Third => begin(walk::step_on(p.place, 1, s.m)),
     }
 }

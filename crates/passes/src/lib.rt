@@ -3,42 +3,47 @@ mod first;
 mod gcd;
 mod line;
 mod restart;
-mod scratch;
+mod sides;
 mod turning;
 mod walk;
 
+ghost use mathlib.Core.Path.{_≡_};
+ghost use Prim.Native.Nat.{_≤_};
+ghost use lib.ListN.{length};
+ghost use Rattle.refusals.specs.Scratch.{need, cleared};
+ghost use Rattle.flat.specs.Turn.{sides};
 ghost use Rattle.passes.specs.Promises.{TurnPromise, TurnBackPromise, ClearPromise};
+ghost use Rattle.passes.specs.PrivateScratch.{TurnsPromise};
 ghost use Rattle.passes.specs.Ticks.{LinesPromise, TickPromise};
 ghost use Rattle.passes.specs.Restart.{memory, ResumePromise};
 
-// Turns the m by n block that fills a buffer, through scratch of max(m, n) words: 0, or 1, 2, 3, 13, 4.
-pub fn turn(buf: &mut [u32], scratch: &mut [u32], m: usize, n: usize) -> u32
-    ensures { λ r. ⌜ TurnPromise m n (now (buf .entry)) (now (scratch .entry)) r (now (buf .exit)) (now (scratch .exit)) ⌝ }
+// Turns the m by n block that fills a buffer, or, home, undoes its turn, through scratch of max(m, n) words: 0, or 1, 2, 3, 13, 4.
+fn turn_or_home(buf: &mut [u32], scratch: &mut [u32], m: usize, n: usize, home: bool) -> u32
+    ensures { λ r. ⌜ TurnsPromise m n home (now (buf .entry)) (now (scratch .entry)) r (now (buf .exit)) (now (scratch .exit)) ⌝ }
 {
     let lens = [m, n];
     let number = checks::passes_number(&lens, buf, scratch);
     if number != 0 {
         return number;
     }
-    let s = turning::group_sides(m, n);
-    turning::turn_at(buf, scratch, s);
-    scratch::clear_longest(scratch, m, n);
+    let s = sides::group_sides(m, n);
+    turning::turn_at(buf, scratch, s, home);
+    clear_longest(scratch, m, n);
     0
+}
+
+// Turns the m by n block that fills a buffer, through scratch of max(m, n) words: 0, or 1, 2, 3, 13, 4.
+pub fn turn(buf: &mut [u32], scratch: &mut [u32], m: usize, n: usize) -> u32
+    ensures { λ r. ⌜ TurnPromise m n (now (buf .entry)) (now (scratch .entry)) r (now (buf .exit)) (now (scratch .exit)) ⌝ }
+{
+    turn_or_home(buf, scratch, m, n, false)
 }
 
 // Undoes the turn of an m by n block: the same checks and the same scratch.
 pub fn turn_back(buf: &mut [u32], scratch: &mut [u32], m: usize, n: usize) -> u32
     ensures { λ r. ⌜ TurnBackPromise m n (now (buf .entry)) (now (scratch .entry)) r (now (buf .exit)) (now (scratch .exit)) ⌝ }
 {
-    let lens = [m, n];
-    let number = checks::passes_number(&lens, buf, scratch);
-    if number != 0 {
-        return number;
-    }
-    let s = turning::group_sides(m, n);
-    turning::turn_home_at(buf, scratch, s);
-    scratch::clear_longest(scratch, m, n);
-    0
+    turn_or_home(buf, scratch, m, n, true)
 }
 
 // How many lines a turn has: the number, and the count, 0 in a refusal.
@@ -57,10 +62,10 @@ pub fn lines(m: usize, n: usize) -> LineCount
     if number != 0 {
         return LineCount { number, count: 0 };
     }
-    let s = turning::group_sides(m, n);
+    let s = sides::group_sides(m, n);
     LineCount {
         number: 0,
-        count: turning::line_count(s),
+        count: sides::line_count(s),
     }
 }
 
@@ -79,18 +84,18 @@ pub fn tick(buf: &mut [u32], scratch: &mut [u32], m: usize, n: usize, done: usiz
     if number != 0 {
         return Ticked { number, done };
     }
-    let s = turning::group_sides(m, n);
-    let count = turning::line_count(s);
+    let s = sides::group_sides(m, n);
+    let count = sides::line_count(s);
     if count < done {
         return Ticked { number: 12, done };
     }
     if count == done {
-        scratch::clear_longest(scratch, m, n);
+        clear_longest(scratch, m, n);
         return Ticked { number: 0, done };
     }
-    let line = turning::line_of(s, done);
+    let line = sides::line_of(s, done);
     turning::forth(buf, scratch, s, line);
-    scratch::clear_longest(scratch, m, n);
+    clear_longest(scratch, m, n);
     Ticked {
         number: 0,
         done: done + 1,
@@ -113,7 +118,7 @@ pub fn resume(
     if number != 0 {
         return number;
     }
-    let s = turning::group_sides(m, n);
+    let s = sides::group_sides(m, n);
     if restart::stage_count(s) < *progress as usize {
         return 23;
     }
@@ -128,6 +133,16 @@ pub fn clear(scratch: &mut [u32], n: usize) -> u32
     if scratch.len() < n {
         return 4;
     }
-    scratch::zero(scratch, n);
+    moves::zero(scratch, 0, n);
     0
+}
+
+// Zeroes as many first words of scratch as the longer side has.
+fn clear_longest(scratch: &mut [u32], m: usize, n: usize)
+    requires { ⌜ need (sides m n) ≤ length (now scratch) ⌝ }
+    ensures { λ _. ⌜ now (scratch .exit) ≡ cleared (need (sides m n)) (now (scratch .entry)) ⌝ }
+{
+    let lens = [m, n];
+    let longest = checks::longest_of(&lens);
+    moves::zero(scratch, 0, longest);
 }

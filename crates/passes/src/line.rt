@@ -1,34 +1,38 @@
 // Lines: one row or column of a block, moved through scratch.
 use crate::walk;
 use crate::walk::Place;
+use crate::walk::Run;
 use crate::walk::Walk;
-ghost use mathlib.Core.Bool.{cond};
+ghost use mathlib.Core.Bool.{true, false};
 ghost use mathlib.Core.Path.{_≡_};
-ghost use Prim.Native.Nat.{ℕ, _+_, _*_, _<_, _≤_};
+ghost use Prim.Native.Nat.{_<_, _≤_};
 ghost use lib.ListN.{length, getD};
-ghost use Rattle.passes.specs.Lines.{posOn, Moved};
-ghost use Rattle.passes.specs.PrivateScratch.{Apart, Inside, Lain, Filled, Past, goesTo, comesFrom};
-ghost use Rattle.passes.specs.PrivateWalks.{steps, placeAt, RunFits, Walks};
+ghost use Rattle.passes.specs.Lines.{posOn};
+ghost use Rattle.passes.specs.PrivateScratch.{Inside, Lain, CanCopy, Copied, Filled, Lifted, LineGone, Past};
+ghost use Rattle.passes.specs.PrivateWalks.{placeAt, RunFits, RunLifted, Walks};
 
-// The sides m and n, their greatest common divisor c and their quotients a and b by it, what n leaves modulo m, and the columns of pass 1 that are
-// left out.
-pub(crate) struct GroupedSides {
-    pub m: usize,
-    pub n: usize,
-    pub a: usize,
-    pub b: usize,
-    pub c: usize,
-    pub down: usize,
-    pub skipped: usize,
+// The passes of a turn: over the columns, over the rows, over the columns again.
+pub(crate) enum Pass {
+    First,
+    Second,
+    Third,
 }
 
 // A line: its pass, its row or column, where its first word stands, how far apart its words stand, how many they are.
 pub(crate) struct Line {
-    pub pass: usize,
+    pub pass: Pass,
     pub index: usize,
     pub start: usize,
     pub stride: usize,
     pub count: usize,
+}
+
+// Where the word of place k of a line stands.
+fn offset_of(l: Line, k: usize) -> usize
+    requires { ⌜ (l .start ≤ 16777216) × (l .stride ≤ 4096) × (k ≤ 4096) ⌝ }
+    ensures { λ r. ⌜ r ≡ posOn l k ⌝ }
+{
+    l.start + l.stride * k
 }
 
 // Words that stand `gap` apart, from offset `from` on, go to places that are `step` apart, from place `to` on.
@@ -41,8 +45,8 @@ fn copy_words(
     step: usize,
     size: usize,
 )
-    requires { ⌜ ((t : ℕ) → t < size → from + gap * t < length (now source)) × ((t : ℕ) → t < size → to + step * t < length (now target)) × Apart (λ t. to + step * t) size ⌝ }
-    ensures { λ _. ⌜ Filled (λ t. to + step * t) (λ t. getD (now (source .entry)) (from + gap * t) 0) size (now (target .entry)) (now (target .exit)) ⌝ }
+    requires { ⌜ CanCopy from gap to step size (now source) (now target) ⌝ }
+    ensures { λ _. ⌜ Copied from gap to step size (now (source .entry)) (now (target .entry)) (now (target .exit)) ⌝ }
 {
     for t in 0..size {
         target[to + step * t] = source[from + gap * t];
@@ -59,8 +63,8 @@ fn copy(
     step: usize,
     size: usize,
 )
-    requires { ⌜ ((t : ℕ) → t < size → from + gap * t < length (now source)) × ((t : ℕ) → t < size → to + step * t < length (now target)) × Apart (λ t. to + step * t) size ⌝ }
-    ensures { λ _. ⌜ Filled (λ t. to + step * t) (λ t. getD (now (source .entry)) (from + gap * t) 0) size (now (target .entry)) (now (target .exit)) ⌝ }
+    requires { ⌜ CanCopy from gap to step size (now source) (now target) ⌝ }
+    ensures { λ _. ⌜ Copied from gap to step size (now (source .entry)) (now (target .entry)) (now (target .exit)) ⌝ }
 {
     if gap != 1 {
         copy_words(source, target, from, gap, to, step, size);
@@ -73,116 +77,81 @@ fn copy(
     copy_words(source, target, from, 1, to, 1, size);
 }
 
-// Scratch receives, from place `from` on, the words of a run that starts at `place` of the line.
-fn gather(
-    buf: &[u32],
-    scratch: &mut [u32],
-    l: Line,
-    w: Walk,
-    from: usize,
-    place: usize,
-    size: usize,
-)
-    requires { ⌜ Lain l (now buf) (now scratch) × RunFits w (l .count) from place size ⌝ }
-    ensures { λ _. ⌜ Filled (λ t. from + t) (λ t. getD (now (buf .entry)) (posOn l (steps w place t)) 0) size (now (scratch .entry)) (now (scratch .exit)) ⌝ }
+// A run of the line is gathered: scratch receives the words of the places that the walk goes over.
+fn gather(buf: &[u32], scratch: &mut [u32], l: Line, w: Walk, run: Run)
+    requires { ⌜ Lain l (now buf) (now scratch) × RunFits w (l .count) run ⌝ }
+    ensures { λ _. ⌜ RunLifted l w false run (now (buf .entry)) (now (scratch .entry)) (now (scratch .exit)) ⌝ }
 {
-    let start = l.start;
-    let stride = l.stride;
-    let mut p = place;
-    for t in 0..size {
-        scratch[from + t] = buf[start + stride * p];
+    let mut p = run.place;
+    for t in 0..run.size {
+        let offset = offset_of(l, p);
+        scratch[run.from + t] = buf[offset];
         p = walk::step_on(p, w.step, w.modulus);
     }
 }
 
-// The words of the line from place `from` on go to the places of scratch of a run that starts at `place`.
-fn scatter(
-    buf: &[u32],
-    scratch: &mut [u32],
-    l: Line,
-    w: Walk,
-    from: usize,
-    place: usize,
-    size: usize,
-)
-    requires { ⌜ Lain l (now buf) (now scratch) × RunFits w (l .count) from place size ⌝ }
-    ensures { λ _. ⌜ Filled (steps w place) (λ t. getD (now (buf .entry)) (posOn l (from + t)) 0) size (now (scratch .entry)) (now (scratch .exit)) ⌝ }
+// A run of the line goes home: its words go to the places of scratch that the walk goes over.
+fn scatter(buf: &[u32], scratch: &mut [u32], l: Line, w: Walk, run: Run)
+    requires { ⌜ Lain l (now buf) (now scratch) × RunFits w (l .count) run ⌝ }
+    ensures { λ _. ⌜ RunLifted l w true run (now (buf .entry)) (now (scratch .entry)) (now (scratch .exit)) ⌝ }
 {
-    let start = l.start;
-    let stride = l.stride;
-    let mut p = place;
-    for t in 0..size {
-        scratch[p] = buf[start + stride * (from + t)];
+    let mut p = run.place;
+    for t in 0..run.size {
+        let offset = offset_of(l, run.from + t);
+        scratch[p] = buf[offset];
         p = walk::step_on(p, w.step, w.modulus);
     }
 }
 
-// The words of a run are gathered into scratch; one that does not come round is copied.
-fn gather_run(
-    buf: &[u32],
-    scratch: &mut [u32],
-    l: Line,
-    w: Walk,
-    from: usize,
-    place: usize,
-    size: usize,
-)
-    requires { ⌜ Lain l (now buf) (now scratch) × RunFits w (l .count) from place size ⌝ }
-    ensures { λ _. ⌜ Filled (λ t. from + t) (λ t. getD (now (buf .entry)) (posOn l (steps w place t)) 0) size (now (scratch .entry)) (now (scratch .exit)) ⌝ }
+// A run of the line is gathered; one that does not come round is copied.
+fn gather_run(buf: &[u32], scratch: &mut [u32], l: Line, w: Walk, run: Run)
+    requires { ⌜ Lain l (now buf) (now scratch) × RunFits w (l .count) run ⌝ }
+    ensures { λ _. ⌜ RunLifted l w false run (now (buf .entry)) (now (scratch .entry)) (now (scratch .exit)) ⌝ }
 {
-    if place + w.step * size < w.modulus + w.step {
-        let offset = l.start + l.stride * place;
-        copy(buf, scratch, offset, l.stride * w.step, from, 1, size);
+    if run.place + w.step * run.size < w.modulus + w.step {
+        let offset = offset_of(l, run.place);
+        copy(
+            buf,
+            scratch,
+            offset,
+            l.stride * w.step,
+            run.from,
+            1,
+            run.size,
+        );
         return;
     }
-    gather(buf, scratch, l, w, from, place, size);
+    gather(buf, scratch, l, w, run);
 }
 
-// The words of a run are scattered into scratch, or copied.
-fn scatter_run(
-    buf: &[u32],
-    scratch: &mut [u32],
-    l: Line,
-    w: Walk,
-    from: usize,
-    place: usize,
-    size: usize,
-)
-    requires { ⌜ Lain l (now buf) (now scratch) × RunFits w (l .count) from place size ⌝ }
-    ensures { λ _. ⌜ Filled (steps w place) (λ t. getD (now (buf .entry)) (posOn l (from + t)) 0) size (now (scratch .entry)) (now (scratch .exit)) ⌝ }
+// A run of the line goes home, or is copied there.
+fn scatter_run(buf: &[u32], scratch: &mut [u32], l: Line, w: Walk, run: Run)
+    requires { ⌜ Lain l (now buf) (now scratch) × RunFits w (l .count) run ⌝ }
+    ensures { λ _. ⌜ RunLifted l w true run (now (buf .entry)) (now (scratch .entry)) (now (scratch .exit)) ⌝ }
 {
-    if place + w.step * size < w.modulus + w.step {
-        let offset = l.start + l.stride * from;
-        copy(buf, scratch, offset, l.stride, place, w.step, size);
+    if run.place + w.step * run.size < w.modulus + w.step {
+        let offset = offset_of(l, run.from);
+        copy(buf, scratch, offset, l.stride, run.place, w.step, run.size);
         return;
     }
-    scatter(buf, scratch, l, w, from, place, size);
+    scatter(buf, scratch, l, w, run);
 }
 
 // A run of the line is lifted into scratch: gathered, or home.
-fn lift_run(
-    buf: &[u32],
-    scratch: &mut [u32],
-    l: Line,
-    w: Walk,
-    home: bool,
-    from: usize,
-    place: usize,
-    size: usize,
-)
-    requires { ⌜ Lain l (now buf) (now scratch) × RunFits w (l .count) from place size ⌝ }
-    ensures { λ _. ⌜ Filled (λ t. cond home (steps w place t) (from + t)) (λ t. getD (now (buf .entry)) (posOn l (cond home (from + t) (steps w place t))) 0) size (now (scratch .entry)) (now (scratch .exit)) ⌝ }
+fn lift_run(buf: &[u32], scratch: &mut [u32], l: Line, w: Walk, home: bool, run: Run)
+    requires { ⌜ Lain l (now buf) (now scratch) × RunFits w (l .count) run ⌝ }
+    ensures { λ _. ⌜ RunLifted l w home run (now (buf .entry)) (now (scratch .entry)) (now (scratch .exit)) ⌝ }
 {
     if home {
-        scatter_run(buf, scratch, l, w, from, place, size);
+        scatter_run(buf, scratch, l, w, run);
         return;
     }
-    gather_run(buf, scratch, l, w, from, place, size);
+    gather_run(buf, scratch, l, w, run);
 }
 
 // The smaller of two numbers.
-fn smaller(x: usize, y: usize) -> usize
-    ensures { λ r. ⌜ (r ≤ x) × (r ≤ y) × (r < y → r ≡ x) ⌝ }
+pub(crate) fn smaller(x: usize, y: usize) -> usize
+    ensures { λ r. ⌜ (r ≤ x) × (r ≤ y) × (r < y → r ≡ x) × (y ≤ x → r ≡ y) ⌝ }
 {
     if x < y {
         return x;
@@ -202,13 +171,18 @@ pub(crate) fn lift(
     until: usize,
 )
     requires { ⌜ Lain l (now buf) (now scratch) × Walks w first (l .count) × (until ≤ l .count) ⌝ }
-    ensures { λ _. ⌜ Filled (goesTo home (placeAt w first)) (λ k. getD (now (buf .entry)) (posOn l (comesFrom home (placeAt w first) k)) 0) until (now (scratch .entry)) (now (scratch .exit)) ⌝ }
+    ensures { λ _. ⌜ Lifted l (placeAt w first) home until (now (buf .entry)) (now (scratch .entry)) (now (scratch .exit)) ⌝ }
 {
     let mut p = first;
     let mut k = 0;
     while k < until {
         let size = smaller(walk::ahead(w, p), until - k);
-        lift_run(buf, scratch, l, w, home, k, p.place, size);
+        let run = Run {
+            from: k,
+            place: p.place,
+            size,
+        };
+        lift_run(buf, scratch, l, w, home, run);
         k += size;
         p = walk::arrive(w, p.lap, p.group + size);
     }
@@ -232,7 +206,7 @@ pub(crate) fn move_line(
     home: bool,
 )
     requires { ⌜ Lain l (now buf) (now scratch) × Walks w first (l .count) ⌝ }
-    ensures { λ _. ⌜ Moved (l .count) (posOn l) (goesTo home (placeAt w first)) (comesFrom home (placeAt w first)) (now (buf .entry)) (now (buf .exit)) × Past (l .count) (now (scratch .entry)) (now (scratch .exit)) ⌝ }
+    ensures { λ _. ⌜ LineGone l (placeAt w first) home (now (buf .entry)) (now (buf .exit)) × Past (l .count) (now (scratch .entry)) (now (scratch .exit)) ⌝ }
 {
     lift(buf, scratch, l, w, first, home, l.count);
     put_back(buf, scratch, l, l.count);

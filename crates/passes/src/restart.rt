@@ -1,25 +1,22 @@
 // A turn in stages: two a line, into scratch and back, then the clearing. Each stage is counted in the progress word after its words.
 use crate::first;
 use crate::line;
-use crate::line::GroupedSides;
-use crate::scratch;
-use crate::turning;
+use crate::line::Pass;
+use crate::sides;
+use crate::sides::GroupedSides;
 use crate::walk;
 ghost use mathlib.Core.Path.{_≡_};
 ghost use Prim.Native.Nat.{_+_, _*_, _≤_};
-ghost use lib.ListN.{take};
-ghost use Rattle.stages.specs.Stages.{after, call};
 ghost use Rattle.passes.specs.Lines.{lineCount};
-ghost use Rattle.passes.specs.PrivateScratch.{Grouped, Mapped, stageWords};
+ghost use Rattle.passes.specs.PrivateScratch.{Grouped, Mapped, StageStored, GoneOn, stageWords};
 ghost use Rattle.passes.specs.PrivateWalks.{Inverted};
-ghost use Rattle.passes.specs.Restart.{memory, turnStages};
 
 // How many stages a turn has.
 pub(crate) fn stage_count(s: GroupedSides) -> usize
     requires { ⌜ Grouped s ⌝ }
     ensures { λ r. ⌜ r ≡ lineCount (s .m) (s .n) * 2 + 1 ⌝ }
 {
-    turning::line_count(s) * 2 + 1
+    sides::line_count(s) * 2 + 1
 }
 
 // How many words stage p stores.
@@ -27,8 +24,8 @@ fn stage_words(s: GroupedSides, p: usize) -> usize
     requires { ⌜ Grouped s ⌝ }
     ensures { λ r. ⌜ r ≡ stageWords (s .m) (s .n) p ⌝ }
 {
-    if p < turning::line_count(s) * 2 {
-        let line = turning::line_of(s, p / 2);
+    if p < sides::line_count(s) * 2 {
+        let line = sides::line_of(s, p / 2);
         return line.count;
     }
     let lens = [s.m, s.n];
@@ -44,17 +41,18 @@ fn store(
     p: usize,
     until: usize,
 )
-    requires { ⌜ Mapped s (now buf) (now scratch) × Inverted (s .m) (s .n) 2 inverse × (until ≤ stageWords (s .m) (s .n) p) ⌝ }
-    ensures { λ _. ⌜ memory (now (buf .exit)) (now (scratch .exit)) p ≡ after (take until (turnStages (s .m) (s .n) .words p (memory (now (buf .entry)) (now (scratch .entry)) p))) (memory (now (buf .entry)) (now (scratch .entry)) p) ⌝ }
+    requires { ⌜ Mapped s (now buf) (now scratch) × Inverted (s .m) (s .n) Pass.Second inverse × (until ≤ stageWords (s .m) (s .n) p) ⌝ }
+    ensures { λ _. ⌜ StageStored (s .m) (s .n) p until (now (buf .entry)) (now (scratch .entry)) (now (buf .exit)) (now (scratch .exit)) ⌝ }
 {
-    if turning::line_count(s) * 2 <= p {
-        scratch::zero(scratch, until);
+    if sides::line_count(s) * 2 <= p {
+        moves::zero(scratch, 0, until);
         return;
     }
-    let line = turning::line_of(s, p / 2);
+    let line = sides::line_of(s, p / 2);
     if p % 2 == 0 {
-        let w = walk::walk_of(s, inverse, line);
-        let first = first::first_of(s, inverse, line);
+        let pass = line.pass;
+        let w = walk::walk_of(s, inverse, pass, line.index);
+        let first = first::first_of(s, inverse, pass, line.index);
         line::lift(buf, scratch, line, w, first, false, until);
         return;
     }
@@ -70,20 +68,19 @@ pub(crate) fn go_on(
     budget: usize,
 )
     requires { ⌜ Mapped s (now buf) (now scratch) × (now progress ≤ lineCount (s .m) (s .n) * 2 + 1) ⌝ }
-    ensures { λ _. ⌜ memory (now (buf .exit)) (now (scratch .exit)) (now (progress .exit)) ≡ call (turnStages (s .m) (s .n)) budget (memory (now (buf .entry)) (now (scratch .entry)) (now (progress .entry))) ⌝ }
+    ensures { λ _. ⌜ GoneOn (s .m) (s .n) budget (now (buf .entry)) (now (scratch .entry)) (now (progress .entry)) (now (buf .exit)) (now (scratch .exit)) (now (progress .exit)) ⌝ }
 {
     let total = stage_count(s);
-    let inverse = turning::inverse_for(s, 2);
+    let inverse = sides::inverse_for(s, Pass::Second);
     let mut left = budget;
     let mut p = *progress as usize;
     // Divides: for a line, to find where it starts.
     while 0 < left && p < total {
         let words = stage_words(s, p);
+        store(buf, scratch, s, inverse, p, line::smaller(words, left));
         if left <= words {
-            store(buf, scratch, s, inverse, p, left);
             left = 0;
         } else {
-            store(buf, scratch, s, inverse, p, words);
             p += 1;
             *progress = p as u32;
             left = left - words - 1;

@@ -1,12 +1,11 @@
 // Walks: the places that a line receives its words from, in rising place, with no division for a word or a run.
-use crate::line::GroupedSides;
-use crate::line::Line;
+use crate::line::Pass;
+use crate::sides::GroupedSides;
 ghost use mathlib.Core.Path.{_≡_};
 ghost use Prim.Native.Nat.{ℕ, _+_, _%_, _<_, _≤_};
-ghost use Rattle.passes.specs.Lines.{received};
-ghost use Rattle.passes.specs.PrivateScratch.{Grouped, OfPass};
+ghost use Rattle.passes.specs.PrivateScratch.{Grouped, linesIn};
 ghost use Rattle.passes.specs.declared.walk.Place.{Place};
-ghost use Rattle.passes.specs.PrivateWalks.{arrived, Follows, Ahead, Begins, Inverted};
+ghost use Rattle.passes.specs.PrivateWalks.{arrived, Follows, Ahead, Inverted, WalkOf};
 
 // A walk over groups of `size` places. In a group the place goes up by `step` modulo `modulus`. Each group starts `turn` on from where the one before
 // started, modulo `round`. Where a group has its break, at its place `split`, the place goes one more up, modulo `round`.
@@ -24,6 +23,13 @@ pub(crate) struct Place {
     pub place: usize,
     pub group: usize,
     pub lap: usize,
+}
+
+// A run: `size` steps of a walk from `place` on, over against as many places of a line from `from` on.
+pub(crate) struct Run {
+    pub from: usize,
+    pub place: usize,
+    pub size: usize,
 }
 
 // The place a step on, modulo the modulus.
@@ -55,41 +61,43 @@ fn joined(w: Walk, count: usize) -> Walk
     w
 }
 
-// The walk over a line: in pass 1 the rows from its turn on, and those before it; in pass 2 the sources of a row, group by group; in pass 3 by n modulo m.
-pub(crate) fn walk_of(s: GroupedSides, inverse: usize, l: Line) -> Walk
-    requires { ⌜ Grouped s × OfPass (s .m) (s .n) l × Inverted (s .m) (s .n) (l .pass) inverse ⌝ }
-    ensures { λ r. ⌜ ((p : Place) → Begins (s .m) (s .n) (l .pass) (l .index) p → Follows r p (l .count) (received (s .m) (s .n) (l .pass) (l .index))) ⌝ }
+// The walk over line t of a pass: in pass 1 the rows from its turn on, and those before it; in pass 2 the sources of a row, group by group; in pass 3 by n modulo m.
+pub(crate) fn walk_of(s: GroupedSides, inverse: usize, pass: Pass, t: usize) -> Walk
+    requires { ⌜ Grouped s × (t < linesIn (s .m) (s .n) pass) × Inverted (s .m) (s .n) pass inverse ⌝ }
+    ensures { λ r. ⌜ WalkOf (s .m) (s .n) pass t r ⌝ }
 {
-    if l.pass == 1 {
-        return Walk {
+    match pass {
+        Pass::First => Walk {
             step: 1,
             modulus: s.m,
             size: s.m,
             turn: 0,
             round: s.m,
             split: 0,
-        };
+        },
+        Pass::Second => {
+            let sources = Walk {
+                step: s.b,
+                modulus: s.n,
+                size: s.c,
+                turn: inverse,
+                round: s.b,
+                split: s.m - t,
+            };
+            joined(sources, s.n)
+        }
+        Pass::Third => {
+            let rows = Walk {
+                step: s.remainder,
+                modulus: s.m,
+                size: s.a,
+                turn: s.m - 1,
+                round: s.m,
+                split: 0,
+            };
+            joined(rows, s.m)
+        }
     }
-    if l.pass == 2 {
-        let sources = Walk {
-            step: s.b,
-            modulus: s.n,
-            size: s.c,
-            turn: inverse,
-            round: s.b,
-            split: s.m - l.index,
-        };
-        return joined(sources, s.n);
-    }
-    let rows = Walk {
-        step: s.down,
-        modulus: s.m,
-        size: s.a,
-        turn: s.m - 1,
-        round: s.m,
-        split: 0,
-    };
-    joined(rows, s.m)
 }
 
 // How many places lie ahead in the run: up to the break of the group, or to its end.

@@ -1,5 +1,6 @@
 -- `clear` meets its contract: 4 by the test of the length, else the first words are zeroed.
 use Rattle.lists.proofs.Kit.{refl, arith, lt-ltb, le-ltb, needs}
+use Rattle.passes.proofs.Filled.{zero-cleared}
 use Rattle.passes.proofs.clear.Statement.{statement}
 use Rattle.passes.proofs.clear.Tie as tie
 
@@ -16,7 +17,7 @@ returns-2 c =
     let e : tie.Else1 = search in
     record {
       number-is = rw (le-ltb _ _ (e .if1 .left));
-      zeroed = λ _. z .zero .ensures;
+      zeroed = λ _. zero-cleared (e .if1 .left) (z .zero .ensures);
       kept = λ n. absurd (n refl);
     }
 

@@ -1,28 +1,28 @@
 -- `copy_words` meets its contract: the words are stored one after the other.
-use Rattle.lists.proofs.Kit.{_≡_, _+_, _*_, _-_, _<_, _≤_, arith, needs, length, getD}
-use Rattle.passes.specs.PrivateScratch.{Filled}
+use Rattle.lists.proofs.Kit.{_≡_, _+_, _*_, _-_, _<_, _≤_, arith, needs, length}
+use Rattle.passes.specs.PrivateScratch.{Copied}
 use Rattle.passes.proofs.Filled.{filled-none, filled-more}
 use Rattle.passes.proofs.line.copy_words.Statement.{statement}
 use Rattle.passes.proofs.line.copy_words.Tie as tie
 
 abbrev Inv-loop : tie.InvT-loop
-Inv-loop source target₀ from gap to step size t₀ target t = (t ≤ size) × Filled (λ j. to + step * j) (λ j. getD source (from + gap * j) 0) t target₀ target
+Inv-loop source target₀ from gap to step size t₀ target t = (t ≤ size) × Copied from gap to step t source target₀ target
 
 abbrev μ-loop : tie.MeasureT-loop
 μ-loop source target₀ from gap to step size t₀ target t = size - t
 
 -- the word that is read, and the place that it goes to
 inside : (c : tie.In-loop Inv-loop μ-loop) → let a = c .before .before .args in a .from + a .gap * c .before .loop .t < length (a .source .now)
-inside c = let x : tie.Start Inv-loop μ-loop = search in x .pre .0 _ (omega arith)
+inside c = let x : tie.Start Inv-loop μ-loop = search in x .pre .reads _ (omega arith)
 
 there : (c : tie.In-loop Inv-loop μ-loop) → let a = c .before .before .args in a .to + a .step * c .before .loop .t < length (a .target .now)
-there c = let x : tie.Start Inv-loop μ-loop = search in x .pre .1 _ (omega arith)
+there c = let x : tie.Start Inv-loop μ-loop = search in x .pre .stores _ (omega arith)
 
 loop-again : tie.Need-loop-again Inv-loop μ-loop
 loop-again c =
     let l : tie.At-loop Inv-loop μ-loop = search in
     let x : tie.Start Inv-loop μ-loop = search in
-    (omega arith, filled-more {count = x .args .size} (x .pre .2) (omega arith) (there (search)) (l .loop .inv .1))
+    (omega arith, filled-more {count = x .args .size} (x .pre .apart) (omega arith) (there (search)) (l .loop .inv .1))
 
 returns : tie.Need-returns Inv-loop μ-loop
 returns c =

@@ -1,7 +1,7 @@
 -- `lift` meets its contract: after some runs the first k words are in scratch, and the walk stands at place k; the last run may be cut.
 use Rattle.lists.proofs.Kit.{_≡_, refl, sym, ap, _∙_, subst, cond, ⊎-elim, ℕ, _+_, _-_, _<_, _≤_, arith, needs, getD, lt-or-ge}
 use Rattle.passes.specs.Lines.{posOn}
-use Rattle.passes.specs.PrivateScratch.{Filled, goesTo, comesFrom}
+use Rattle.passes.specs.PrivateScratch.{Lifted}
 use Rattle.passes.specs.PrivateWalks.{arrived, stands, placeAt, Low}
 use Rattle.passes.proofs.Filled.{filled-none, filled-on}
 use Rattle.passes.proofs.Walks.{run-place, run-fits, run-next}
@@ -13,7 +13,7 @@ abbrev Inv-loop : tie.InvT-loop
 Inv-loop buf scratch₀ l w home until p₀ k₀ scratch p k =
     (k ≤ until)
     × (k < until → p ≡ stands w p₀ k)
-    × Filled (goesTo home (placeAt w p₀)) (λ j. getD buf (posOn l (comesFrom home (placeAt w p₀) j)) 0) k scratch₀ scratch
+    × Lifted l (placeAt w p₀) home k buf scratch₀ scratch
 
 abbrev μ-loop : tie.MeasureT-loop
 μ-loop buf scratch₀ l w home until p₀ k₀ scratch p k = until - k

@@ -7,7 +7,11 @@ use Rattle.passes.proofs.line.put_back.Tie as tie
 copy-requires : tie.Need-copy-requires
 copy-requires c κs =
     let x : tie.Start = search in
-    (λ t h. omega (arith, x .pre .2), x .pre .0, line-apart (x .args .l .start) (x .args .l .stride) (x .args .until) (x .pre .1))
+    record {
+      reads = λ t h. omega (arith, x .pre .2);
+      stores = x .pre .0;
+      apart = line-apart (x .args .l .start) (x .args .l .stride) (x .args .until) (x .pre .1);
+    }
 
 returns : tie.Need-returns
 returns c =

@@ -7,30 +7,34 @@ use Rattle.passes.proofs.line.scatter_run.Tie as tie
 
 copy-requires : tie.Need-copy-requires
 copy-requires c κs =
-    let t : tie.Then1 = search in
-    let x : tie.Start = search in
-    let a = x .pre .0 in
-    let f = x .pre .1 in (
-      λ k h. rw (← on-at a f k) (a .inside _ (omega (arith, f .on-line))),
-      λ k h. omega (arith, plain-low a f (t .if1 .taken) k h, a .room),
-      plain-apart a f (t .if1 .taken),
-    )
-
-returns : tie.Need-returns
-returns c =
-    let w : tie.After-copy = search in
+    let o : tie.After-offset-of = search in
     let t : tie.Then1 = search in
     let x : tie.Start = search in
     let a = x .pre .0 in
     let f = x .pre .1 in
-    filled-as (λ k h. plain-place a f (t .if1 .taken) k h) (λ k h. ap (λ (z : ℕ). getD (x .args .buf .now) z 0) (on-at a f k)) (w .copy .ensures)
+    rw (o .offset-of .ensures) (record {
+      reads = λ k h. rw (← on-at a f k) (a .inside _ (omega (arith, f .on-line)));
+      stores = λ k h. omega (arith, plain-low a f (t .if1 .taken) k h, a .room);
+      apart = plain-apart a f (t .if1 .taken);
+    })
+
+returns : tie.Need-returns
+returns c =
+    let w : tie.After-copy = search in
+    let o : tie.After-offset-of = search in
+    let t : tie.Then1 = search in
+    let x : tie.Start = search in
+    let a = x .pre .0 in
+    let f = x .pre .1 in
+    filled-as (λ k h. plain-place a f (t .if1 .taken) k h)
+    (λ k h. ap (λ (z : ℕ). getD (x .args .buf .now) z 0) (on-at a f k))
+    (rw (o .offset-of .ensures) at (w .copy .ensures))
 
 pub scatter-run-spec : {M : Type 1} → statement M
 scatter-run-spec = tie.close (tie.spec
     (λ c. let x : tie.Start = search in omega (arith, run-small (x .pre .0) (x .pre .1)))
     (λ c. let x : tie.Start = search in omega (arith, run-small (x .pre .0) (x .pre .1), x .pre .1 .low, x .pre .1 .round, x .pre .0 .few))
     (λ c. let x : tie.Start = search in omega (arith, x .pre .1 .short, x .pre .1 .round, x .pre .0 .few))
-    (λ c. let x : tie.Start = search in omega (arith, run-small (x .pre .0) (x .pre .1)))
-    (λ c. let x : tie.Start = search in omega (arith, run-small (x .pre .0) (x .pre .1), x .pre .0 .front))
+    (λ c κs. let x : tie.Start = search in (x .pre .0 .front, x .pre .0 .near, omega (arith, x .pre .1 .on-line, x .pre .0 .few)))
     copy-requires (search needs) returns (λ c κs. search needs) (search needs)
     (λ c. let g : tie.After-scatter = search in g .scatter .ensures))

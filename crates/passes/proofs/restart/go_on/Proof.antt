@@ -29,24 +29,18 @@ loop-holds c =
 
 store-requires : tie.Need-store-requires Inv-loop μ-loop
 store-requires c κs =
+    let z : tie.After-smaller Inv-loop μ-loop = search in
     let w : tie.After-stage-words Inv-loop μ-loop = search in
     let l : tie.At-loop Inv-loop μ-loop = search in
     let i : tie.After-inverse-for Inv-loop μ-loop = search in
     let x : tie.Start Inv-loop μ-loop = search in
-    (mapped-in (l .loop .inv .3) (l .loop .inv .4) (x .pre .0), i .inverse-for .ensures, omega (arith, w .stage-words .ensures))
-
-store-requires-2 : tie.Need-store-requires-2 Inv-loop μ-loop
-store-requires-2 c κs =
-    let w : tie.After-stage-words Inv-loop μ-loop = search in
-    let l : tie.At-loop Inv-loop μ-loop = search in
-    let i : tie.After-inverse-for Inv-loop μ-loop = search in
-    let x : tie.Start Inv-loop μ-loop = search in
-    (mapped-in (l .loop .inv .3) (l .loop .inv .4) (x .pre .0), i .inverse-for .ensures, omega (arith, w .stage-words .ensures))
+    (mapped-in (l .loop .inv .3) (l .loop .inv .4) (x .pre .0), i .inverse-for .ensures, omega (arith, z .smaller .ensures .0, w .stage-words .ensures))
 
 loop-again : tie.Need-loop-again Inv-loop μ-loop
 unfolding stagesOf
 loop-again c =
     let t : tie.After-store Inv-loop μ-loop = search in
+    let z : tie.After-smaller Inv-loop μ-loop = search in
     let w : tie.After-stage-words Inv-loop μ-loop = search in
     let l : tie.At-loop Inv-loop μ-loop = search in
     let x : tie.Start Inv-loop μ-loop = search in
@@ -57,14 +51,15 @@ loop-again c =
       search needs,
       search needs,
       search needs,
-      loop-part s (l .loop .left) m (w .stage-words .result) _ (stage-size (x .args .s .m) (x .args .s .n) (l .loop .p) m ∙ sym (w .stage-words .ensures)) (omega (arith, ltb-true)) (omega arith) (t .store .ensures)
+      loop-part s (l .loop .left) m (w .stage-words .result) (memory (t .store .last .0) (t .store .last .1 .0) (l .loop .p)) (stage-size (x .args .s .m) (x .args .s .n) (l .loop .p) m ∙ sym (w .stage-words .ensures)) (omega (arith, ltb-true)) (omega arith) (rw (z .smaller .ensures .3 (omega arith)) at (t .store .ensures))
           ∙ l .loop .inv .5,
     )
 
 loop-again-2 : tie.Need-loop-again-2 Inv-loop μ-loop
 unfolding stagesOf
 loop-again-2 c =
-    let t : tie.After-store2 Inv-loop μ-loop = search in
+    let t : tie.After-store Inv-loop μ-loop = search in
+    let z : tie.After-smaller Inv-loop μ-loop = search in
     let w : tie.After-stage-words Inv-loop μ-loop = search in
     let l : tie.At-loop Inv-loop μ-loop = search in
     let x : tie.Start Inv-loop μ-loop = search in
@@ -76,7 +71,7 @@ loop-again-2 c =
       omega (arith, ltb-true),
       search needs,
       search needs,
-      rw e (loop-stage s (l .loop .left) m (w .stage-words .result) _ (stage-size (x .args .s .m) (x .args .s .n) (l .loop .p) m ∙ sym (w .stage-words .ensures)) (omega (arith, ltb-true)) (omega arith) (t .store2 .ensures))
+      rw e (loop-stage s (l .loop .left) m (w .stage-words .result) (memory (t .store .last .0) (t .store .last .1 .0) (l .loop .p)) (stage-size (x .args .s .m) (x .args .s .n) (l .loop .p) m ∙ sym (w .stage-words .ensures)) (omega (arith, ltb-true)) (omega arith) (rw (z .smaller .ensures .2 (omega (arith, z .smaller .ensures .0))) at (t .store .ensures)))
           ∙ l .loop .inv .5,
     )
 
@@ -97,7 +92,7 @@ returns-2 c =
 
 pub go-on-spec : {M : Type 1} → statement M
 go-on-spec = tie.close (tie.spec
-    Inv-loop μ-loop (λ c κs. search needs) (λ c κs. search needs) loop-holds (λ c κs. search needs) store-requires
-    (search needs) loop-again store-requires-2
+    Inv-loop μ-loop (λ c κs. search needs) (λ c κs. search needs) loop-holds (λ c κs. search needs) (λ c κs. search needs) store-requires
+    (search needs) loop-again
     (search needs) (search needs) (search needs) (search needs) (search needs) loop-again-2
     (search needs) (search needs) returns (search needs) (search needs) returns-2)

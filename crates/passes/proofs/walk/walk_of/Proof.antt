@@ -5,31 +5,34 @@ use Rattle.passes.proofs.walk.walk_of.Statement.{statement}
 use Rattle.passes.proofs.walk.walk_of.Tie as tie
 
 returns : tie.Need-returns
-returns c = λ p y. let t : tie.Then1 = search in let x : tie.Start = search in walk-1 (x .pre .0) (x .args .l) (x .pre .1) (t .if1 .taken) y
+returns c =
+    let t : tie.After-enum-told = search in
+    let x : tie.Start = search in
+    let e = t .enum-told .given .1 in
+    rw e (walk-1 (x .pre .0) (rw e at (x .pre .1)))
 
 -- a row of the block
-row : (t : tie.Then2) → let x = t .before .before .before .before in x .args .l .index < x .args .s .m
-row t = let x : tie.Start = search in let o = rw (t .if2 .taken) at (x .pre .1) in o .1
+row : (t : tie.After-enum-told2) → let x = t .before .before in x .args .t < x .args .s .m
+row t = let x : tie.Start = search in rw (t .enum-told2 .given .1) at (x .pre .1)
 
 returns-2 : tie.Need-returns-2
-returns-2 c = λ p y.
+returns-2 c =
     let j : tie.After-joined = search in
-    let t : tie.Then2 = search in
+    let t : tie.After-enum-told2 = search in
     let x : tie.Start = search in
-    walk-2 (x .pre .0) (x .args .l) (x .pre .1) (t .if2 .taken) (x .pre .2) y (j .joined .ensures)
+    let e = t .enum-told2 .given .1 in
+    rw e (walk-2 (x .pre .0) (row t) (rw e at (x .pre .2)) (j .joined .ensures))
 
 returns-3 : tie.Need-returns-3
-returns-3 c = λ p y.
+returns-3 c =
     let j : tie.After-joined2 = search in
-    let e : tie.Else2 = search in
-    let d : tie.Else1 = search in
+    let t : tie.After-enum-told3 = search in
     let x : tie.Start = search in
-    walk-3 (x .pre .0) (x .args .l) (x .pre .1) (d .if1 .left) (e .if2 .left) y (j .joined2 .ensures)
+    let e = t .enum-told3 .given .1 in
+    rw e (walk-3 (x .pre .0) (rw e at (x .pre .1)) (j .joined2 .ensures))
 
 pub walk-of-spec : {M : Type 1} → statement M
 walk-of-spec = tie.close (tie.spec
-    returns
-    (λ c. let t : tie.Then2 = search in omega (arith, row t))
-    (search needs) returns-2
+    (search needs) (search needs) (λ c. omega (arith, row (search))) (search needs) (search needs)
     (λ c. let x : tie.Start = search in omega (arith, x .pre .0))
-    (search needs) returns-3)
+    (search needs) returns returns-2 returns-3)

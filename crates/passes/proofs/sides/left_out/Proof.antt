@@ -1,7 +1,7 @@
 -- `left_out` meets its contract: the test decides.
 use borrow.Author.Tests.{lt-ltb, le-ltb}
-use Rattle.passes.proofs.turning.left_out.Statement.{statement}
-use Rattle.passes.proofs.turning.left_out.Tie as tie
+use Rattle.passes.proofs.sides.left_out.Statement.{statement}
+use Rattle.passes.proofs.sides.left_out.Tie as tie
 
 pub left-out-spec : {M : Type 1} → statement M
 left-out-spec = tie.close (tie.spec

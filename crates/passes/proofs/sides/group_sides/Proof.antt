@@ -2,8 +2,8 @@
 use Rattle.lists.proofs.Kit.{cond, refl, ap, _∙_, ℕ, _/_, _<_, needs, ltb}
 use Rattle.flat.proofs.Sides.{sides-are}
 use Rattle.passes.specs.Lines.{skipped}
-use Rattle.passes.proofs.turning.group_sides.Statement.{statement}
-use Rattle.passes.proofs.turning.group_sides.Tie as tie
+use Rattle.passes.proofs.sides.group_sides.Statement.{statement}
+use Rattle.passes.proofs.sides.group_sides.Tie as tie
 
 -- there is a divisor to divide by
 divisor : (c : tie.After-gcd) → 0 < c .gcd .result
@@ -26,7 +26,7 @@ returns c =
         a-is = ap (λ (z : ℕ). x .args .m / z) (g .gcd .ensures);
         b-is = ap (λ (z : ℕ). x .args .n / z) (g .gcd .ensures);
         c-is = g .gcd .ensures;
-        down-is = refl;
+        remainder-is = refl;
         skipped-is = c .left-out .ensures ∙ ap (λ (z : ℕ). cond (ltb 1 z) 0 (x .args .n)) (g .gcd .ensures);
       },
     )

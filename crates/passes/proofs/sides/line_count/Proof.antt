@@ -1,8 +1,8 @@
 -- `line_count` meets its contract: no more columns are left out than pass 1 has.
 use Rattle.lists.proofs.Kit.{_≤_, le-trans, arith, needs}
 use Rattle.passes.proofs.Passed.{skipped-le, groups-le}
-use Rattle.passes.proofs.turning.line_count.Statement.{statement}
-use Rattle.passes.proofs.turning.line_count.Tie as tie
+use Rattle.passes.proofs.sides.line_count.Statement.{statement}
+use Rattle.passes.proofs.sides.line_count.Tie as tie
 
 -- the columns that are left out are some of the n
 few : (x : tie.Start) → x .args .s .skipped ≤ x .args .s .n
