@@ -88,34 +88,23 @@ module _ (second : List ℕ → Verdict) (buffer bytes : List ℕ) {first line :
       sets-eq words buffer 0 (omega (arith, fit)) ∙ ap (λ (n : ℕ). words ++ drop n buffer) z₀
 
   -- then the page of the rows
-  module _ {page : Page} {buffer′ : List ℕ} (t : RowsTaken (further line (rowsOf line) bytes) line page buffer buffer′) where
-    meant : {v : Verdict} → further line (rowsOf line) bytes ≡ v
-        → meaningBy second buffer bytes ≡ conclude v (λ (ws : List ℕ) (end : List ℕ). Outcome.accepted (first .lengths) numbers ws)
-    meant e =
-        after-first ∙ after-second
-        ∙ ap (λ (u : Verdict). conclude u (λ (ws : List ℕ) (end : List ℕ). Outcome.accepted (first .lengths) numbers ws)) e
+  meant : {v : Verdict} → further line (rowsOf line) bytes ≡ v
+      → meaningBy second buffer bytes ≡ conclude v (λ (ws : List ℕ) (end : List ℕ). Outcome.accepted (first .lengths) numbers ws)
+  meant e =
+      after-first ∙ after-second ∙ ap (λ (u : Verdict). conclude u (λ (ws : List ℕ) (end : List ℕ). Outcome.accepted (first .lengths) numbers ws)) e
 
-    pub page-read : PageAs (meaningBy second buffer bytes) buffer page buffer′
-    page-read =
-        ⊎-elim
-        (λ (y : page .number ≡ 0).
-        let m = meant (t .right y) in
-        let z : line .number ≡ 0 = sym (ap (λ (p : Page). p .number) (t .stays y)) ∙ y in
-        let judged : further line (rowsOf line) bytes ≡ rowsOf line (drop (line .next) bytes) = rw z in
-        record {
-          answers =
-              t .stays y ∙ s .filled z
-              ∙ ap (λ (p : Page). onPage (first .lengths) numbers (p .next)) (sym (t .stays y))
-              ∙ sym (ap (λ (o : Outcome). pageOf o (page .next)) m);
-          words = t .stored y ∙ rows-front z (sym judged ∙ t .right y) ∙ sym (ap (λ (o : Outcome). kept o buffer) m);
-        })
-        (λ (n : page .number ≡ 0 → ⊥).
-        let m = meant (t .wrong n) in
-        record {
-          answers = t .empty n ∙ sym (ap (λ (o : Outcome). pageOf o (page .next)) m);
-          words = t .kept n ∙ sym (ap (λ (o : Outcome). kept o buffer) m);
-        })
-        (eq-or-ne (page .number) 0)
+  pub page-read : {page : Page} {buffer′ : List ℕ} → RowsTaken (further line (rowsOf line) bytes) line page buffer buffer′
+      → PageAs (meaningBy second buffer bytes) buffer page buffer′
+  page-read (RowsTaken.right e stays stored) =
+      let z = went-on line (rowsOf line) bytes e in
+      let judged : further line (rowsOf line) bytes ≡ rowsOf line (drop (line .next) bytes) = rw z in
+      rw stays
+      (record {
+        answers = s .filled z ∙ sym (ap (λ (o : Outcome). pageOf o (line .next)) (meant e));
+        words = stored ∙ rows-front z (sym judged ∙ e) ∙ sym (ap (λ (o : Outcome). kept o buffer) (meant e));
+      })
+  page-read (RowsTaken.wrong refused e kept-all) =
+      rw refused (record { answers = sym (ap (λ (o : Outcome). pageOf o 0) (meant e)); words = kept-all ∙ sym (ap (λ (o : Outcome). kept o buffer) (meant e)) })
 
 -- a page with two numbers names a release, one with fewer names none
 abbrev pub resultOf : Bool → Page → ResultSheet

@@ -1,19 +1,25 @@
 -- Lines 1 and 2, way out by way out: what each condition that holds, and none before it, makes of the page. Each of the three lines
 -- is read as a word and numbers in one way; they differ in what judges the numbers then. From the definitions.
-use Rattle.lists.proofs.Kit.{_≡_, refl, sym, ap, _∙_, Bool, true, false, cond, not, List, [], _∷_, _++_, ℕ, zero, suc, _+_, _-_, _<_, _≤_, arith, ltb, eqb, length, take, drop, replicate, length-append, take-at, not-true, not-false, lt-ltb, le-ltb, ne-eqb}
-use Rattle.refusals.specs.FirstOf.{check, firstOf}
-use Rattle.refusals.specs.Conditions.{badLength, shortBuffer, longChain, noSwap, badSwap, noOrder, firstPlace}
+use Rattle.lists.proofs.Kit.{_≡_, refl, sym, ap, _∙_, Bool, true, false, not, List, [], _∷_, _++_, ℕ, zero, suc, _+_, _-_, _<_, _≤_, arith, T, ltb, eqb, length, take, drop, replicate, length-append, take-at, not-true, not-false, lt-ltb, le-ltb, ltb→lt, ne-eqb, decided, both-left, both-right}
+use Rattle.refusals.specs.FirstOf.{Check, check, firstOf, refusing}
+use Rattle.refusals.specs.Conditions.{longChain, noSwap, badSwap, noOrder, firstPlace}
 use Rattle.refusals.proofs.Some.{found-place, no-place}
+use Rattle.refusals.proofs.Conditions.{passed}
 use Rattle.text.specs.Read.{Reading, readFields, readLine, tabs}
 use Rattle.text.specs.Sheet.{shapeWord, chainWord, orderWord}
-use Rattle.text.specs.Meaning.{Verdict, bigSheet, onLine, onward, refuseIf, shapeLine, chainLine, lineOrder, wrongRelease, orderFields, orderLine}
+use Rattle.text.specs.Meaning.{Verdict, onLine, onward, refuseIf, shapeLine, chainLine, lineOrder, wrongRelease, orderFields, orderLine}
 use Rattle.text.proofs.Lines.{line-text}
 use Rattle.text.proofs.Steps.{refuse-go, on-line-go, onward-go}
 use Rattle.sheet.specs.declared.page.Page.{Page}
-use Rattle.sheet.specs.Private.{At, There, LineAt, FirstAt, SecondAt, noPage, numbersLine, numbersOf, wordsOf, lineNumber}
+use Rattle.sheet.specs.Private.{At, There, LineAt, FirstAt, SecondAt, noPage, further, numbersLine, numbersOf, wordsOf, lineNumber}
 use Rattle.blocks.specs.Checks.{sheetChecks}
 use Rattle.blocks.proofs.Block.{firstFour, first-four}
 use Rattle.sheet.proofs.LinesAt.{line-fields}
+
+-- a page with these lengths
+abbrev pub withLengths : List ℕ → Page → Page
+withLengths ds page =
+    record { number = page .number; place = page .place; lengths = ds; numbers = page .numbers; count = page .count; next = page .next }
 
 -- a verdict that refuses, and its page
 line-refused : {bytes ds : List ℕ} {page : Page} {what : Verdict} → (page .number ≡ 0 → ⊥) → what ≡ Verdict.refuse (page .number) (page .place)
@@ -114,36 +120,42 @@ module _ {bytes : List ℕ} (before : Page) (word : List ℕ) (n k : ℕ) {ok : 
             inside = l .inside;
           }
 
+-- conditions of a list refuse in turn, each with the place 0: the first that holds gives the number
+abbrev refuseAll : List Check → Verdict → Verdict
+refuseAll [] s = s
+refuseAll (c ∷ cs) s = refuseIf (c .holds) (c .number) 0 (refuseAll cs s)
+
+all-go : (cs : List Check) (s : Verdict) → T (refusing cs) → firstOf cs ≡ 0 → refuseAll cs s ≡ s
+all-go [] s g e = refl
+all-go (c ∷ cs) s g e =
+    let p = passed (c .holds) (c .number) (firstOf cs) (ltb→lt 0 (c .number) (both-left (ltb 0 (c .number)) (refusing cs) g)) e in
+    rw (p .0) (all-go cs s (both-right (ltb 0 (c .number)) (refusing cs) g) (p .1))
+
+all-no : (cs : List Check) (s : Verdict) → (firstOf cs ≡ 0 → ⊥) → refuseAll cs s ≡ Verdict.refuse (firstOf cs) 0
+all-no [] s n = absurd (n refl)
+all-no (c ∷ cs) s n = decided (c .holds) (λ t. rw t) (λ f. rw f (all-no cs s (rw f at n)))
+
 -- the numbers of a line that was read are judged: its refusal stands; else they are refused, or go on
-module _ {bytes ds : List ℕ} {line : Page} {what : Verdict} (l : LineAt bytes ds what line) (judge : List ℕ → List ℕ → Verdict) where
-  refused-on : (line .number ≡ 0 → ⊥) → LineAt bytes ds (onward what judge) line
-  refused-on n = line-refused n (ap (λ (v : Verdict). onward v judge) (l .wrong n)) (l .inside)
+module _ {bytes ds : List ℕ} {line : Page} {what whole : Verdict} (judge : List ℕ → List ℕ → Verdict) (so : whole ≡ onward what judge) (l : LineAt bytes ds what line) where
+  pub form-no : {es : List ℕ} → (line .number ≡ 0 → ⊥) → LineAt bytes es whole line
+  form-no n = line-refused n (so ∙ ap (λ (v : Verdict). onward v judge) (l .wrong n)) (l .inside)
 
   module _ (z : line .number ≡ 0) where
-    judged : onward what judge ≡ judge (wordsOf what) (drop (line .next) bytes)
-    judged = ap (λ (v : Verdict). onward v judge) (l .right z)
+    judged : whole ≡ judge (wordsOf what) (drop (line .next) bytes)
+    judged = so ∙ ap (λ (v : Verdict). onward v judge) (l .right z)
 
-    judged-no : {k p : ℕ} {page : Page} → page ≡ noPage k p → (k ≡ 0 → ⊥) → judge (wordsOf what) (drop (line .next) bytes) ≡ Verdict.refuse k p
-        → LineAt bytes ds (onward what judge) page
-    judged-no r nonzero e = line-no r nonzero (judged ∙ e)
+    judged-go : judge (wordsOf what) (drop (line .next) bytes) ≡ Verdict.go (wordsOf what) (drop (line .next) bytes) → whole ≡ what
+    judged-go e = judged ∙ e ∙ sym (l .right z)
 
-    judged-go : judge (wordsOf what) (drop (line .next) bytes) ≡ Verdict.go (wordsOf what) (drop (line .next) bytes) → LineAt bytes ds (onward what judge) line
-    judged-go e = let same : onward what judge ≡ what = judged ∙ e ∙ sym (l .right z) in rw same l
+    -- by a list of conditions
+    module _ (cs : List Check) (g : T (refusing cs)) (by-checks : judge (wordsOf what) (drop (line .next) bytes)
+        ≡ refuseAll cs (Verdict.go (wordsOf what) (drop (line .next) bytes)))
+        {k : ℕ} (is : k ≡ firstOf cs) where
+      checked-no : {es : List ℕ} {page : Page} → (k ≡ 0 → ⊥) → page ≡ noPage k 0 → LineAt bytes es whole page
+      checked-no n r = line-no r n (judged ∙ by-checks ∙ all-no cs _ (λ e. n (is ∙ e)) ∙ ap (λ (m : ℕ). Verdict.refuse m 0) (sym is))
 
--- three conditions refuse with the number of the first that holds
-three-go : (a b c : Bool) (s : Verdict) → firstOf (check 1 a ∷ check 11 b ∷ check 3 c ∷ []) ≡ 0
-    → refuseIf a 1 0 (refuseIf b 11 0 (refuseIf c 3 0 s)) ≡ s
-three-go true b c s e = absurd (omega arith)
-three-go false true c s e = absurd (omega arith)
-three-go false false true s e = absurd (omega arith)
-three-go false false false s e = refl
-
-three-no : (a b c : Bool) (s : Verdict) → (firstOf (check 1 a ∷ check 11 b ∷ check 3 c ∷ []) ≡ 0 → ⊥)
-    → refuseIf a 1 0 (refuseIf b 11 0 (refuseIf c 3 0 s)) ≡ Verdict.refuse (firstOf (check 1 a ∷ check 11 b ∷ check 3 c ∷ [])) 0
-three-no true b c s n = refl
-three-no false true c s n = refl
-three-no false false true s n = refl
-three-no false false false s n = absurd (n refl)
+      checked-go : k ≡ 0 → whole ≡ what
+      checked-go e = judged-go (by-checks ∙ all-go cs _ g (sym is ∙ e))
 
 -- line 1: four numbers, which are judged as lengths
 module _ (buffer : List ℕ) {bytes : List ℕ} where
@@ -157,14 +169,14 @@ module _ (buffer : List ℕ) {bytes : List ℕ} where
     l = rw s at r
 
     abbrev lengths-judged : List ℕ → List ℕ → Verdict
-    lengths-judged es rest = refuseIf (badLength es) 1 0 (refuseIf (bigSheet es) 11 0 (refuseIf (shortBuffer es buffer) 3 0 (Verdict.go es rest)))
+    lengths-judged es rest = refuseAll (sheetChecks es buffer) (Verdict.go es rest)
 
     shape-as : shapeLine buffer bytes ≡ onward (numbersLine 1 shapeWord 4 bytes) lengths-judged
     unfolding shapeLine
     shape-as = rw (le-ltb 16384 (length bytes) few) (few-judged 1 shapeWord 4 bytes lengths-judged (omega arith))
 
     pub shape-form : (line .number ≡ 0 → ⊥) → FirstAt buffer bytes line
-    shape-form n = line-refused n (shape-as ∙ ap (λ (v : Verdict). onward v lengths-judged) (l .wrong n)) (l .inside)
+    shape-form = form-no lengths-judged shape-as l
 
     module _ (z : line .number ≡ 0) {n : ℕ} (is : n ≡ firstOf (sheetChecks (firstFour (line .numbers)) buffer)) where
       abbrev read : List ℕ
@@ -179,47 +191,17 @@ module _ (buffer : List ℕ) {bytes : List ℕ} where
       checked = is ∙ ap (λ (es : List ℕ). firstOf (sheetChecks es buffer)) four
 
       pub shape-no : {page : Page} → (n ≡ 0 → ⊥) → page ≡ noPage n 0 → FirstAt buffer bytes page
-      shape-no nonzero r =
-          line-no r nonzero
-          (shape-as ∙ judged l lengths-judged z ∙ three-no (badLength read) (bigSheet read) (shortBuffer read buffer) _ (λ t. nonzero (checked ∙ t))
-          ∙ ap (λ (k : ℕ). Verdict.refuse k 0) (sym checked))
+      shape-no = checked-no lengths-judged shape-as l z (sheetChecks read buffer) tt refl checked
 
-      pub shape-go : n ≡ 0
-          → FirstAt buffer bytes
-          (record {
-            number = line .number;
-            place = line .place;
-            lengths = firstFour (line .numbers);
-            numbers = line .numbers;
-            count = line .count;
-            next = line .next;
-          })
+      pub shape-go : n ≡ 0 → FirstAt buffer bytes (withLengths (firstFour (line .numbers)) line)
       shape-go t =
-          let e : shapeLine buffer bytes ≡ numbersLine 1 shapeWord 4 bytes =
-          shape-as ∙ judged l lengths-judged z ∙ three-go (badLength read) (bigSheet read) (shortBuffer read buffer) _ (sym checked ∙ t) ∙ sym (l .right z) in
-          record {
-            right = λ _. rw e (l .right z);
-            filled =
-                λ _. rw (e, four)
-                (λ i. record {
-                  number = l .filled z i .number;
-                  place = l .filled z i .place;
-                  lengths = read;
-                  numbers = l .filled z i .numbers;
-                  count = l .filled z i .count;
-                  next = line .next;
-                });
-            wrong = λ o. absurd (o z);
-            inside = l .inside;
-          }
+          rw (checked-go lengths-judged shape-as l z (sheetChecks read buffer) tt refl checked t, four)
+          (record { right = l .right; filled = λ y. ap (withLengths read) (l .filled y); wrong = l .wrong; inside = l .inside })
 
--- line 2, of a page of line 1: a refusal of line 1 stands; else the line is judged
-module _ {bytes : List ℕ} (second : List ℕ → Verdict) (first : Page) {page : Page} where
-  pub first-stands : (first .number ≡ 0 → ⊥) → page ≡ noPage (first .number) (first .place) → SecondAt second bytes first page
-  first-stands n r = line-no r n (rw (ne-eqb (first .number) 0 n))
-
-  second-as : {what : Verdict} → first .number ≡ 0 → second (drop (first .next) bytes) ≡ what → LineAt bytes (first .lengths) what page → SecondAt second bytes first page
-  second-as z e l = rw (z, e) l
+-- line 2, after a page of line 1 that refuses
+pub first-stands : {bytes : List ℕ} (second : List ℕ → Verdict) (first : Page) {page : Page} → (first .number ≡ 0 → ⊥)
+    → page ≡ noPage (first .number) (first .place) → SecondAt second bytes first page
+first-stands second first n r = line-no r n (rw (ne-eqb (first .number) 0 n))
 
 -- of a sheet: so many numbers as the line has tabs, which are judged as swaps
 module _ {bytes : List ℕ} (first : Page) (z : first .number ≡ 0) {n : ℕ} (t : n ≡ tabs (drop (first .next) bytes)) {line : Page}
@@ -227,12 +209,12 @@ module _ {bytes : List ℕ} (first : Page) (z : first .number ≡ 0) {n : ℕ} (
   abbrev swaps-judged : List ℕ → List ℕ → Verdict
   swaps-judged chain rest = refuseIf (badSwap 4 chain) 6 (firstPlace (noSwap 4) chain) (Verdict.go chain rest)
 
-  chain-as : chainLine (drop (first .next) bytes) ≡ onward (numbersLine 2 chainWord n (drop (first .next) bytes)) swaps-judged
+  chain-as : further first chainLine bytes ≡ onward (numbersLine 2 chainWord n (drop (first .next) bytes)) swaps-judged
   unfolding chainLine
-  chain-as = rw t (long-judged 2 chainWord (tabs (drop (first .next) bytes)) (drop (first .next) bytes) swaps-judged)
+  chain-as = rw (z, t) (long-judged 2 chainWord (tabs (drop (first .next) bytes)) (drop (first .next) bytes) swaps-judged)
 
   pub chain-form : (line .number ≡ 0 → ⊥) → SecondAt chainLine bytes first line
-  chain-form o = second-as chainLine first z chain-as (refused-on l swaps-judged o)
+  chain-form = form-no swaps-judged chain-as l
 
   module _ (y : line .number ≡ 0) where
     abbrev chain : List ℕ
@@ -254,69 +236,45 @@ module _ {bytes : List ℕ} (first : Page) (z : first .number ≡ 0) {n : ℕ} (
       pub chain-bad : {page : Page} → bad < line .count → page ≡ noPage 6 bad → SecondAt chainLine bytes first page
       chain-bad h r =
           let some-bad = found-place (noSwap 4) chain (omega (arith, first-bad, count-of)) in
-          second-as chainLine first z chain-as (judged-no l swaps-judged y r (λ o. omega arith) (rw some-bad (ap (Verdict.refuse 6) (sym first-bad))))
+          line-no r (λ o. omega arith) (judged swaps-judged chain-as l y ∙ rw some-bad (ap (Verdict.refuse 6) (sym first-bad)))
 
       pub chain-go : line .count ≤ bad → SecondAt chainLine bytes first line
-      chain-go h =
-          let none = no-place (noSwap 4) chain (omega (arith, first-bad, count-of)) in
-          second-as chainLine first z chain-as (judged-go l swaps-judged y (rw none))
+      chain-go h = rw (judged-go swaps-judged chain-as l y (rw (no-place (noSwap 4) chain (omega (arith, first-bad, count-of))))) l
 
--- two conditions refuse with the number of the first that holds
-two-go : (a b : Bool) (s : Verdict) → firstOf (check 14 a ∷ check 7 b ∷ []) ≡ 0 → refuseIf a 14 0 (refuseIf b 7 0 s) ≡ s
-two-go true b s e = absurd (omega arith)
-two-go false true s e = absurd (omega arith)
-two-go false false s e = refl
+-- of a result sheet: a release, where one is named, and an order number
+abbrev orderChecks : List ℕ → List Check
+orderChecks order = check 14 (wrongRelease order) ∷ check 7 (noOrder 4 (lineOrder order)) ∷ []
 
-two-no : (a b : Bool) (s : Verdict) → (firstOf (check 14 a ∷ check 7 b ∷ []) ≡ 0 → ⊥)
-    → refuseIf a 14 0 (refuseIf b 7 0 s) ≡ Verdict.refuse (firstOf (check 14 a ∷ check 7 b ∷ [])) 0
-two-no true b s n = refl
-two-no false true s n = refl
-two-no false false s n = absurd (n refl)
-
--- what refuses the numbers of line 2, of which one or two stand before zeros
-line-number : (vs : List ℕ) (k : ℕ)
-    → lineNumber (length vs) (vs ++ replicate k 0) ≡ firstOf (check 14 (wrongRelease vs) ∷ check 7 (noOrder 4 (lineOrder vs)) ∷ [])
+line-number : (vs : List ℕ) (k : ℕ) → lineNumber (length vs) (vs ++ replicate k 0) ≡ firstOf (orderChecks vs)
 line-number [] zero = refl
 line-number [] (suc k) = refl
 line-number (v ∷ []) k = refl
 line-number (release ∷ v ∷ vs) k = rw (lt-ltb 1 (length (release ∷ v ∷ vs)) (omega arith))
 
--- how many numbers the line must have
 order-few : (bytes : List ℕ) → orderFields bytes ≤ 32
-order-few bytes = by (eqb (tabs bytes) 2)
-  where
-    by : (t : Bool) → cond t 2 1 ≤ 32
-    by true = omega arith
-    by false = omega arith
+order-few bytes = decided (eqb (tabs bytes) 2) (λ t. rw t (omega arith)) (λ f. rw f (omega arith))
 
--- of a result sheet: a release, where one is named, and an order number
 module _ {bytes : List ℕ} (first : Page) (z : first .number ≡ 0) {n : ℕ} (t : n ≡ orderFields (drop (first .next) bytes)) {line : Page}
     (l : LineAt bytes (first .lengths) (numbersLine 2 orderWord n (drop (first .next) bytes)) line) where
   abbrev order-judged : List ℕ → List ℕ → Verdict
-  order-judged order rest = refuseIf (wrongRelease order) 14 0 (refuseIf (noOrder 4 (lineOrder order)) 7 0 (Verdict.go order rest))
+  order-judged order rest = refuseAll (orderChecks order) (Verdict.go order rest)
 
-  order-as : orderLine (drop (first .next) bytes) ≡ onward (numbersLine 2 orderWord n (drop (first .next) bytes)) order-judged
+  order-as : further first orderLine bytes ≡ onward (numbersLine 2 orderWord n (drop (first .next) bytes)) order-judged
   unfolding orderLine
-  order-as =
-      let bs = drop (first .next) bytes in
-      rw t (few-judged 2 orderWord (orderFields bs) bs order-judged (order-few bs))
+  order-as = rw (z, t) (few-judged 2 orderWord (orderFields (drop (first .next) bytes)) (drop (first .next) bytes) order-judged (order-few (drop (first .next) bytes)))
 
   pub order-form : (line .number ≡ 0 → ⊥) → SecondAt orderLine bytes first line
-  order-form o = second-as orderLine first z order-as (refused-on l order-judged o)
+  order-form = form-no order-judged order-as l
 
   module _ (y : line .number ≡ 0) {k : ℕ} (j : k ≡ lineNumber (line .count) (line .numbers)) where
     abbrev order : List ℕ
     order = wordsOf (numbersLine 2 orderWord n (drop (first .next) bytes))
 
-    numbered : k ≡ firstOf (check 14 (wrongRelease order) ∷ check 7 (noOrder 4 (lineOrder order)) ∷ [])
+    numbered : k ≡ firstOf (orderChecks order)
     numbered = j ∙ ap (λ (p : Page). lineNumber (p .count) (p .numbers)) (l .filled y) ∙ line-number order (32 - length order)
 
     pub order-no : {page : Page} → (k ≡ 0 → ⊥) → page ≡ noPage k 0 → SecondAt orderLine bytes first page
-    order-no o r =
-        second-as orderLine first z order-as
-        (judged-no l order-judged y r o
-        (two-no (wrongRelease order) (noOrder 4 (lineOrder order)) _ (λ e. o (numbered ∙ e)) ∙ ap (λ (m : ℕ). Verdict.refuse m 0) (sym numbered)))
+    order-no = checked-no order-judged order-as l y (orderChecks order) tt refl numbered
 
     pub order-go : k ≡ 0 → SecondAt orderLine bytes first line
-    order-go e =
-        second-as orderLine first z order-as (judged-go l order-judged y (two-go (wrongRelease order) (noOrder 4 (lineOrder order)) _ (sym numbered ∙ e)))
+    order-go e = rw (checked-go order-judged order-as l y (orderChecks order) tt refl numbered e) l

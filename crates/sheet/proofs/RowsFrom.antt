@@ -136,45 +136,23 @@ pub no-words : (count n : ℕ) (bs : List ℕ) → wordsOf (rowsLeft count n cou
 unfolding rowLines
 no-words count n bs = let a : count - count ≡ 0 = omega arith in rw a (ended-words (3 + count) bs)
 
--- rows that are refused are kept out, and so are those of a page that is
-taken-no : {what : Verdict} {before page : Page} {words : List ℕ} {k p : ℕ} → page ≡ noPage k p → (k ≡ 0 → ⊥) → what ≡ Verdict.refuse k p
-    → RowsTaken what before page words words
-taken-no r nonzero e =
-    rw r (record {
-      right = λ z. absurd (nonzero z);
-      stays = λ z. absurd (nonzero z);
-      stored = λ z. absurd (nonzero z);
-      wrong = λ z. e;
-      empty = λ z. refl;
-      kept = λ z. refl;
-    })
-
+-- a page's refusal stands; else the rows of its block, whose count and width are given by other numbers, are wrong, or right and stored
 module _ (bytes : List ℕ) (second : Page) where
   pub page-stands : {page : Page} {words : List ℕ} → (second .number ≡ 0 → ⊥) → page ≡ noPage (second .number) (second .place)
       → RowsTaken (further second (rowsOf second) bytes) second page words words
-  page-stands n r = taken-no r n (rw (ne-eqb (second .number) 0 n))
+  page-stands n r = RowsTaken.wrong r (rw (ne-eqb (second .number) 0 n)) refl
 
-  -- the rows of its block, whose count and width are given by other numbers: wrong and kept out, or right and stored
   module _ (z : second .number ≡ 0) {count n : ℕ} (e : count ≡ rowCount (second .lengths)) (w : n ≡ rowWidth (second .lengths)) {line : ℕ}
       (j : RowsAt (rowLines 3 count n (drop (second .next) bytes)) line) where
     rows-as : further second (rowsOf second) bytes ≡ rowLines 3 count n (drop (second .next) bytes)
     rows-as = rw (z, e, w)
 
     pub rows-kept : {page : Page} {words : List ℕ} → (line ≡ 0 → ⊥) → page ≡ noPage 10 line → RowsTaken (further second (rowsOf second) bytes) second page words words
-    rows-kept o r = taken-no r (λ t. omega arith) (rows-as ∙ j .wrong o)
+    rows-kept o r = RowsTaken.wrong r (rows-as ∙ j .wrong o) refl
 
     pub rows-stored : {words words′ : List ℕ} → line ≡ 0 → words′ ≡ sets words 0 (wordsOf (rowLines 3 count n (drop (second .next) bytes)))
         → RowsTaken (further second (rowsOf second) bytes) second second words words′
-    rows-stored o s =
-        rw rows-as
-        (record {
-          right = λ t. j .right o;
-          stays = λ t. refl;
-          stored = λ t. s;
-          wrong = λ t. absurd (t z);
-          empty = λ t. absurd (t z);
-          kept = λ t. absurd (t z);
-        })
+    rows-stored o s = rw rows-as (RowsTaken.right (j .right o) refl s)
 
 -- judging rows one by one: the words of those passed stand before what those left read as
 pub record Passed (bytes : List ℕ) (at count n p i : ℕ) : Type 0 where

@@ -103,11 +103,7 @@ pub record RowsNext (bytes : List ℕ) (page : Page) (words : List ℕ) : Type 0
   pub inside : page .next ≤ length bytes
   pub block : page .number ≡ 0 → OnSheet (page .lengths) words
 
--- rows that are right are stored from the start of the words, and the page stays; else no word is stored, and the page is this refusal
-pub record RowsTaken (what : Verdict) (before page : Page) (words words′ : List ℕ) : Type 0 where
-  pub right : page .number ≡ 0 → what ≡ Verdict.go (wordsOf what) []
-  pub stays : page .number ≡ 0 → page ≡ before
-  pub stored : page .number ≡ 0 → words′ ≡ sets words 0 (wordsOf what)
-  pub wrong : (page .number ≡ 0 → ⊥) → what ≡ Verdict.refuse (page .number) (page .place)
-  pub empty : (page .number ≡ 0 → ⊥) → page ≡ noPage (page .number) (page .place)
-  pub kept : (page .number ≡ 0 → ⊥) → words′ ≡ words
+-- rows that are right are stored from the start of the words, and the page stays; else no word is stored, and the page is the refusal
+pub data RowsTaken (what : Verdict) (before page : Page) (words words′ : List ℕ) : Type 0 where
+  right : what ≡ Verdict.go (wordsOf what) [] → page ≡ before → words′ ≡ sets words 0 (wordsOf what) → RowsTaken what before page words words′
+  wrong : {k p : ℕ} → page ≡ noPage k p → what ≡ Verdict.refuse k p → words′ ≡ words → RowsTaken what before page words words′
