@@ -1,6 +1,6 @@
 -- Lines 1 and 2, way out by way out: what each condition that holds, and none before it, makes of the page. Each of the three lines
 -- is read as a word and numbers in one way; they differ in what judges the numbers then. From the definitions.
-use Rattle.lists.proofs.Kit.{_≡_, refl, sym, ap, _∙_, Bool, true, false, not, List, [], _∷_, _++_, ℕ, zero, suc, _+_, _-_, _<_, _≤_, arith, T, ltb, eqb, length, take, drop, replicate, length-append, take-at, not-true, not-false, lt-ltb, le-ltb, ltb→lt, ne-eqb, decided, both-left, both-right}
+use Rattle.lists.proofs.Kit.{_≡_, refl, sym, ap, _∙_, Bool, true, false, List, [], _∷_, _++_, ℕ, zero, suc, _+_, _-_, _<_, _≤_, arith, T, ltb, eqb, length, take, drop, replicate, length-append, take-at, lt-ltb, le-ltb, ltb→lt, ne-eqb, decided, both-left, both-right}
 use Rattle.refusals.specs.FirstOf.{Check, check, firstOf, refusing}
 use Rattle.refusals.specs.Conditions.{longChain, noSwap, badSwap, noOrder, firstPlace}
 use Rattle.refusals.proofs.Some.{found-place, no-place}
@@ -10,8 +10,10 @@ use Rattle.text.specs.Sheet.{shapeWord, chainWord, orderWord}
 use Rattle.text.specs.Meaning.{Verdict, onLine, onward, refuseIf, shapeLine, chainLine, lineOrder, wrongRelease, orderFields, orderLine}
 use Rattle.text.proofs.Lines.{line-text}
 use Rattle.text.proofs.Steps.{refuse-go, on-line-go, onward-go}
+use Rattle.sheet.specs.declared.line.End.{End}
+use Rattle.sheet.specs.declared.line.End.the-variants.{At}
 use Rattle.sheet.specs.declared.page.Page.{Page}
-use Rattle.sheet.specs.Private.{At, There, LineAt, FirstAt, SecondAt, noPage, further, numbersLine, numbersOf, wordsOf, lineNumber}
+use Rattle.sheet.specs.Private.{EndAt, There, LineAt, FirstAt, SecondAt, noPage, further, numbersLine, numbersOf, wordsOf, lineNumber}
 use Rattle.blocks.specs.Checks.{sheetChecks}
 use Rattle.blocks.proofs.Block.{firstFour, first-four}
 use Rattle.sheet.proofs.LinesAt.{line-fields}
@@ -79,46 +81,37 @@ module _ (k : ℕ) (word : List ℕ) (n : ℕ) (bs : List ℕ) where
         by (Reading.found us rest) = room (longChain us) us rest
 
 -- such a line, from the place of a page on
-module _ {bytes : List ℕ} (before : Page) (word : List ℕ) (n k : ℕ) {ok : Bool} {end : ℕ}
-    (l : At bytes (readLine word n (drop (before .next) bytes)) ok (numbersOf (readLine word n (drop (before .next) bytes))) end) where
+module _ (bytes : List ℕ) (before : Page) (word : List ℕ) (n k : ℕ) where
   abbrev at : ℕ
   at = before .next
 
-  pub numbers-form : {page : Page} → not ok ≡ true → page ≡ noPage 10 k → LineAt bytes (before .lengths) (numbersLine k word n (drop at bytes)) page
+  pub numbers-form : {page : Page} → readLine word n (drop at bytes) ≡ Reading.none → page ≡ noPage 10 k
+      → LineAt bytes (before .lengths) (numbersLine k word n (drop at bytes)) page
   unfolding numbersLine
-  numbers-form o r = line-no r (λ z. omega arith) (rw (l .wrong (not-true ok o)))
+  numbers-form e r = line-no r (λ z. omega arith) (rw e)
 
-  module _ (o : not ok ≡ false) where
-    abbrev vs : List ℕ
-    vs = numbersOf (readLine word n (drop at bytes))
-
-    formed : readLine word n (drop at bytes) ≡ Reading.found vs (drop end bytes)
-    formed = l .right (not-false ok o)
+  module _ {r : End} {end : ℕ} (told : r ≡ At end) (l : EndAt bytes (readLine word n (drop at bytes)) r) where
+    there : EndAt bytes (readLine word n (drop at bytes)) (At end)
+    there = rw told at l
 
     pub numbers-long : {page : Page} → 32 < n → page ≡ noPage 5 0 → LineAt bytes (before .lengths) (numbersLine k word n (drop at bytes)) page
-    numbers-long h r = line-no r (λ z. omega arith) (line-long k word n (drop at bytes) formed h)
+    numbers-long h r = line-no r (λ z. omega arith) (line-long k word n (drop at bytes) (there .0) h)
 
     module _ (inside : at ≤ length bytes) where
       pub numbers-inside : at + length word ≤ length bytes
-      numbers-inside = line-fields bytes at word n inside formed .0
+      numbers-inside = line-fields bytes at word n inside (there .0) .0
 
       pub numbers-there : There (readFields n (drop (at + length word) bytes))
-      numbers-there = record { found = rw (line-fields bytes at word n inside formed .1) }
+      numbers-there = record { found = rw (line-fields bytes at word n inside (there .0) .1) }
 
-      pub numbers-go : n ≤ 32 → {numbers : List ℕ} → numbers ≡ numbersOf (readFields n (drop (at + length word) bytes)) ++ replicate (32 - n) 0
+      pub numbers-go : n ≤ 32 → {numbers : List ℕ}
+          → numbers ≡ numbersOf (readFields n (drop (at + length word) bytes)) ++ replicate (32 - n) 0
           → LineAt bytes (before .lengths) (numbersLine k word n (drop at bytes))
           (record { number = 0; place = 0; lengths = before .lengths; numbers = numbers; count = n; next = end })
       numbers-go h e =
-          let g = line-go k word n (drop at bytes) formed h in
-          let w : wordsOf (numbersLine k word n (drop at bytes)) ≡ vs = ap wordsOf g in
-          let m = long k word n (drop at bytes) formed in
-          let f = e ∙ ap (λ (x : Reading (List ℕ)). numbersOf x ++ replicate (32 - n) 0) (line-fields bytes at word n inside formed .1) in
-          record {
-            right = λ z. g ∙ ap (λ (us : List ℕ). Verdict.go us (drop end bytes)) (sym w);
-            filled = λ z. rw (w, m, f);
-            wrong = λ z. absurd (z refl);
-            inside = l .inside;
-          }
+          let f = e ∙ ap (λ (x : Reading (List ℕ)). numbersOf x ++ replicate (32 - n) 0) (line-fields bytes at word n inside (there .0) .1) in
+          rw (line-go k word n (drop at bytes) (there .0) h)
+          (record { right = λ z. refl; filled = λ z. rw (long k word n (drop at bytes) (there .0), f); wrong = λ z. absurd (z refl); inside = there .1 })
 
 -- conditions of a list refuse in turn, each with the place 0: the first that holds gives the number
 abbrev refuseAll : List Check → Verdict → Verdict

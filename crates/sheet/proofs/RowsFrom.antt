@@ -1,13 +1,13 @@
 -- Rows from a line on: one row more, a wrong row, the end of the rows; and what is stored of them. From the definitions, the count
 -- of rows left going down by one.
-use Rattle.lists.proofs.Kit.{_≡_, refl, sym, ap, _∙_, Bool, true, false, not, List, [], _∷_, _++_, append-assoc, ℕ, suc, _+_, _-_, _<_, _≤_, arith, length, drop, getD, drop-of-length-le, sets, ⊎-elim, lt-or-ge, not-true, not-false, ne-eqb, drop-next}
+use Rattle.lists.proofs.Kit.{_≡_, refl, sym, ap, _∙_, List, [], _∷_, _++_, append-assoc, ℕ, suc, _+_, _-_, _<_, _≤_, arith, length, drop, getD, drop-of-length-le, sets, ⊎-elim, lt-or-ge, ne-eqb, drop-next}
 use Rattle.text.specs.Print.{lineFeed}
 use Rattle.text.specs.Read.{Reading, readFields, readLine}
 use Rattle.text.specs.Sheet.{rowWord, rowCount, rowWidth}
 use Rattle.text.specs.Meaning.{Verdict, behind, ended, rowLines}
 use Rattle.text.proofs.Lines.{fields-text}
 use Rattle.text.proofs.Steps.{behind-go}
-use Rattle.sheet.specs.Private.{At, RowsAt, RowsThere, RowsTaken, There, noPage, further, rowsOf, wordsOf, numbersOf}
+use Rattle.sheet.specs.Private.{RowsAt, RowsThere, RowsTaken, There, noPage, further, rowsOf, wordsOf, numbersOf}
 use Rattle.sheet.specs.declared.page.Page.{Page}
 use Rattle.sheet.proofs.LinesAt.{line-fields}
 
@@ -166,20 +166,19 @@ module _ (bytes : List ℕ) (at count n : ℕ) where
       record { words = []; left = rw z (behind-none (rowLines 3 count n (drop at bytes))) }
 
   module _ (p i : ℕ) (h : Passed bytes at count n p i) where
-    module _ {ok : Bool} {next : ℕ} (l : At bytes (readLine rowWord n (drop p bytes)) ok (numbersOf (readLine rowWord n (drop p bytes))) next) where
-      pub one-passed : not ok ≡ false → i < count → Passed bytes at count n next (i + 1)
-      one-passed o k =
-          let us = numbersOf (readLine rowWord n (drop p bytes)) in
-          record {
-            words = h .words ++ us;
-            left =
-                h .left
-                ∙ ap (behind (h .words)) (row-step count n i (drop p bytes) k (l .right (not-false ok o)))
-                ∙ behind-behind (h .words) us (rowsLeft count n (i + 1) (drop next bytes));
-          }
+    pub one-passed : {us : List ℕ} {next : ℕ} → readLine rowWord n (drop p bytes) ≡ Reading.found us (drop next bytes) → i < count
+        → Passed bytes at count n next (i + 1)
+    one-passed {us} {next} e k =
+        record {
+          words = h .words ++ us;
+          left =
+              h .left
+              ∙ ap (behind (h .words)) (row-step count n i (drop p bytes) k e)
+              ∙ behind-behind (h .words) us (rowsLeft count n (i + 1) (drop next bytes));
+        }
 
-      pub wrong-row : not ok ≡ true → i < count → RowsAt (rowLines 3 count n (drop at bytes)) (i + 3)
-      wrong-row o k = rows-wrong (omega arith) (h .left ∙ rw (row-bad count n i (drop p bytes) k (l .wrong (not-true ok o))))
+    pub wrong-row : readLine rowWord n (drop p bytes) ≡ Reading.none → i < count → RowsAt (rowLines 3 count n (drop at bytes)) (i + 3)
+    wrong-row e k = rows-wrong (omega arith) (h .left ∙ rw (row-bad count n i (drop p bytes) k e))
 
     pub left-over : i ≡ count → p < length bytes → RowsAt (rowLines 3 count n (drop at bytes)) (count + 3)
     left-over e k =

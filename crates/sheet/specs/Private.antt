@@ -1,7 +1,7 @@
 -- These definitions serve only the contracts of private functions: a reader of the promises can pass over them.
 -- What the functions that read at a place promise. Assumes nothing.
 use mathlib.Core.Path.{_≡_}
-use mathlib.Core.Bool.{Bool, true, false, cond}
+use mathlib.Core.Bool.{cond}
 use mathlib.Core.List.{List, []}
 use Prim.Native.Nat.{ℕ, _≤_}
 use lib.Dec.{ltb, eqb}
@@ -15,18 +15,26 @@ use Rattle.text.specs.Sheet.{rowCount, rowWidth}
 use Rattle.text.specs.Meaning.{Verdict, onLine, onward, refuseIf, shapeLine, rowLines}
 use Rattle.blocks.specs.Private.{OnSheet}
 use Rattle.sheet.specs.Swaps.{padded}
+use Rattle.sheet.specs.declared.field.Field.{Field}
+use Rattle.sheet.specs.declared.field.Field.the-variants.{Nothing, Number}
+use Rattle.sheet.specs.declared.line.End.{End}
+use Rattle.sheet.specs.declared.line.End.the-variants.{Nowhere, At}
 use Rattle.sheet.specs.declared.page.Page.{Page}
 
--- where it is ok, what was found is the value, with the bytes from `next` on after it; else nothing was found
-pub record At {A : Type 0} (bytes : List ℕ) (what : Reading A) (ok : Bool) (value : A) (next : ℕ) : Type 0 where
-  pub right : ok ≡ true → what ≡ Reading.found value (drop next bytes)
-  pub wrong : ok ≡ false → what ≡ Reading.none
-  pub inside : next ≤ length bytes
+-- nothing was found; or what was found is the value, with the bytes from `next` on after it
+abbrev pub FieldAt : List ℕ → Reading ℕ → Field → Type 0
+FieldAt bytes what Nothing = what ≡ Reading.none
+FieldAt bytes what (Number value next) = (what ≡ Reading.found value (drop next bytes)) × (next ≤ length bytes)
 
 -- the numbers that were found, none where nothing was
 abbrev pub numbersOf : Reading (List ℕ) → List ℕ
 numbersOf Reading.none = []
 numbersOf (Reading.found vs rest) = vs
+
+-- nothing was found; or something was, with the bytes from `next` on after it
+abbrev pub EndAt : List ℕ → Reading (List ℕ) → End → Type 0
+EndAt bytes what Nowhere = what ≡ Reading.none
+EndAt bytes what (At next) = (what ≡ Reading.found (numbersOf what) (drop next bytes)) × (next ≤ length bytes)
 
 -- the bytes after what was found
 abbrev pub restOf : {A : Type 0} → Reading A → List ℕ

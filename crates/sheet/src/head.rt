@@ -15,9 +15,9 @@ fn numbers_at(bytes: &[u8], page: page::Page, word: &[u8], n: usize, k: usize) -
 {
     let at = page.next;
     let end = line::line_at(bytes, at, word, n);
-    if !end.ok {
+    let line::End::At(next) = end else {
         return page::no_page(10, k);
-    }
+    };
     if 32 < n {
         return page::no_page(5, 0);
     }
@@ -29,7 +29,7 @@ fn numbers_at(bytes: &[u8], page: page::Page, word: &[u8], n: usize, k: usize) -
         lengths,
         numbers,
         count: n,
-        next: end.next,
+        next,
     }
 }
 

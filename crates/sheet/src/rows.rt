@@ -17,10 +17,10 @@ fn rows_at(bytes: &[u8], at: usize, count: usize, n: usize) -> usize
     let mut p = at;
     for i in 0..count {
         let l = line::line_at(bytes, p, b"row", n);
-        if !l.ok {
+        let line::End::At(next) = l else {
             return i + 3;
-        }
-        p = l.next;
+        };
+        p = next;
     }
     if p < bytes.len() {
         return count + 3;
