@@ -1,6 +1,6 @@
 -- Lines 1 and 2, way out by way out: what each condition that holds, and none before it, makes of the page. Each of the three lines
 -- is read as a word and numbers in one way; they differ in what judges the numbers then. From the definitions.
-use Rattle.lists.proofs.Kit.{_≡_, refl, sym, ap, _∙_, Bool, true, false, List, [], _∷_, _++_, ℕ, zero, suc, _+_, _-_, _<_, _≤_, arith, T, ltb, eqb, length, take, drop, replicate, length-append, take-at, lt-ltb, le-ltb, ltb→lt, ne-eqb, decided, both-left, both-right}
+use Rattle.lists.proofs.Kit.{_≡_, refl, sym, ap, _∙_, List, [], _∷_, _++_, ℕ, zero, suc, _+_, _-_, _<_, _≤_, arith, T, ltb, eqb, length, take, drop, replicate, length-append, take-at, lt-ltb, le-ltb, ltb→lt, ne-eqb, decided, both-left, both-right}
 use Rattle.refusals.specs.FirstOf.{Check, check, firstOf, refusing}
 use Rattle.refusals.specs.Conditions.{longChain, noSwap, badSwap, noOrder, firstPlace}
 use Rattle.refusals.proofs.Some.{found-place, no-place}
@@ -47,7 +47,7 @@ module _ (k : ℕ) (word : List ℕ) (n : ℕ) (bs : List ℕ) where
     unfolding numbersLine
     line-go h = rw (e, le-ltb 32 (length us) (omega (arith, long)))
 
-  pub numbers-count : {us rest : List ℕ} → numbersLine k word n bs ≡ Verdict.go us rest → length us ≡ n
+  numbers-count : {us rest : List ℕ} → numbersLine k word n bs ≡ Verdict.go us rest → length us ≡ n
   unfolding numbersLine
   numbers-count {us} {rest} g =
       onward-go (onLine k (readLine word n bs)) (λ (vs : List ℕ) (mid : List ℕ). refuseIf (longChain vs) 5 0 (Verdict.go vs mid)) g
@@ -57,28 +57,21 @@ module _ (k : ℕ) (word : List ℕ) (n : ℕ) (bs : List ℕ) where
       rw (← a) (long (on-line-go k (readLine word n bs) e₁)))
 
   -- judging its numbers, for which there is room, or judging first whether there is
+  by-reading : {C : Type 0} (x : Reading (List ℕ)) → readLine word n bs ≡ x → (readLine word n bs ≡ Reading.none → C)
+      → ((us rest : List ℕ) → readLine word n bs ≡ Reading.found us rest → C) → C
+  by-reading Reading.none e none found = none e
+  by-reading (Reading.found us rest) e none found = found us rest e
+
   module _ (judge : List ℕ → List ℕ → Verdict) where
     few-judged : n ≤ 32 → onward (onLine k (readLine word n bs)) judge ≡ onward (numbersLine k word n bs) judge
     unfolding numbersLine
-    few-judged h = by (readLine word n bs) refl
-      where
-        by : (x : Reading (List ℕ)) → readLine word n bs ≡ x → onward (onLine k (readLine word n bs)) judge ≡ onward (numbersLine k word n bs) judge
-        by Reading.none e = rw e
-        by (Reading.found us rest) e = rw (line-go e h, e)
+    few-judged h = by-reading (readLine word n bs) refl (λ e. rw e) (λ us rest e. rw (line-go e h, e))
 
     long-judged : onward (onLine k (readLine word n bs)) (λ (us : List ℕ) (rest : List ℕ). refuseIf (longChain us) 5 0 (judge us rest))
         ≡ onward (numbersLine k word n bs) judge
     unfolding numbersLine
-    long-judged = by (readLine word n bs)
-      where
-        room : (t : Bool) (us rest : List ℕ) → refuseIf t 5 0 (judge us rest) ≡ onward (refuseIf t 5 0 (Verdict.go us rest)) judge
-        room true us rest = refl
-        room false us rest = refl
-
-        by : (x : Reading (List ℕ)) → onward (onLine k x) (λ (us : List ℕ) (rest : List ℕ). refuseIf (longChain us) 5 0 (judge us rest))
-            ≡ onward (onward (onLine k x) (λ (us : List ℕ) (rest : List ℕ). refuseIf (longChain us) 5 0 (Verdict.go us rest))) judge
-        by Reading.none = refl
-        by (Reading.found us rest) = room (longChain us) us rest
+    long-judged =
+        by-reading (readLine word n bs) refl (λ e. rw e) (λ us rest e. decided (longChain us) (λ t. rw (e, t)) (λ f. rw (e, f)))
 
 -- such a line, from the place of a page on
 module _ (bytes : List ℕ) (before : Page) (word : List ℕ) (n k : ℕ) where
