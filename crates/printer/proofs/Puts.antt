@@ -1,5 +1,5 @@
 -- Texts put one behind the other: what is left to be put leads to the whole. From the law of runs of stores.
-use Rattle.lists.proofs.Kit.{_≡_, refl, sym, ap, _∙_, List, [], _∷_, _++_, append-nil, ℕ, _+_, _-_, _<_, _≤_, arith, add-one, length, set, drop, getD, length-append, length-set, drop-of-length-le, sets, length-sets, drop-next, drop-end}
+use Rattle.lists.proofs.Kit.{_≡_, refl, sym, ap, _∙_, List, [], _∷_, _++_, append-nil, ℕ, _+_, _<_, _≤_, arith, add-one, length, set, drop, getD, length-append, length-set, drop-of-length-le, sets, length-sets, drop-next, drop-end}
 use Rattle.text.specs.Print.{tabByte, decimal, field, fields}
 use Rattle.printer.specs.PrivateBytes.{Room, Put}
 use Rattle.text.proofs.Stores.{sets-append}

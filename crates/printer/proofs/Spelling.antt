@@ -1,6 +1,6 @@
 -- The digits of a number from the last one on: how many they are, and what is left to be put once the last is put.
 -- By induction on the digits.
-use Rattle.lists.proofs.Kit.{_≡_, refl, ap, _∙_, List, [], _∷_, _++_, ⊎-elim, ℕ, zero, suc, _+_, _-_, _*_, _/_, _%_, _^_, _<_, _≤_, arith, add-one, length, set, length-append, sets, set-comm, lt-ltb, le-ltb, lt-or-ge}
+use Rattle.lists.proofs.Kit.{_≡_, refl, ap, _∙_, List, [], _∷_, _++_, ⊎-elim, ℕ, zero, suc, _+_, _*_, _/_, _%_, _^_, _<_, _≤_, arith, add-one, length, set, length-append, sets, set-comm, lt-ltb, le-ltb, lt-or-ge}
 use Rattle.text.specs.Print.{limit, digits, decimal}
 use Rattle.text.proofs.Numbers.{decimal-one, decimal-digit}
 use Rattle.text.proofs.Stores.{sets-append}

@@ -2,9 +2,7 @@
 // number. Private to the library.
 use crate::page;
 ghost use mathlib.Core.Path.{_≡_};
-ghost use Prim.Native.Nat.{_*_, _≤_};
-ghost use lib.ListN.{length};
-ghost use Rattle.text.specs.Sheet.{rowsText};
+ghost use Prim.Native.Nat.{_≤_};
 ghost use Rattle.printer.specs.PrivateBytes.{Room, Put};
 ghost use Rattle.printer.specs.PrivateWriter.{textOf, stored, pageOfLines, Ready};
 
@@ -12,13 +10,6 @@ ghost use Rattle.printer.specs.PrivateWriter.{textOf, stored, pageOfLine
 pub(crate) struct Writer<'a> {
     out: &'a mut [u8],
     at: usize,
-}
-
-// The lent bytes go into the writer, and the place is the start.
-fn new<'a>(out: &'a mut [u8]) -> Writer<'a>
-    ensures { λ r. ⌜ (r .out ≡ out .entry) × (r .at ≡ 0) ⌝ }
-{
-    Writer { out: out, at: 0 }
 }
 
 // A line: the writer is handed back with the next place.
@@ -34,15 +25,6 @@ pub(crate) fn line<'a>(w: Writer<'a>, l: page::Line) -> Writer<'a>
     }
 }
 
-// The rows, and the place after them.
-pub(crate) fn rows<'a, 'b>(w: Writer<'a>, words: &'b [u32], count: usize, n: usize) -> usize
-    requires { ⌜ (count * n ≤ length (now words)) × Room (now (w .out)) (w .at) (rowsText count n (now words)) ⌝ }
-    ensures { λ r. ⌜ Put (now (w .entry .out)) (w .entry .at) (rowsText count n (now (words .entry))) r (now (w .exit .0)) ⌝ }
-{
-    let at = w.at;
-    page::put_rows(&mut *w.out, at, words, count, n)
-}
-
 // Two lines and rows at the start of the lent bytes, and the place after them: whoever calls it needs no writer.
 pub(crate) fn result(
     out: &mut [u8],
@@ -55,7 +37,8 @@ pub(crate) fn result(
     requires { ⌜ Ready (now out) shape order (now words) count n ⌝ }
     ensures { λ r. ⌜ Put (now (out .entry)) 0 (pageOfLines shape order (now (words .entry)) count n) r (now (out .exit)) ⌝ }
 {
-    let first = line(new(out), shape);
+    let first = line(Writer { out: out, at: 0 }, shape);
     let second = line(first, order);
-    rows(second, words, count, n)
+    let at = second.at;
+    page::put_rows(&mut *second.out, at, words, count, n)
 }

@@ -1,257 +1,266 @@
--- Lines 1 and 2, way out by way out: what each condition that holds, and none before it, makes of the step. From the definitions.
-use Rattle.lists.proofs.Kit.{_≡_, refl, sym, ap, ap₂, _∙_, Bool, true, false, cond, not, List, [], _∷_, _++_, ℕ, zero, suc, _+_, _-_, _<_, _≤_, arith, ltb, eqb, length, take, drop, replicate, take-at, not-true, not-false, lt-ltb, le-ltb}
-use Rattle.refusals.specs.FirstOf.{check, firstOf}
-use Rattle.refusals.specs.Conditions.{badLength, shortBuffer, noSwap, badSwap, noOrder, firstPlace}
+-- Lines 1 and 2, way out by way out: what each condition that holds, and none before it, makes of the page. Each of the three lines
+-- is read as a word and numbers in one way; they differ in what judges the numbers then. From the definitions.
+use Rattle.lists.proofs.Kit.{_≡_, refl, sym, ap, _∙_, List, [], _∷_, _++_, ℕ, zero, suc, _+_, _-_, _<_, _≤_, arith, T, ltb, eqb, length, take, drop, replicate, length-append, take-at, lt-ltb, le-ltb, ltb→lt, ne-eqb, decided, both-left, both-right}
+use Rattle.refusals.specs.FirstOf.{Check, check, firstOf, refusing}
+use Rattle.refusals.specs.Conditions.{longChain, noSwap, badSwap, noOrder, firstPlace}
 use Rattle.refusals.proofs.Some.{found-place, no-place}
-use Rattle.text.specs.Print.{lineFeed}
+use Rattle.refusals.proofs.Conditions.{passed}
 use Rattle.text.specs.Read.{Reading, readFields, readLine, tabs}
 use Rattle.text.specs.Sheet.{shapeWord, chainWord, orderWord}
-use Rattle.text.specs.Meaning.{Verdict, bigSheet, refuseIf, shapeLine, chainLine, lineOrder, wrongRelease, orderFields, orderLine}
+use Rattle.text.specs.Meaning.{Verdict, onLine, onward, refuseIf, shapeLine, chainLine, lineOrder, wrongRelease, orderFields, orderLine}
 use Rattle.text.proofs.Lines.{line-text}
-use Rattle.sheet.specs.Private.{At, There, RefusedWith, VerdictAt, SecondAt, numbersOf, wordsOf, lineNumber, secondLine}
+use Rattle.text.proofs.Steps.{refuse-go, on-line-go, onward-go}
+use Rattle.sheet.specs.declared.line.End.{End}
+use Rattle.sheet.specs.declared.line.End.the-variants.{At}
+use Rattle.sheet.specs.declared.page.Page.{Page}
+use Rattle.sheet.specs.Private.{EndAt, There, LineAt, FirstAt, SecondAt, noPage, further, numbersLine, numbersOf, wordsOf, lineNumber}
 use Rattle.blocks.specs.Checks.{sheetChecks}
 use Rattle.blocks.proofs.Block.{firstFour, first-four}
 use Rattle.sheet.proofs.LinesAt.{line-fields}
 
--- a step that refused, answered by a struct with that number and place
-step-no : {bytes values : List ℕ} {what : Verdict} {number place next k p : ℕ} → RefusedWith k p number place next
-    → (k ≡ 0 → ⊥) → what ≡ Verdict.refuse k p → VerdictAt bytes what number place values next
-step-no r nonzero e =
-    record {
-      right = λ z. absurd (nonzero (sym (r .numbered) ∙ z));
-      wrong = λ z. rw (r .numbered, r .placed) e;
-      inside = omega arith;
-    }
+-- a page with these lengths
+abbrev pub withLengths : List ℕ → Page → Page
+withLengths ds page =
+    record { number = page .number; place = page .place; lengths = ds; numbers = page .numbers; count = page .count; next = page .next }
 
-step-go : {bytes values : List ℕ} {what : Verdict} {next : ℕ} → what ≡ Verdict.go values (drop next bytes) → next ≤ length bytes
-    → VerdictAt bytes what 0 0 values next
-step-go e h = record { right = λ z. e; wrong = λ z. absurd (z refl); inside = h }
+-- a verdict that refuses, and its page
+line-refused : {bytes ds : List ℕ} {page : Page} {what : Verdict} → (page .number ≡ 0 → ⊥) → what ≡ Verdict.refuse (page .number) (page .place)
+    → page .next ≤ length bytes → LineAt bytes ds what page
+line-refused n e h = record { right = λ z. absurd (n z); filled = λ z. absurd (n z); wrong = λ z. e; inside = h }
 
--- three conditions refuse with the number of the first that holds
-three-go : (a b c : Bool) (s : Verdict) → firstOf (check 1 a ∷ check 11 b ∷ check 3 c ∷ []) ≡ 0
-    → refuseIf a 1 0 (refuseIf b 11 0 (refuseIf c 3 0 s)) ≡ s
-three-go true b c s e = absurd (omega arith)
-three-go false true c s e = absurd (omega arith)
-three-go false false true s e = absurd (omega arith)
-three-go false false false s e = refl
+line-no : {bytes ds : List ℕ} {page : Page} {what : Verdict} {k p : ℕ} → page ≡ noPage k p → (k ≡ 0 → ⊥) → what ≡ Verdict.refuse k p
+    → LineAt bytes ds what page
+line-no r nonzero e = rw r (line-refused nonzero e (omega arith))
 
-three-no : (a b c : Bool) (s : Verdict) → (firstOf (check 1 a ∷ check 11 b ∷ check 3 c ∷ []) ≡ 0 → ⊥)
-    → refuseIf a 1 0 (refuseIf b 11 0 (refuseIf c 3 0 s)) ≡ Verdict.refuse (firstOf (check 1 a ∷ check 11 b ∷ check 3 c ∷ [])) 0
-three-no true b c s n = refl
-three-no false true c s n = refl
-three-no false false true s n = refl
-three-no false false false s n = absurd (n refl)
+-- line k as a word and n numbers
+module _ (k : ℕ) (word : List ℕ) (n : ℕ) (bs : List ℕ) where
+  -- it is found with so many numbers
+  module _ {us rest : List ℕ} (e : readLine word n bs ≡ Reading.found us rest) where
+    long : length us ≡ n
+    long = line-text word n bs e .long
 
--- line 1
+    line-long : 32 < n → numbersLine k word n bs ≡ Verdict.refuse 5 0
+    unfolding numbersLine
+    line-long h = rw (e, lt-ltb 32 (length us) (omega (arith, long)))
+
+    line-go : n ≤ 32 → numbersLine k word n bs ≡ Verdict.go us rest
+    unfolding numbersLine
+    line-go h = rw (e, le-ltb 32 (length us) (omega (arith, long)))
+
+  numbers-count : {us rest : List ℕ} → numbersLine k word n bs ≡ Verdict.go us rest → length us ≡ n
+  unfolding numbersLine
+  numbers-count {us} {rest} g =
+      onward-go (onLine k (readLine word n bs)) (λ (vs : List ℕ) (mid : List ℕ). refuseIf (longChain vs) 5 0 (Verdict.go vs mid)) g
+      (λ vs mid e₁ e₂.
+      let f : Verdict.go vs mid ≡ Verdict.go us rest = refuse-go (longChain vs) 5 0 (Verdict.go vs mid) e₂ .1 in
+      let a : vs ≡ us = cc in
+      rw (← a) (long (on-line-go k (readLine word n bs) e₁)))
+
+  -- judging its numbers, for which there is room, or judging first whether there is
+  by-reading : {C : Type 0} (x : Reading (List ℕ)) → readLine word n bs ≡ x → (readLine word n bs ≡ Reading.none → C)
+      → ((us rest : List ℕ) → readLine word n bs ≡ Reading.found us rest → C) → C
+  by-reading Reading.none e none found = none e
+  by-reading (Reading.found us rest) e none found = found us rest e
+
+  module _ (judge : List ℕ → List ℕ → Verdict) where
+    few-judged : n ≤ 32 → onward (onLine k (readLine word n bs)) judge ≡ onward (numbersLine k word n bs) judge
+    unfolding numbersLine
+    few-judged h = by-reading (readLine word n bs) refl (λ e. rw e) (λ us rest e. rw (line-go e h, e))
+
+    long-judged : onward (onLine k (readLine word n bs)) (λ (us : List ℕ) (rest : List ℕ). refuseIf (longChain us) 5 0 (judge us rest))
+        ≡ onward (numbersLine k word n bs) judge
+    unfolding numbersLine
+    long-judged =
+        by-reading (readLine word n bs) refl (λ e. rw e) (λ us rest e. decided (longChain us) (λ t. rw (e, t)) (λ f. rw (e, f)))
+
+-- such a line, from the place of a page on
+module _ (bytes : List ℕ) (before : Page) (word : List ℕ) (n k : ℕ) where
+  abbrev at : ℕ
+  at = before .next
+
+  pub numbers-form : {page : Page} → readLine word n (drop at bytes) ≡ Reading.none → page ≡ noPage 10 k
+      → LineAt bytes (before .lengths) (numbersLine k word n (drop at bytes)) page
+  unfolding numbersLine
+  numbers-form e r = line-no r (λ z. omega arith) (rw e)
+
+  module _ {r : End} {end : ℕ} (told : r ≡ At end) (l : EndAt bytes (readLine word n (drop at bytes)) r) where
+    there : EndAt bytes (readLine word n (drop at bytes)) (At end)
+    there = rw told at l
+
+    pub numbers-long : {page : Page} → 32 < n → page ≡ noPage 5 0 → LineAt bytes (before .lengths) (numbersLine k word n (drop at bytes)) page
+    numbers-long h r = line-no r (λ z. omega arith) (line-long k word n (drop at bytes) (there .0) h)
+
+    module _ (inside : at ≤ length bytes) where
+      pub numbers-inside : at + length word ≤ length bytes
+      numbers-inside = line-fields bytes at word n inside (there .0) .0
+
+      pub numbers-there : There (readFields n (drop (at + length word) bytes))
+      numbers-there = record { found = rw (line-fields bytes at word n inside (there .0) .1) }
+
+      pub numbers-go : n ≤ 32 → {numbers : List ℕ}
+          → numbers ≡ numbersOf (readFields n (drop (at + length word) bytes)) ++ replicate (32 - n) 0
+          → LineAt bytes (before .lengths) (numbersLine k word n (drop at bytes))
+          (record { number = 0; place = 0; lengths = before .lengths; numbers = numbers; count = n; next = end })
+      numbers-go h e =
+          let f = e ∙ ap (λ (x : Reading (List ℕ)). numbersOf x ++ replicate (32 - n) 0) (line-fields bytes at word n inside (there .0) .1) in
+          rw (line-go k word n (drop at bytes) (there .0) h)
+          (record { right = λ z. refl; filled = λ z. rw (long k word n (drop at bytes) (there .0), f); wrong = λ z. absurd (z refl); inside = there .1 })
+
+-- conditions of a list refuse in turn, each with the place 0: the first that holds gives the number
+abbrev refuseAll : List Check → Verdict → Verdict
+refuseAll [] s = s
+refuseAll (c ∷ cs) s = refuseIf (c .holds) (c .number) 0 (refuseAll cs s)
+
+all-go : (cs : List Check) (s : Verdict) → T (refusing cs) → firstOf cs ≡ 0 → refuseAll cs s ≡ s
+all-go [] s g e = refl
+all-go (c ∷ cs) s g e =
+    let p = passed (c .holds) (c .number) (firstOf cs) (ltb→lt 0 (c .number) (both-left (ltb 0 (c .number)) (refusing cs) g)) e in
+    rw (p .0) (all-go cs s (both-right (ltb 0 (c .number)) (refusing cs) g) (p .1))
+
+all-no : (cs : List Check) (s : Verdict) → (firstOf cs ≡ 0 → ⊥) → refuseAll cs s ≡ Verdict.refuse (firstOf cs) 0
+all-no [] s n = absurd (n refl)
+all-no (c ∷ cs) s n = decided (c .holds) (λ t. rw t) (λ f. rw f (all-no cs s (rw f at n)))
+
+-- the numbers of a line that was read are judged: its refusal stands; else they are refused, or go on
+module _ {bytes ds : List ℕ} {line : Page} {what whole : Verdict} (judge : List ℕ → List ℕ → Verdict) (so : whole ≡ onward what judge) (l : LineAt bytes ds what line) where
+  pub form-no : {es : List ℕ} → (line .number ≡ 0 → ⊥) → LineAt bytes es whole line
+  form-no n = line-refused n (so ∙ ap (λ (v : Verdict). onward v judge) (l .wrong n)) (l .inside)
+
+  module _ (z : line .number ≡ 0) where
+    judged : whole ≡ judge (wordsOf what) (drop (line .next) bytes)
+    judged = so ∙ ap (λ (v : Verdict). onward v judge) (l .right z)
+
+    judged-go : judge (wordsOf what) (drop (line .next) bytes) ≡ Verdict.go (wordsOf what) (drop (line .next) bytes) → whole ≡ what
+    judged-go e = judged ∙ e ∙ sym (l .right z)
+
+    -- by a list of conditions
+    module _ (cs : List Check) (g : T (refusing cs)) (by-checks : judge (wordsOf what) (drop (line .next) bytes)
+        ≡ refuseAll cs (Verdict.go (wordsOf what) (drop (line .next) bytes)))
+        {k : ℕ} (is : k ≡ firstOf cs) where
+      checked-no : {es : List ℕ} {page : Page} → (k ≡ 0 → ⊥) → page ≡ noPage k 0 → LineAt bytes es whole page
+      checked-no n r = line-no r n (judged ∙ by-checks ∙ all-no cs _ (λ e. n (is ∙ e)) ∙ ap (λ (m : ℕ). Verdict.refuse m 0) (sym is))
+
+      checked-go : k ≡ 0 → whole ≡ what
+      checked-go e = judged-go (by-checks ∙ all-go cs _ g (sym is ∙ e))
+
+-- line 1: four numbers, which are judged as lengths
 module _ (buffer : List ℕ) {bytes : List ℕ} where
-  pub shape-long : {values : List ℕ} {number place next : ℕ} → 16384 < length bytes → RefusedWith 9 0 number place next
-      → VerdictAt bytes (shapeLine buffer bytes) number place values next
+  pub shape-long : {page : Page} → 16384 < length bytes → page ≡ noPage 9 0 → FirstAt buffer bytes page
   unfolding shapeLine
-  shape-long h r = step-no r (λ z. omega arith) (rw (lt-ltb 16384 (length bytes) h))
+  shape-long h r = line-no r (λ z. omega arith) (rw (lt-ltb 16384 (length bytes) h))
 
-  module _ (few : length bytes ≤ 16384) {ok : Bool} {end : ℕ} (l : At bytes (readLine shapeWord 4 bytes) ok (numbersOf (readLine shapeWord 4 bytes)) end) where
-    pub shape-form : {values : List ℕ} {number place next : ℕ} → not ok ≡ true → RefusedWith 10 1 number place next
-        → VerdictAt bytes (shapeLine buffer bytes) number place values next
+  module _ (few : length bytes ≤ 16384) {start : Page} (s : start ≡ noPage 0 0) {line : Page}
+      (r : LineAt bytes (start .lengths) (numbersLine 1 shapeWord 4 (drop (start .next) bytes)) line) where
+    l : LineAt bytes (replicate 4 0) (numbersLine 1 shapeWord 4 bytes) line
+    l = rw s at r
+
+    abbrev lengths-judged : List ℕ → List ℕ → Verdict
+    lengths-judged es rest = refuseAll (sheetChecks es buffer) (Verdict.go es rest)
+
+    shape-as : shapeLine buffer bytes ≡ onward (numbersLine 1 shapeWord 4 bytes) lengths-judged
     unfolding shapeLine
-    shape-form o r = step-no r (λ z. omega arith) (rw (le-ltb 16384 (length bytes) few, l .wrong (not-true ok o)))
+    shape-as = rw (le-ltb 16384 (length bytes) few) (few-judged 1 shapeWord 4 bytes lengths-judged (omega arith))
 
-    module _ (o : not ok ≡ false) where
-      abbrev ds : List ℕ
-      ds = numbersOf (readLine shapeWord 4 bytes)
+    pub shape-form : (line .number ≡ 0 → ⊥) → FirstAt buffer bytes line
+    shape-form = form-no lengths-judged shape-as l
 
-      fields : readFields 4 (drop 5 bytes) ≡ Reading.found (numbersOf (readLine shapeWord 4 bytes)) (lineFeed ∷ drop end bytes)
-      fields = line-fields bytes 0 shapeWord 4 (omega arith) (l .right (not-false ok o)) .1
+    module _ (z : line .number ≡ 0) {n : ℕ} (is : n ≡ firstOf (sheetChecks (firstFour (line .numbers)) buffer)) where
+      abbrev read : List ℕ
+      read = wordsOf (numbersLine 1 shapeWord 4 bytes)
 
-      pub shape-there : There (readFields 4 (drop 5 bytes))
-      shape-there = record { found = rw fields }
+      four : firstFour (line .numbers) ≡ read
+      four =
+          ap (λ (p : Page). firstFour (p .numbers)) (l .filled z)
+          ∙ first-four read (replicate (32 - length read) 0) (numbers-count 1 shapeWord 4 bytes (l .right z))
 
-      module _ {vs : List ℕ} (e : vs ≡ numbersOf (readFields 4 (drop 5 bytes)) ++ replicate 28 0) {n : ℕ} (is : n ≡ firstOf (sheetChecks (firstFour vs) buffer)) where
-        are : firstFour vs ≡ numbersOf (readLine shapeWord 4 bytes)
-        are =
-            rw (e ∙ ap (λ (x : Reading (List ℕ)). numbersOf x ++ replicate 28 0) fields)
-            (first-four ds (replicate 28 0) (line-text shapeWord 4 bytes (l .right (not-false ok o)) .long))
+      checked : n ≡ firstOf (sheetChecks read buffer)
+      checked = is ∙ ap (λ (es : List ℕ). firstOf (sheetChecks es buffer)) four
 
-        -- the step once its form is right
-        abbrev judged : List ℕ → Verdict
-        judged es = refuseIf (badLength es) 1 0 (refuseIf (bigSheet es) 11 0 (refuseIf (shortBuffer es buffer) 3 0 (Verdict.go es (drop end bytes))))
+      pub shape-no : {page : Page} → (n ≡ 0 → ⊥) → page ≡ noPage n 0 → FirstAt buffer bytes page
+      shape-no = checked-no lengths-judged shape-as l z (sheetChecks read buffer) tt refl checked
 
-        formed : shapeLine buffer bytes ≡ judged (firstFour vs)
-        unfolding shapeLine
-        formed = rw (le-ltb 16384 (length bytes) few, l .right (not-false ok o)) (ap judged (sym are))
+      pub shape-go : n ≡ 0 → FirstAt buffer bytes (withLengths (firstFour (line .numbers)) line)
+      shape-go t =
+          rw (checked-go lengths-judged shape-as l z (sheetChecks read buffer) tt refl checked t, four)
+          (record { right = l .right; filled = λ y. ap (withLengths read) (l .filled y); wrong = l .wrong; inside = l .inside })
 
-        pub shape-no : {values : List ℕ} {number place next : ℕ} → (n ≡ 0 → ⊥) → RefusedWith n 0 number place next
-            → VerdictAt bytes (shapeLine buffer bytes) number place values next
-        shape-no nonzero r =
-            step-no r nonzero
-            (formed ∙ three-no (badLength (firstFour vs)) (bigSheet (firstFour vs)) (shortBuffer (firstFour vs) buffer) _ (λ z. nonzero (is ∙ z))
-            ∙ ap (λ (k : ℕ). Verdict.refuse k 0) (sym is))
+-- line 2, after a page of line 1 that refuses
+pub first-stands : {bytes : List ℕ} (second : List ℕ → Verdict) (first : Page) {page : Page} → (first .number ≡ 0 → ⊥)
+    → page ≡ noPage (first .number) (first .place) → SecondAt second bytes first page
+first-stands second first n r = line-no r n (rw (ne-eqb (first .number) 0 n))
 
-        pub shape-go : n ≡ 0 → VerdictAt bytes (shapeLine buffer bytes) 0 0 (firstFour vs) end
-        shape-go z =
-            step-go (formed ∙ three-go (badLength (firstFour vs)) (bigSheet (firstFour vs)) (shortBuffer (firstFour vs) buffer) _ (sym is ∙ z))
-            (l .inside)
+-- of a sheet: so many numbers as the line has tabs, which are judged as swaps
+module _ {bytes : List ℕ} (first : Page) (z : first .number ≡ 0) {n : ℕ} (t : n ≡ tabs (drop (first .next) bytes)) {line : Page}
+    (l : LineAt bytes (first .lengths) (numbersLine 2 chainWord n (drop (first .next) bytes)) line) where
+  abbrev swaps-judged : List ℕ → List ℕ → Verdict
+  swaps-judged chain rest = refuseIf (badSwap 4 chain) 6 (firstPlace (noSwap 4) chain) (Verdict.go chain rest)
 
--- line 2: a refusal, or its numbers
-second-no : {bytes numbers : List ℕ} {what : Verdict} {number place n next k p : ℕ} → RefusedWith k p number place next → (k ≡ 0 → ⊥)
-    → what ≡ Verdict.refuse k p → SecondAt bytes what number place numbers n next
-second-no r nonzero e =
-    record {
-      step = step-no r nonzero e;
-      padded = λ z. absurd (nonzero (sym (r .numbered) ∙ z));
-      counted = λ z. absurd (nonzero (sym (r .numbered) ∙ z));
-    }
-
-second-go : {bytes numbers vs : List ℕ} {what : Verdict} {n next : ℕ} → what ≡ Verdict.go vs (drop next bytes) → next ≤ length bytes
-    → numbers ≡ vs ++ replicate (32 - n) 0 → length vs ≡ n → SecondAt bytes what 0 0 numbers n next
-second-go {vs = vs} {what = what} e h is long =
-    let w : wordsOf what ≡ vs = rw e in
-    record {
-      step = step-go (rw e) h;
-      padded = λ z. rw w (is ∙ ap (λ (n : ℕ). vs ++ replicate (32 - n) 0) (sym long));
-      counted = λ z. rw w (sym long);
-    }
-
--- line 2 of a form: a word and so many numbers, from a place on
-module _ {bytes : List ℕ} (at : ℕ) (word : List ℕ) (count : ℕ) {ok : Bool} {end : ℕ}
-    (l : At bytes (readLine word count (drop at bytes)) ok (numbersOf (readLine word count (drop at bytes))) end) (o : not ok ≡ false) where
-  second-formed : readLine word count (drop at bytes) ≡ Reading.found (numbersOf (readLine word count (drop at bytes))) (drop end bytes)
-  second-formed = l .right (not-false ok o)
-
-  long : length (numbersOf (readLine word count (drop at bytes))) ≡ count
-  long = line-text word count (drop at bytes) second-formed .long
-
-  module _ (inside : at ≤ length bytes) where
-    pub second-inside : at + length word ≤ length bytes
-    second-inside = line-fields bytes at word count inside second-formed .0
-
-    fields₂ : readFields count (drop (at + length word) bytes)
-        ≡ Reading.found (numbersOf (readLine word count (drop at bytes))) (lineFeed ∷ drop end bytes)
-    fields₂ = line-fields bytes at word count inside second-formed .1
-
-    pub second-there : There (readFields count (drop (at + length word) bytes))
-    second-there = record { found = rw fields₂ }
-
-    fetched : {numbers : List ℕ} → numbers ≡ numbersOf (readFields count (drop (at + length word) bytes)) ++ replicate (32 - count) 0
-        → numbers ≡ numbersOf (readLine word count (drop at bytes)) ++ replicate (32 - count) 0
-    fetched e = e ∙ ap (λ (x : Reading (List ℕ)). numbersOf x ++ replicate (32 - count) 0) fields₂
-
--- a chain, which has so many tabs
-module _ {bytes : List ℕ} (at : ℕ) {count : ℕ} (t : count ≡ tabs (drop at bytes)) {ok : Bool} {end : ℕ}
-    (l : At bytes (readLine chainWord count (drop at bytes)) ok (numbersOf (readLine chainWord count (drop at bytes))) end) where
-  pub chain-form : {numbers : List ℕ} {number place n next : ℕ} → not ok ≡ true → RefusedWith 10 2 number place next
-      → SecondAt bytes (chainLine (drop at bytes)) number place numbers n next
+  chain-as : further first chainLine bytes ≡ onward (numbersLine 2 chainWord n (drop (first .next) bytes)) swaps-judged
   unfolding chainLine
-  chain-form o r = second-no r (λ z. omega arith) (rw (← t, l .wrong (not-true ok o)))
+  chain-as = rw (z, t) (long-judged 2 chainWord (tabs (drop (first .next) bytes)) (drop (first .next) bytes) swaps-judged)
 
-  module _ (o : not ok ≡ false) where
+  pub chain-form : (line .number ≡ 0 → ⊥) → SecondAt chainLine bytes first line
+  chain-form = form-no swaps-judged chain-as l
+
+  module _ (y : line .number ≡ 0) where
     abbrev chain : List ℕ
-    chain = numbersOf (readLine chainWord count (drop at bytes))
+    chain = wordsOf (numbersLine 2 chainWord n (drop (first .next) bytes))
 
-    chain-formed : chainLine (drop at bytes)
-        ≡ refuseIf (ltb 32 (length chain)) 5 0 (refuseIf (badSwap 4 chain) 6 (firstPlace (noSwap 4) chain) (Verdict.go chain (drop end bytes)))
-    unfolding chainLine
-    chain-formed = rw (← t, l .right (not-false ok o))
+    count-of : line .count ≡ length chain
+    count-of = ap (λ (p : Page). p .count) (l .filled y)
 
-    count-of : length chain ≡ count
-    count-of = long at chainWord count l o
+    pub swaps-inside : line .count ≤ length (line .numbers)
+    swaps-inside =
+        omega (arith, count-of, ap (λ (p : Page). length (p .numbers)) (l .filled y), length-append chain (replicate (32 - length chain) 0))
 
-    pub chain-long : {numbers : List ℕ} {number place n next : ℕ} → 32 < count → RefusedWith 5 0 number place next
-        → SecondAt bytes (chainLine (drop at bytes)) number place numbers n next
-    chain-long h r = second-no r (λ z. omega arith) (chain-formed ∙ rw (lt-ltb 32 (length chain) (omega (arith, count-of))))
+    module _ {bad : ℕ} (b : bad ≡ firstPlace (ltb 2) (take (line .count) (line .numbers))) where
+      first-bad : bad ≡ firstPlace (noSwap 4) chain
+      first-bad =
+          b ∙ ap (λ (p : Page). firstPlace (noSwap 4) (take (p .count) (p .numbers))) (l .filled y)
+          ∙ ap (firstPlace (noSwap 4)) (take-at chain (replicate (32 - length chain) 0) (length chain) refl)
 
-    module _ (inside : at ≤ length bytes) (few : count ≤ 32) {swaps : List ℕ}
-        (e : swaps ≡ numbersOf (readFields count (drop (at + 5) bytes)) ++ replicate (32 - count) 0)
-        {bad : ℕ} (b : bad ≡ firstPlace (ltb 2) (take count swaps)) where
-      swaps-are : swaps ≡ chain ++ replicate (32 - count) 0
-      swaps-are = fetched at chainWord count l o inside e
-
-      first : bad ≡ firstPlace (noSwap 4) chain
-      first = b ∙ rw swaps-are (ap (firstPlace (noSwap 4)) (take-at chain (replicate (32 - count) 0) count count-of))
-
-      pub chain-bad : {values : List ℕ} {number place n next : ℕ} → bad < count → RefusedWith 6 bad number place next
-          → SecondAt bytes (chainLine (drop at bytes)) number place values n next
+      pub chain-bad : {page : Page} → bad < line .count → page ≡ noPage 6 bad → SecondAt chainLine bytes first page
       chain-bad h r =
-          let some-bad = found-place (noSwap 4) chain (omega (arith, first, count-of)) in
-          second-no r (λ z. omega arith)
-          (chain-formed ∙ rw (le-ltb 32 (length chain) (omega (arith, count-of)), some-bad) (ap (Verdict.refuse 6) (sym first)))
+          let some-bad = found-place (noSwap 4) chain (omega (arith, first-bad, count-of)) in
+          line-no r (λ o. omega arith) (judged swaps-judged chain-as l y ∙ rw some-bad (ap (Verdict.refuse 6) (sym first-bad)))
 
-      pub chain-go : count ≤ bad → SecondAt bytes (chainLine (drop at bytes)) 0 0 swaps count end
-      chain-go h =
-          let none = no-place (noSwap 4) chain (omega (arith, first, count-of)) in
-          second-go {vs = chain} (chain-formed ∙ rw (le-ltb 32 (length chain) (omega (arith, count-of)), none)) (l .inside) swaps-are count-of
+      pub chain-go : line .count ≤ bad → SecondAt chainLine bytes first line
+      chain-go h = rw (judged-go swaps-judged chain-as l y (rw (no-place (noSwap 4) chain (omega (arith, first-bad, count-of))))) l
 
--- two conditions refuse with the number of the first that holds
-two-go : (a b : Bool) (s : Verdict) → firstOf (check 14 a ∷ check 7 b ∷ []) ≡ 0 → refuseIf a 14 0 (refuseIf b 7 0 s) ≡ s
-two-go true b s e = absurd (omega arith)
-two-go false true s e = absurd (omega arith)
-two-go false false s e = refl
+-- of a result sheet: a release, where one is named, and an order number
+abbrev orderChecks : List ℕ → List Check
+orderChecks order = check 14 (wrongRelease order) ∷ check 7 (noOrder 4 (lineOrder order)) ∷ []
 
-two-no : (a b : Bool) (s : Verdict) → (firstOf (check 14 a ∷ check 7 b ∷ []) ≡ 0 → ⊥)
-    → refuseIf a 14 0 (refuseIf b 7 0 s) ≡ Verdict.refuse (firstOf (check 14 a ∷ check 7 b ∷ [])) 0
-two-no true b s n = refl
-two-no false true s n = refl
-two-no false false s n = absurd (n refl)
-
--- what refuses the numbers of line 2, of which one or two stand before zeros
-line-number : (vs : List ℕ) (k : ℕ)
-    → lineNumber (length vs) (vs ++ replicate k 0) ≡ firstOf (check 14 (wrongRelease vs) ∷ check 7 (noOrder 4 (lineOrder vs)) ∷ [])
+line-number : (vs : List ℕ) (k : ℕ) → lineNumber (length vs) (vs ++ replicate k 0) ≡ firstOf (orderChecks vs)
 line-number [] zero = refl
 line-number [] (suc k) = refl
 line-number (v ∷ []) k = refl
 line-number (release ∷ v ∷ vs) k = rw (lt-ltb 1 (length (release ∷ v ∷ vs)) (omega arith))
 
--- how many numbers the line must have
-pub order-few : (bytes : List ℕ) → orderFields bytes ≤ 2
-order-few bytes = by (eqb (tabs bytes) 2)
-  where
-    by : (t : Bool) → cond t 2 1 ≤ 2
-    by true = omega arith
-    by false = omega arith
+order-few : (bytes : List ℕ) → orderFields bytes ≤ 32
+order-few bytes = decided (eqb (tabs bytes) 2) (λ t. rw t (omega arith)) (λ f. rw f (omega arith))
 
--- a release, where one is named, and an order number
-module _ {bytes : List ℕ} (at : ℕ) {count : ℕ} (t : count ≡ orderFields (drop at bytes)) {ok : Bool} {end : ℕ}
-    (l : At bytes (readLine orderWord count (drop at bytes)) ok (numbersOf (readLine orderWord count (drop at bytes))) end) where
-  pub order-form : {numbers : List ℕ} {number place n next : ℕ} → not ok ≡ true → RefusedWith 10 2 number place next
-      → SecondAt bytes (orderLine (drop at bytes)) number place numbers n next
+module _ {bytes : List ℕ} (first : Page) (z : first .number ≡ 0) {n : ℕ} (t : n ≡ orderFields (drop (first .next) bytes)) {line : Page}
+    (l : LineAt bytes (first .lengths) (numbersLine 2 orderWord n (drop (first .next) bytes)) line) where
+  abbrev order-judged : List ℕ → List ℕ → Verdict
+  order-judged order rest = refuseAll (orderChecks order) (Verdict.go order rest)
+
+  order-as : further first orderLine bytes ≡ onward (numbersLine 2 orderWord n (drop (first .next) bytes)) order-judged
   unfolding orderLine
-  order-form o r = second-no r (λ z. omega arith) (rw (← t, l .wrong (not-true ok o)))
+  order-as = rw (z, t) (few-judged 2 orderWord (orderFields (drop (first .next) bytes)) (drop (first .next) bytes) order-judged (order-few (drop (first .next) bytes)))
 
-  module _ (o : not ok ≡ false) (inside : at ≤ length bytes) {numbers : List ℕ}
-      (e : numbers ≡ numbersOf (readFields count (drop (at + 5) bytes)) ++ replicate (32 - count) 0) {k : ℕ} (j : k ≡ lineNumber count numbers) where
+  pub order-form : (line .number ≡ 0 → ⊥) → SecondAt orderLine bytes first line
+  order-form = form-no order-judged order-as l
+
+  module _ (y : line .number ≡ 0) {k : ℕ} (j : k ≡ lineNumber (line .count) (line .numbers)) where
     abbrev order : List ℕ
-    order = numbersOf (readLine orderWord count (drop at bytes))
+    order = wordsOf (numbersLine 2 orderWord n (drop (first .next) bytes))
 
-    numbers-are : numbers ≡ order ++ replicate (32 - count) 0
-    numbers-are = fetched at orderWord count l o inside e
+    numbered : k ≡ firstOf (orderChecks order)
+    numbered = j ∙ ap (λ (p : Page). lineNumber (p .count) (p .numbers)) (l .filled y) ∙ line-number order (32 - length order)
 
-    order-formed : orderLine (drop at bytes)
-        ≡ refuseIf (wrongRelease order) 14 0 (refuseIf (noOrder 4 (lineOrder order)) 7 0 (Verdict.go order (drop end bytes)))
-    unfolding orderLine
-    order-formed = rw (← t, l .right (not-false ok o))
+    pub order-no : {page : Page} → (k ≡ 0 → ⊥) → page ≡ noPage k 0 → SecondAt orderLine bytes first page
+    order-no = checked-no order-judged order-as l y (orderChecks order) tt refl numbered
 
-    numbered : k ≡ firstOf (check 14 (wrongRelease order) ∷ check 7 (noOrder 4 (lineOrder order)) ∷ [])
-    numbered = j ∙ ap₂ lineNumber (sym (long at orderWord count l o)) numbers-are ∙ line-number order (32 - count)
-
-    pub order-no : {values : List ℕ} {number place n next : ℕ} → (k ≡ 0 → ⊥) → RefusedWith k 0 number place next
-        → SecondAt bytes (orderLine (drop at bytes)) number place values n next
-    order-no z r =
-        second-no r z
-        (order-formed
-        ∙ two-no (wrongRelease order) (noOrder 4 (lineOrder order)) (Verdict.go order (drop end bytes)) (λ y. z (numbered ∙ y))
-        ∙ ap (λ (n : ℕ). Verdict.refuse n 0) (sym numbered))
-
-    pub order-go : k ≡ 0 → SecondAt bytes (orderLine (drop at bytes)) 0 0 numbers count end
-    order-go z =
-        second-go {vs = order}
-        (order-formed ∙ two-go (wrongRelease order) (noOrder 4 (lineOrder order)) (Verdict.go order (drop end bytes)) (sym numbered ∙ z))
-        (l .inside) numbers-are (long at orderWord count l o)
-
--- line 2 by its reader
-module _ {bytes : List ℕ} (at : ℕ) (result : Bool) {numbers : List ℕ} {number place n next : ℕ} where
-  pub by-order : SecondAt bytes (orderLine (drop at bytes)) number place numbers n next → result ≡ true
-      → SecondAt bytes (secondLine result (drop at bytes)) number place numbers n next
-  by-order h e = rw e h
-
-  pub by-chain : SecondAt bytes (chainLine (drop at bytes)) number place numbers n next → result ≡ false
-      → SecondAt bytes (secondLine result (drop at bytes)) number place numbers n next
-  by-chain h e = rw e h
+    pub order-go : k ≡ 0 → SecondAt orderLine bytes first line
+    order-go e = rw (checked-go order-judged order-as l y (orderChecks order) tt refl numbered e) l

@@ -4,8 +4,7 @@ use Rattle.lists.proofs.Kit.{_≡_, sym, ap, _∙_, Bool, true, false, not, _&&
 use Rattle.text.specs.Print.{tabByte, lineFeed}
 use Rattle.text.specs.Read.{Reading, after, readFields, closed, readLine, tabs}
 use Rattle.text.proofs.Lines.{after-found, closed-found}
-use Rattle.sheet.specs.Private.{At, numbersOf}
-use Rattle.sheet.proofs.Places.{at-found, at-none}
+use Rattle.sheet.specs.Private.{numbersOf}
 use Rattle.sheet.proofs.Runs.{got}
 
 same-length : (xs ys : List ℕ) → same xs ys ≡ true → length xs ≡ length ys
@@ -116,8 +115,8 @@ module _ (bytes : List ℕ) (p : ℕ) (h : p < length bytes) where
 
 -- the ways out of reading a line: no word, no fields, no LF, or the line
 module _ (bytes : List ℕ) (at : ℕ) (word : List ℕ) (n : ℕ) {w : Bool} (stands : w ≡ same (take (length word) (drop at bytes)) word) where
-  pub line-no-word : {vs : List ℕ} → not w ≡ true → At bytes (readLine word n (drop at bytes)) false vs 0
-  line-no-word o = at-none (no-word bytes at word n (sym stands ∙ not-true w o))
+  pub line-no-word : not w ≡ true → readLine word n (drop at bytes) ≡ Reading.none
+  line-no-word o = no-word bytes at word n (sym stands ∙ not-true w o)
 
   module _ (o : not w ≡ false) where
     is : same (take (length word) (drop at bytes)) word ≡ true
@@ -126,18 +125,18 @@ module _ (bytes : List ℕ) (at : ℕ) (word : List ℕ) (n : ℕ) {w : Bool} (s
     pub line-inside : at ≤ length bytes → at + length word ≤ length bytes
     line-inside h = word-inside bytes at word h is
 
-    module _ {ok : Bool} {us : List ℕ} {end : ℕ} (f : At bytes (readFields n (drop (at + length word) bytes)) ok us end) where
-      pub line-no-fields : {vs : List ℕ} → not ok ≡ true → At bytes (readLine word n (drop at bytes)) false vs 0
-      line-no-fields k = at-none (past-word bytes at word n is ∙ rw (f .wrong (not-true ok k)))
+    pub line-no-fields : readFields n (drop (at + length word) bytes) ≡ Reading.none → readLine word n (drop at bytes) ≡ Reading.none
+    line-no-fields e = past-word bytes at word n is ∙ rw e
 
-      module _ (k : not ok ≡ false) where
-        fielded : readLine word n (drop at bytes) ≡ closed us (drop end bytes)
-        fielded = past-word bytes at word n is ∙ rw (f .right (not-false ok k))
+    module _ {us : List ℕ} (end : ℕ) (f : readFields n (drop (at + length word) bytes) ≡ Reading.found us (drop end bytes)) where
+      fielded : readLine word n (drop at bytes) ≡ closed us (drop end bytes)
+      fielded = past-word bytes at word n is ∙ rw f
 
-        pub line-no-feed : {vs : List ℕ} → (getD bytes end 0 ≡ lineFeed → ⊥) → At bytes (readLine word n (drop at bytes)) false vs 0
-        line-no-feed e = at-none (fielded ∙ not-closed bytes end us e)
+      pub line-no-feed : (getD bytes end 0 ≡ lineFeed → ⊥) → readLine word n (drop at bytes) ≡ Reading.none
+      line-no-feed e = fielded ∙ not-closed bytes end us e
 
-        pub line-read : getD bytes end 0 ≡ lineFeed → At bytes (readLine word n (drop at bytes)) true (numbersOf (readLine word n (drop at bytes))) (end + 1)
-        line-read e =
-            let inside = byte-inside bytes end e (omega arith) in
-            at-found (end + 1) (got (fielded ∙ closed-feed bytes end inside us e)) (omega arith)
+      pub line-read : getD bytes end 0 ≡ lineFeed
+          → (readLine word n (drop at bytes) ≡ Reading.found (numbersOf (readLine word n (drop at bytes))) (drop (end + 1) bytes)) × (end + 1 ≤ length bytes)
+      line-read e =
+          let inside = byte-inside bytes end e (omega arith) in
+          (got (fielded ∙ closed-feed bytes end inside us e), omega arith)

@@ -1,22 +1,9 @@
 -- Reading at a place of the bytes: one byte more of a number, and what is read at a place by the byte that stands there.
 -- From the definitions, the bytes dropped to a place being the byte there and the bytes dropped to the next.
-use Rattle.lists.proofs.Kit.{_≡_, _∙_, Bool, true, false, List, ℕ, _+_, _-_, _*_, _<_, _≤_, arith, leb, length, drop, getD, drop-of-length-le, le-ltb, lt-ltb, le-leb, lt-leb, ne-eqb, drop-next}
+use Rattle.lists.proofs.Kit.{_≡_, true, false, List, ℕ, _+_, _-_, _*_, _<_, _≤_, arith, leb, length, drop, getD, drop-of-length-le, le-ltb, lt-ltb, le-leb, lt-leb, ne-eqb, drop-next}
 use Rattle.text.specs.Print.{limit, tabByte}
 use Rattle.text.specs.Read.{Reading, isDigit, readMore, readNumber, readField}
 use Rattle.text.proofs.Numbers.{both-true}
-use Rattle.sheet.specs.Private.{At}
-
-pub at-found : {A : Type 0} {bytes : List ℕ} {what : Reading A} {value : A} (next : ℕ) → what ≡ Reading.found value (drop next bytes)
-    → next ≤ length bytes → At bytes what true value next
-at-found next e h = record { right = λ t. e; wrong = λ t. let n : _≡_ {A = ℕ} 0 1 = cc in absurd (omega arith); inside = h }
-
-pub at-none : {A : Type 0} {bytes : List ℕ} {what : Reading A} {value : A} → what ≡ Reading.none → At bytes what false value 0
-at-none e = record { right = λ t. let n : _≡_ {A = ℕ} 0 1 = cc in absurd (omega arith); wrong = λ t. e; inside = omega arith }
-
--- another way to the same reading
-pub at-same : {A : Type 0} {bytes : List ℕ} {what what′ : Reading A} {ok : Bool} {value : A} {next : ℕ} → what ≡ what′
-    → At bytes what′ ok value next → At bytes what ok value next
-at-same e h = record { right = λ t. e ∙ h .right t; wrong = λ t. e ∙ h .wrong t; inside = h .inside }
 
 digit-yes : (b : ℕ) → 48 ≤ b → b ≤ 57 → isDigit b ≡ true
 digit-yes b h k = both-true (leb 48 b) (leb b 57) (le-leb 48 b h) (le-leb b 57 k)

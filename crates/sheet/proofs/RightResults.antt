@@ -1,6 +1,6 @@
 -- The number of the reader of result sheets is 0 exactly when the bytes are the text of what it answers and stores; where it is not, the
 -- place is the first line at fault. From the laws of accepted and of refused result sheets.
-use Rattle.lists.proofs.Kit.{_≡_, refl, sym, ap, ap₂, subst, _∙_, Bool, true, false, cond, List, [], _∷_, _++_, ℕ, _≤_, arith, eqb, length, take, drop, take-at, eqb-true}
+use Rattle.lists.proofs.Kit.{_≡_, refl, sym, ap, ap₂, subst, _∙_, Bool, true, false, cond, List, [], _∷_, _++_, ℕ, arith, eqb, length, take, drop, take-at, eqb-true}
 use Rattle.layout.specs.Layout.{volume}
 use Rattle.text.specs.Sheet.{orderNumbers}
 use Rattle.text.specs.Meaning.{Outcome, lineRelease, lineOrder, resultMeaning}

@@ -1,11 +1,10 @@
 -- The reader's number is 0 exactly when the bytes are the text of what it answers. From the law of accepted sheets.
-use Rattle.lists.proofs.Kit.{_≡_, refl, ap, _∙_, List, _++_, ℕ, arith, length, drop}
+use Rattle.lists.proofs.Kit.{_≡_, refl, ap, _∙_, List, ℕ, arith}
 use Rattle.text.specs.Meaning.{Outcome, meaning}
 use Rattle.text.specs.Right.{Right}
 use Rattle.text.proofs.SecondLines.{accepted-exactly}
 use Rattle.text.proofs.Bounds.{Within, meaning-within}
 use Rattle.sheet.specs.declared.Sheet.{Sheet}
-use Rattle.sheet.specs.Swaps.{padded}
 use Rattle.sheet.specs.Reader.{answer, kept, ReadAs, Answered}
 
 accepted-answer : {buffer bytes : List ℕ} {r : Sheet} {w ds chain words : List ℕ} → ReadAs buffer bytes r w

@@ -1,13 +1,14 @@
 -- Rows from a line on: one row more, a wrong row, the end of the rows; and what is stored of them. From the definitions, the count
 -- of rows left going down by one.
-use Rattle.lists.proofs.Kit.{_≡_, refl, sym, ap, _∙_, Bool, true, false, not, List, [], _∷_, _++_, append-assoc, ℕ, suc, _+_, _-_, _<_, _≤_, arith, length, drop, getD, drop-of-length-le, sets, ⊎-elim, lt-or-ge, not-true, not-false, drop-next}
+use Rattle.lists.proofs.Kit.{_≡_, refl, sym, ap, _∙_, List, [], _∷_, _++_, append-assoc, ℕ, suc, _+_, _-_, _<_, _≤_, arith, length, drop, getD, drop-of-length-le, sets, ⊎-elim, lt-or-ge, ne-eqb, drop-next}
 use Rattle.text.specs.Print.{lineFeed}
 use Rattle.text.specs.Read.{Reading, readFields, readLine}
 use Rattle.text.specs.Sheet.{rowWord, rowCount, rowWidth}
 use Rattle.text.specs.Meaning.{Verdict, behind, ended, rowLines}
 use Rattle.text.proofs.Lines.{fields-text}
 use Rattle.text.proofs.Steps.{behind-go}
-use Rattle.sheet.specs.Private.{At, RowsAt, RowsThere, RowsTaken, There, wordsOf, numbersOf}
+use Rattle.sheet.specs.Private.{RowsAt, RowsThere, RowsTaken, There, noPage, further, rowsOf, wordsOf, numbersOf}
+use Rattle.sheet.specs.declared.page.Page.{Page}
 use Rattle.sheet.proofs.LinesAt.{line-fields}
 
 rows-right : {what : Verdict} {ws : List ℕ} → what ≡ Verdict.go ws [] → RowsAt what 0
@@ -135,15 +136,23 @@ pub no-words : (count n : ℕ) (bs : List ℕ) → wordsOf (rowsLeft count n cou
 unfolding rowLines
 no-words count n bs = let a : count - count ≡ 0 = omega arith in rw a (ended-words (3 + count) bs)
 
--- the rows of a block whose count and width are given by other numbers: wrong and kept, or right and stored
-module _ (ds : List ℕ) (bs : List ℕ) {count n : ℕ} (e : count ≡ rowCount ds) (w : n ≡ rowWidth ds) {words : List ℕ} {line : ℕ}
-    (j : RowsAt (rowLines 3 count n bs) line) where
-  pub rows-kept : (line ≡ 0 → ⊥) → RowsTaken (rowLines 3 (rowCount ds) (rowWidth ds) bs) line words words
-  rows-kept z = rw (← e, ← w) (record { judged = j; stored = λ t. absurd (z t); kept = λ _. refl })
+-- a page's refusal stands; else the rows of its block, whose count and width are given by other numbers, are wrong, or right and stored
+module _ (bytes : List ℕ) (second : Page) where
+  pub page-stands : {page : Page} {words : List ℕ} → (second .number ≡ 0 → ⊥) → page ≡ noPage (second .number) (second .place)
+      → RowsTaken (further second (rowsOf second) bytes) second page words words
+  page-stands n r = RowsTaken.wrong r (rw (ne-eqb (second .number) 0 n)) refl
 
-  pub rows-stored : line ≡ 0 → {words′ : List ℕ} → words′ ≡ sets words 0 (wordsOf (rowLines 3 count n bs))
-      → RowsTaken (rowLines 3 (rowCount ds) (rowWidth ds) bs) 0 words words′
-  rows-stored z s = rw (← e, ← w) (record { judged = rw z at j; stored = λ _. s; kept = λ t. absurd (t refl) })
+  module _ (z : second .number ≡ 0) {count n : ℕ} (e : count ≡ rowCount (second .lengths)) (w : n ≡ rowWidth (second .lengths)) {line : ℕ}
+      (j : RowsAt (rowLines 3 count n (drop (second .next) bytes)) line) where
+    rows-as : further second (rowsOf second) bytes ≡ rowLines 3 count n (drop (second .next) bytes)
+    rows-as = rw (z, e, w)
+
+    pub rows-kept : {page : Page} {words : List ℕ} → (line ≡ 0 → ⊥) → page ≡ noPage 10 line → RowsTaken (further second (rowsOf second) bytes) second page words words
+    rows-kept o r = RowsTaken.wrong r (rows-as ∙ j .wrong o) refl
+
+    pub rows-stored : {words words′ : List ℕ} → line ≡ 0 → words′ ≡ sets words 0 (wordsOf (rowLines 3 count n (drop (second .next) bytes)))
+        → RowsTaken (further second (rowsOf second) bytes) second second words words′
+    rows-stored o s = rw rows-as (RowsTaken.right (j .right o) refl s)
 
 -- judging rows one by one: the words of those passed stand before what those left read as
 pub record Passed (bytes : List ℕ) (at count n p i : ℕ) : Type 0 where
@@ -157,20 +166,19 @@ module _ (bytes : List ℕ) (at count n : ℕ) where
       record { words = []; left = rw z (behind-none (rowLines 3 count n (drop at bytes))) }
 
   module _ (p i : ℕ) (h : Passed bytes at count n p i) where
-    module _ {ok : Bool} {next : ℕ} (l : At bytes (readLine rowWord n (drop p bytes)) ok (numbersOf (readLine rowWord n (drop p bytes))) next) where
-      pub one-passed : not ok ≡ false → i < count → Passed bytes at count n next (i + 1)
-      one-passed o k =
-          let us = numbersOf (readLine rowWord n (drop p bytes)) in
-          record {
-            words = h .words ++ us;
-            left =
-                h .left
-                ∙ ap (behind (h .words)) (row-step count n i (drop p bytes) k (l .right (not-false ok o)))
-                ∙ behind-behind (h .words) us (rowsLeft count n (i + 1) (drop next bytes));
-          }
+    pub one-passed : {us : List ℕ} {next : ℕ} → readLine rowWord n (drop p bytes) ≡ Reading.found us (drop next bytes) → i < count
+        → Passed bytes at count n next (i + 1)
+    one-passed {us} {next} e k =
+        record {
+          words = h .words ++ us;
+          left =
+              h .left
+              ∙ ap (behind (h .words)) (row-step count n i (drop p bytes) k e)
+              ∙ behind-behind (h .words) us (rowsLeft count n (i + 1) (drop next bytes));
+        }
 
-      pub wrong-row : not ok ≡ true → i < count → RowsAt (rowLines 3 count n (drop at bytes)) (i + 3)
-      wrong-row o k = rows-wrong (omega arith) (h .left ∙ rw (row-bad count n i (drop p bytes) k (l .wrong (not-true ok o))))
+    pub wrong-row : readLine rowWord n (drop p bytes) ≡ Reading.none → i < count → RowsAt (rowLines 3 count n (drop at bytes)) (i + 3)
+    wrong-row e k = rows-wrong (omega arith) (h .left ∙ rw (row-bad count n i (drop p bytes) k e))
 
     pub left-over : i ≡ count → p < length bytes → RowsAt (rowLines 3 count n (drop at bytes)) (count + 3)
     left-over e k =

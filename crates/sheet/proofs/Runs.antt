@@ -1,9 +1,8 @@
 -- A run of fields, one field more or none: what a loop over fields carries. By induction on the fields read so far.
-use Rattle.lists.proofs.Kit.{_≡_, refl, sym, ap, _∙_, List, [], _∷_, _++_, ℕ, zero, suc, _+_, _<_, arith, le-of-suc-le-suc, add-one, drop, Bool, false, true, not, not-true, not-false, decided}
+use Rattle.lists.proofs.Kit.{_≡_, refl, sym, ap, _∙_, List, [], _∷_, _++_, ℕ, zero, suc, _+_, _<_, arith, le-of-suc-le-suc, add-one}
 use Rattle.text.specs.Read.{Reading, after, readField, readFields}
 use Rattle.text.proofs.Lines.{after-found}
-use Rattle.sheet.specs.Private.{At, There, numbersOf}
-use Rattle.sheet.proofs.Places.{at-none}
+use Rattle.sheet.specs.Private.{numbersOf}
 
 -- what was found is found with its own numbers
 pub got : {x : Reading (List ℕ)} {vs rest : List ℕ} → x ≡ Reading.found vs rest → x ≡ Reading.found (numbersOf x) rest
@@ -65,19 +64,3 @@ field-there i n bs {us} {end} e h f g =
     let a : Reading.none ≡ Reading.found us end = sym (fields-stop i n bs f g h) ∙ e in
     let z : _≡_ {A = ℕ} 0 1 = cc in
     omega arith
-
--- so a field that is read again is found again
-pub taken-field : (i n : ℕ) (bs : List ℕ) {vs mid bytes : List ℕ} (ok : Bool) {value next : ℕ} → There (readFields n bs) → i < n
-    → readFields i bs ≡ Reading.found vs mid → At bytes (readField mid) ok value next → readField mid ≡ Reading.found value (drop next bytes)
-taken-field i n bs ok t h e a =
-    decided ok (λ q. a .right q) (λ q. absurd (field-there i n bs (t .found) h e (a .wrong q)))
-
--- the next field of a run, by what was found at its place
-module _ (i : ℕ) {bytes : List ℕ} {ok : Bool} {value next : ℕ} where
-  pub next-field : (bs : List ℕ) {vs mid : List ℕ} → readFields i bs ≡ Reading.found vs mid → At bytes (readField mid) ok value next → not ok ≡ false
-      → readFields (i + 1) bs ≡ Reading.found (numbersOf (readFields (i + 1) bs)) (drop next bytes)
-  next-field bs e a o = got (fields-more i bs e (a .right (not-false ok o)))
-
-  pub no-next-field : (n : ℕ) (bs : List ℕ) {vs mid us : List ℕ} → readFields i bs ≡ Reading.found vs mid → At bytes (readField mid) ok value next
-      → not ok ≡ true → i < n → At bytes (readFields n bs) false us 0
-  no-next-field n bs e a o h = at-none (fields-stop i n bs e (a .wrong (not-true ok o)) h)

@@ -3,85 +3,55 @@ ghost use Prim.Native.Nat.{_≤_};
 ghost use lib.ListN.{length, drop};
 ghost use Rattle.text.specs.Print.{limit};
 ghost use Rattle.text.specs.Read.{readMore, readNumber, readField};
-ghost use Rattle.sheet.specs.Private.{At};
+ghost use Rattle.sheet.specs.Private.{FieldAt};
 
-// A number that was read, and the place after it.
-pub struct Number {
-    pub ok: bool,
-    pub value: usize,
-    pub next: usize,
+// What stands at a place: no number, or a number and the place after it.
+pub enum Field {
+    Nothing,
+    Number { value: usize, next: usize },
 }
 
 // The number whose digits so far say `start` goes on at `at`.
-fn more_at(bytes: &[u8], at: usize, start: usize) -> Number
+fn more_at(bytes: &[u8], at: usize, start: usize) -> Field
     requires { ⌜ (at ≤ length (now bytes)) × (start ≤ limit) ⌝ }
-    ensures { λ r. ⌜ At (now (bytes .entry)) (readMore start (drop at (now (bytes .entry)))) (r .ok) (r .value) (r .next) ⌝ }
+    ensures { λ r. ⌜ FieldAt (now (bytes .entry)) (readMore start (drop at (now (bytes .entry)))) r ⌝ }
 {
     let mut value = start;
     let mut p = at;
     while p < bytes.len() {
         let b = bytes[p] as usize;
         if b < 48 {
-            return Number {
-                ok: true,
-                value,
-                next: p,
-            };
+            return Field::Number { value, next: p };
         }
         if 57 < b {
-            return Number {
-                ok: true,
-                value,
-                next: p,
-            };
+            return Field::Number { value, next: p };
         }
         let w = value * 10 + (b - 48);
         if 4294967295 < w {
-            return Number {
-                ok: false,
-                value: 0,
-                next: 0,
-            };
+            return Field::Nothing;
         }
         value = w;
         p += 1;
     }
-    Number {
-        ok: true,
-        value,
-        next: p,
-    }
+    Field::Number { value, next: p }
 }
 
 // A number at `at`.
-fn number_at(bytes: &[u8], at: usize) -> Number
-    ensures { λ r. ⌜ At (now (bytes .entry)) (readNumber (drop at (now (bytes .entry)))) (r .ok) (r .value) (r .next) ⌝ }
+fn number_at(bytes: &[u8], at: usize) -> Field
+    ensures { λ r. ⌜ FieldAt (now (bytes .entry)) (readNumber (drop at (now (bytes .entry)))) r ⌝ }
 {
     if bytes.len() <= at {
-        return Number {
-            ok: false,
-            value: 0,
-            next: 0,
-        };
+        return Field::Nothing;
     }
     let b = bytes[at] as usize;
     if b < 48 {
-        return Number {
-            ok: false,
-            value: 0,
-            next: 0,
-        };
+        return Field::Nothing;
     }
     if 57 < b {
-        return Number {
-            ok: false,
-            value: 0,
-            next: 0,
-        };
+        return Field::Nothing;
     }
     if b == 48 {
-        return Number {
-            ok: true,
+        return Field::Number {
             value: 0,
             next: at + 1,
         };
@@ -90,22 +60,14 @@ fn number_at(bytes: &[u8], at: usize) -> Number
 }
 
 // A field at `at`: a tab and a number.
-pub(crate) fn field_at(bytes: &[u8], at: usize) -> Number
-    ensures { λ r. ⌜ At (now (bytes .entry)) (readField (drop at (now (bytes .entry)))) (r .ok) (r .value) (r .next) ⌝ }
+pub(crate) fn field_at(bytes: &[u8], at: usize) -> Field
+    ensures { λ r. ⌜ FieldAt (now (bytes .entry)) (readField (drop at (now (bytes .entry)))) r ⌝ }
 {
     if bytes.len() <= at {
-        return Number {
-            ok: false,
-            value: 0,
-            next: 0,
-        };
+        return Field::Nothing;
     }
     if bytes[at] != 9 {
-        return Number {
-            ok: false,
-            value: 0,
-            next: 0,
-        };
+        return Field::Nothing;
     }
     number_at(bytes, at + 1)
 }

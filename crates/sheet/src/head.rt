@@ -1,104 +1,81 @@
 // Lines 1 and 2 of a sheet and of a result sheet with their checks: private to the library.
 use crate::line;
+use crate::page;
 use crate::values;
 ghost use mathlib.Core.Path.{_≡_};
 ghost use Prim.Native.Nat.{_≤_};
 ghost use lib.ListN.{length, drop};
-ghost use Rattle.text.specs.Meaning.{shapeLine, chainLine, orderFields, orderLine};
-ghost use Rattle.sheet.specs.Private.{RefusedWith, VerdictAt, SecondAt, lineNumber, secondLine};
+ghost use Rattle.text.specs.Meaning.{chainLine, orderFields, orderLine};
+ghost use Rattle.sheet.specs.Private.{LineAt, FirstAt, SecondAt, numbersLine, lineNumber};
 
-// Line 1 as it was read: a number and a place, or the lengths and the place after the line.
-pub struct Shape {
-    pub number: u32,
-    pub place: usize,
-    pub lengths: [usize; 4],
-    pub next: usize,
-}
-
-// Line 2 as it was read: a number and a place, or its numbers (unused places 0), their count and the place after the line.
-pub struct Second {
-    pub number: u32,
-    pub place: usize,
-    pub numbers: [usize; 32],
-    pub count: usize,
-    pub next: usize,
-}
-
-// The record of a refused first line.
-fn no_shape(number: u32, place: usize) -> Shape
-    ensures { λ r. ⌜ RefusedWith number place (r .number) (r .place) (r .next) ⌝ }
+// Line k, which follows the page: `word` and n numbers, for which the page has 32 places.
+fn numbers_at(bytes: &[u8], page: page::Page, word: &[u8], n: usize, k: usize) -> page::Page
+    requires { ⌜ page .next ≤ length (now bytes) ⌝ }
+    ensures { λ r. ⌜ LineAt (now (bytes .entry)) (page .lengths) (numbersLine k (now (word .entry)) n (drop (page .next) (now (bytes .entry)))) r ⌝ }
 {
-    Shape {
-        number,
-        place,
-        lengths: [0; 4],
-        next: 0,
+    let at = page.next;
+    let end = line::line_at(bytes, at, word, n);
+    let line::End::At(next) = end else {
+        return page::no_page(10, k);
+    };
+    if 32 < n {
+        return page::no_page(5, 0);
     }
-}
-
-// The record of a refused second line.
-fn no_second(number: u32, place: usize) -> Second
-    ensures { λ r. ⌜ RefusedWith number place (r .number) (r .place) (r .next) ⌝ }
-{
-    Second {
-        number,
-        place,
-        numbers: [0; 32],
-        count: 0,
-        next: 0,
+    let lengths = page.lengths;
+    let numbers = values::values_at(bytes, at + word.len(), n);
+    page::Page {
+        number: 0,
+        place: 0,
+        lengths,
+        numbers,
+        count: n,
+        next,
     }
 }
 
 // Line 1, for this word buffer.
-pub(crate) fn shape_at(bytes: &[u8], words: &[u32]) -> Shape
-    ensures { λ r. ⌜ VerdictAt (now (bytes .entry)) (shapeLine (now (words .entry)) (now (bytes .entry))) (r .number) (r .place) (r .lengths) (r .next) ⌝ }
+pub(crate) fn shape_at(bytes: &[u8], words: &[u32]) -> page::Page
+    ensures { λ r. ⌜ FirstAt (now (words .entry)) (now (bytes .entry)) r ⌝ }
 {
     if 16384 < bytes.len() {
-        return no_shape(9, 0);
+        return page::no_page(9, 0);
     }
-    let first = line::line_at(bytes, 0, b"shape", 4);
-    if !first.ok {
-        return no_shape(10, 1);
+    let start = page::no_page(0, 0);
+    let first = numbers_at(bytes, start, b"shape", 4, 1);
+    if first.number != 0 {
+        return first;
     }
-    let v = values::values_at(bytes, 5, 4);
+    let v = first.numbers;
     let lengths = [v[0], v[1], v[2], v[3]];
     let number = blocks::sheet_number(&lengths, words);
     if number != 0 {
-        return no_shape(number, 0);
+        return page::no_page(number, 0);
     }
-    Shape {
-        number: 0,
-        place: 0,
-        lengths,
-        next: first.next,
-    }
+    let mut page = first;
+    page.lengths = lengths;
+    page
 }
 
-// Line 2 of a sheet, at `at`: a chain.
-fn chain_at(bytes: &[u8], at: usize) -> Second
-    requires { ⌜ at ≤ length (now bytes) ⌝ }
-    ensures { λ r. ⌜ SecondAt (now (bytes .entry)) (chainLine (drop at (now (bytes .entry)))) (r .number) (r .place) (r .numbers) (r .count) (r .next) ⌝ }
+// Line 2 of a sheet, a chain, where line 1 was not refused.
+pub(crate) fn chain_at(bytes: &[u8], first: page::Page) -> page::Page
+    requires { ⌜ first .next ≤ length (now bytes) ⌝ }
+    ensures { λ r. ⌜ SecondAt chainLine (now (bytes .entry)) first r ⌝ }
 {
-    let count = line::tabs_at(bytes, at);
-    let second = line::line_at(bytes, at, b"chain", count);
-    if !second.ok {
-        return no_second(10, 2);
+    if first.number != 0 {
+        return page::no_page(first.number, first.place);
     }
-    if 32 < count {
-        return no_second(5, 0);
+    let n = line::tabs_at(bytes, first.next);
+    let second = numbers_at(bytes, first, b"chain", n, 2);
+    if second.number != 0 {
+        return second;
     }
-    let swaps = values::values_at(bytes, at + 5, count);
+    let swaps = second.numbers;
+    let count = second.count;
     let bad = checks::first_above(&swaps[..count], 2);
     if bad < count {
-        return no_second(6, bad);
+        return page::no_page(6, bad);
     }
-    Second {
-        number: 0,
-        place: 0,
-        numbers: swaps,
-        count,
-        next: second.next,
-    }
+    second
 }
 
 // How many numbers line 2 of a result sheet must have, at `at`: two where it has two fields, else one.
@@ -123,37 +100,23 @@ fn order_number(numbers: [usize; 32], count: usize) -> u32
     checks::named_number(23, 1, numbers[0])
 }
 
-// Line 2 of a result sheet, at `at`: a release, where one is named, and an order number.
-fn order_at(bytes: &[u8], at: usize) -> Second
-    requires { ⌜ at ≤ length (now bytes) ⌝ }
-    ensures { λ r. ⌜ SecondAt (now (bytes .entry)) (orderLine (drop at (now (bytes .entry)))) (r .number) (r .place) (r .numbers) (r .count) (r .next) ⌝ }
+// Line 2 of a result sheet, a release, where one is named, and an order number, where line 1 was not refused.
+pub(crate) fn order_at(bytes: &[u8], first: page::Page) -> page::Page
+    requires { ⌜ first .next ≤ length (now bytes) ⌝ }
+    ensures { λ r. ⌜ SecondAt orderLine (now (bytes .entry)) first r ⌝ }
 {
-    let count = order_fields(bytes, at);
-    let second = line::line_at(bytes, at, b"order", count);
-    if !second.ok {
-        return no_second(10, 2);
+    if first.number != 0 {
+        return page::no_page(first.number, first.place);
     }
-    let numbers = values::values_at(bytes, at + 5, count);
-    let number = order_number(numbers, count);
+    let n = order_fields(bytes, first.next);
+    let second = numbers_at(bytes, first, b"order", n, 2);
+    if second.number != 0 {
+        return second;
+    }
+    let numbers = second.numbers;
+    let number = order_number(numbers, second.count);
     if number != 0 {
-        return no_second(number, 0);
+        return page::no_page(number, 0);
     }
-    Second {
-        number: 0,
-        place: 0,
-        numbers,
-        count,
-        next: second.next,
-    }
-}
-
-// Line 2 of a sheet or of a result sheet, at `at`: all that the two readers differ in.
-pub(crate) fn second_at(bytes: &[u8], at: usize, result: bool) -> Second
-    requires { ⌜ at ≤ length (now bytes) ⌝ }
-    ensures { λ r. ⌜ SecondAt (now (bytes .entry)) (secondLine result (drop at (now (bytes .entry)))) (r .number) (r .place) (r .numbers) (r .count) (r .next) ⌝ }
-{
-    if result {
-        return order_at(bytes, at);
-    }
-    chain_at(bytes, at)
+    second
 }

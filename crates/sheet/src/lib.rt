@@ -1,10 +1,10 @@
-// The readers of sheets and of result sheets: one walk over the lines, and the two calls.
+// The readers of sheets and of result sheets: they differ in line 2.
 mod field;
 mod head;
 mod line;
+mod page;
 mod rows;
 mod values;
-mod whole;
 
 ghost use Rattle.sheet.specs.Reader.{ReadAs};
 ghost use Rattle.sheet.specs.ResultReader.{ResultReadAs};
@@ -33,7 +33,9 @@ pub struct ResultSheet {
 pub fn read(bytes: &[u8], words: &mut [u32]) -> Sheet
     ensures { λ r. ⌜ ReadAs (now (words .entry)) (now (bytes .entry)) r (now (words .exit)) ⌝ }
 {
-    let page = whole::read_page(bytes, words, false);
+    let first = head::shape_at(bytes, words);
+    let second = head::chain_at(bytes, first);
+    let page = rows::rows_into(bytes, second, words);
     let lengths = page.lengths;
     let swaps = page.numbers;
     Sheet {
@@ -49,7 +51,9 @@ pub fn read(bytes: &[u8], words: &mut [u32]) -> Sheet
 pub fn read_result(bytes: &[u8], words: &mut [u32]) -> ResultSheet
     ensures { λ r. ⌜ ResultReadAs (now (words .entry)) (now (bytes .entry)) r (now (words .exit)) ⌝ }
 {
-    let page = whole::read_page(bytes, words, true);
+    let first = head::shape_at(bytes, words);
+    let second = head::order_at(bytes, first);
+    let page = rows::rows_into(bytes, second, words);
     let lengths = page.lengths;
     let numbers = page.numbers;
     if 1 < page.count {

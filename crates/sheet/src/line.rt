@@ -5,12 +5,12 @@ ghost use Prim.Native.Nat.{_+_, _≤_};
 ghost use lib.ListN.{length, take, drop, getD};
 ghost use Rattle.lists.specs.Same.{same};
 ghost use Rattle.text.specs.Read.{readFields, readLine, tabs};
-ghost use Rattle.sheet.specs.Private.{At, numbersOf};
+ghost use Rattle.sheet.specs.Private.{EndAt};
 
-// Whether something was read, and the place after it.
-pub struct End {
-    pub ok: bool,
-    pub next: usize,
+// Where something that was read ends: it was not there, or the place after it.
+pub enum End {
+    Nowhere,
+    At(usize),
 }
 
 // The byte at p, 0 past the end.
@@ -39,39 +39,35 @@ fn word_at(bytes: &[u8], at: usize, word: &[u8]) -> bool
 // n fields from `at` on.
 fn fields_at(bytes: &[u8], at: usize, n: usize) -> End
     requires { ⌜ at ≤ length (now bytes) ⌝ }
-    ensures { λ r. ⌜ At (now (bytes .entry)) (readFields n (drop at (now (bytes .entry)))) (r .ok) (numbersOf (readFields n (drop at (now (bytes .entry))))) (r .next) ⌝ }
+    ensures { λ r. ⌜ EndAt (now (bytes .entry)) (readFields n (drop at (now (bytes .entry)))) r ⌝ }
 {
     let mut p = at;
     for i in 0..n {
         let f = field::field_at(bytes, p);
-        if !f.ok {
-            return End { ok: false, next: 0 };
-        }
-        p = f.next;
+        let field::Field::Number { value: _, next } = f else {
+            return End::Nowhere;
+        };
+        p = next;
     }
-    End { ok: true, next: p }
+    End::At(p)
 }
 
 // The line of `word` and n numbers at `at`.
 pub(crate) fn line_at(bytes: &[u8], at: usize, word: &[u8], n: usize) -> End
     requires { ⌜ at ≤ length (now bytes) ⌝ }
-    ensures { λ r. ⌜ At (now (bytes .entry)) (readLine (now (word .entry)) n (drop at (now (bytes .entry)))) (r .ok) (numbersOf (readLine (now (word .entry)) n (drop at (now (bytes .entry))))) (r .next) ⌝ }
+    ensures { λ r. ⌜ EndAt (now (bytes .entry)) (readLine (now (word .entry)) n (drop at (now (bytes .entry)))) r ⌝ }
 {
     if !word_at(bytes, at, word) {
-        return End { ok: false, next: 0 };
+        return End::Nowhere;
     }
     let f = fields_at(bytes, at + word.len(), n);
-    if !f.ok {
-        return End { ok: false, next: 0 };
-    }
-    let p = f.next;
+    let End::At(p) = f else {
+        return End::Nowhere;
+    };
     if byte_at(bytes, p) != 10 {
-        return End { ok: false, next: 0 };
+        return End::Nowhere;
     }
-    End {
-        ok: true,
-        next: p + 1,
-    }
+    End::At(p + 1)
 }
 
 // How many tabs stand before the first LF from `at` on.

@@ -1,14 +1,13 @@
 // The rows of a sheet, judged and then stored: private to the library.
 use crate::line;
+use crate::page;
 use crate::values;
 ghost use mathlib.Core.Path.{_≡_};
 ghost use Prim.Native.Nat.{_*_, _≤_};
 ghost use lib.ListN.{length, drop};
 ghost use lib.Seq.{sets};
 ghost use Rattle.text.specs.Meaning.{rowLines};
-ghost use Rattle.text.specs.Sheet.{rowCount, rowWidth};
-ghost use Rattle.blocks.specs.Private.{OnSheet};
-ghost use Rattle.sheet.specs.Private.{RowsAt, RowsThere, RowsTaken, wordsOf};
+ghost use Rattle.sheet.specs.Private.{RowsAt, RowsThere, RowsNext, RowsTaken, rowsOf, further, wordsOf};
 
 // So many rows of n words from `at` on, and nothing after them: 0, or the number of the line that is wrong.
 fn rows_at(bytes: &[u8], at: usize, count: usize, n: usize) -> usize
@@ -18,10 +17,10 @@ fn rows_at(bytes: &[u8], at: usize, count: usize, n: usize) -> usize
     let mut p = at;
     for i in 0..count {
         let l = line::line_at(bytes, p, b"row", n);
-        if !l.ok {
+        let line::End::At(next) = l else {
             return i + 3;
-        }
-        p = l.next;
+        };
+        p = next;
     }
     if p < bytes.len() {
         return count + 3;
@@ -42,17 +41,22 @@ fn store_rows(bytes: &[u8], at: usize, count: usize, n: usize, words: &mut [u32]
     }
 }
 
-// The rows of a block from `at` on, judged and then stored from the start of words: 0, or the number of the line that is wrong.
-pub(crate) fn rows_into(bytes: &[u8], at: usize, lengths: [usize; 4], words: &mut [u32]) -> usize
-    requires { ⌜ (at ≤ length (now bytes)) × OnSheet lengths (now words) ⌝ }
-    ensures { λ r. ⌜ RowsTaken (rowLines 3 (rowCount lengths) (rowWidth lengths) (drop at (now (bytes .entry)))) r (now (words .entry)) (now (words .exit)) ⌝ }
+// The rows, where lines 1 and 2 were not refused: judged, and then stored from the start of words.
+pub(crate) fn rows_into(bytes: &[u8], second: page::Page, words: &mut [u32]) -> page::Page
+    requires { ⌜ RowsNext (now bytes) second (now words) ⌝ }
+    ensures { λ r. ⌜ RowsTaken (further second (rowsOf second) (now (bytes .entry))) second r (now (words .entry)) (now (words .exit)) ⌝ }
 {
+    if second.number != 0 {
+        return page::no_page(second.number, second.place);
+    }
+    let at = second.next;
+    let lengths = second.lengths;
     let count = checks::words_of(&lengths[..3]);
     let n = lengths[3];
     let wrong = rows_at(bytes, at, count, n);
     if wrong != 0 {
-        return wrong;
+        return page::no_page(10, wrong);
     }
     store_rows(bytes, at, count, n, words);
-    0
+    second
 }

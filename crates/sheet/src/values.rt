@@ -1,4 +1,4 @@
-// The numbers of fields that were judged right, fetched: private to the library.
+// The numbers of fields that were judged right, fetched: private to the library. Each field is there, so no `else` is taken.
 use crate::field;
 ghost use mathlib.Core.Path.{_≡_};
 ghost use mathlib.Core.List.{_++_};
@@ -16,8 +16,11 @@ pub(crate) fn values_at(bytes: &[u8], at: usize, n: usize) -> [usize; 32]
     let mut p = at;
     for i in 0..n {
         let f = field::field_at(bytes, p);
-        out[i] = f.value;
-        p = f.next;
+        let field::Field::Number { value, next } = f else {
+            return out;
+        };
+        out[i] = value;
+        p = next;
     }
     out
 }
@@ -30,8 +33,11 @@ pub(crate) fn words_into(bytes: &[u8], at: usize, n: usize, words: &mut [u32], f
     let mut p = at;
     for i in 0..n {
         let f = field::field_at(bytes, p);
-        words[from + i] = f.value as u32;
-        p = f.next;
+        let field::Field::Number { value, next } = f else {
+            return p;
+        };
+        words[from + i] = value as u32;
+        p = next;
     }
     p
 }

@@ -9,11 +9,8 @@ module _ (x : tie.Start) where
   five : length (x .args .l .word) ≡ 5
   five = search needs
 
-  four : length (x .args .l .numbers) ≡ 4
-  four = search needs
-
   few : x .args .l .count ≤ length (x .args .l .numbers)
-  few = omega (arith, four)
+  few = let four : length (x .args .l .numbers) ≡ 4 = search needs in omega arith
 
   long : length (numbersIn (x .args .l)) ≡ x .args .l .count
   long = length-take-le _ _ few

@@ -8,11 +8,8 @@ module _ (x : tie.Start) where
   five : length (x .args .l .word) ≡ 5
   five = search needs
 
-  four : length (x .args .l .numbers) ≡ 4
-  four = search needs
-
   few : x .args .l .count ≤ length (x .args .l .numbers)
-  few = omega (arith, four)
+  few = let four : length (x .args .l .numbers) ≡ 4 = search needs in omega arith
 
 word-count : tie.Need-slice-aggregate-put-line
 word-count c = sym (five (search))

@@ -57,7 +57,7 @@ use Rattle.printer.proofs.writer.line.Statement as stated
 use Rattle.printer.proofs.writer.line.Code as code
 
 abbrev stayed : Stays (line.ended .signature .params) (line.ended .kept)
-stayed = (writer-spent 1 tt, (stay-none (λ _. LineT) yes, tt))
+stayed = (writer-spent, (stay-none (λ _. LineT) yes, tt))
 
 -- the contract that the proof cites
 abbrev PutHead : {M : Type 1} (𝓤 : URA M) (H : Heap 𝓤) (A : Atoms 𝓤) (mem : Memory → SProp 𝓤) (run : Routine → Fun 𝓤) → Contract 𝓤
@@ -202,7 +202,7 @@ line-meets : {M : Type 1} (𝓤 : URA M) (H : Heap 𝓤) (A : Atoms 𝓤) → Gi
     → Triple 𝓤 (𝓣 .C #printer·page·put-head) (PutHead 𝓤 H A mem run)
     → Meets 𝓤 H A line.signature (WpFn 𝓤 H (𝓣 .C) (𝓣 .Λ) code.function) (line.spec 𝓤 H A mem run)
 line-meets 𝓤 H A W mem run 𝓣 known =
-    walk-meets 𝓤 H A line.ended stayed W (writer-spent-goes 1 tt 𝓤 H A W, (goes-none 𝓤 H A W 1 (λ _. LineT) yes (λ κs x f. refl), tt))
+    walk-meets 𝓤 H A line.ended stayed W (writer-spent-goes 𝓤 H A W, (goes-none 𝓤 H A W 1 (λ _. LineT) yes (λ κs x f. refl), tt))
     (line.clauses 𝓤 H A mem run)
     (WpFn 𝓤 H (𝓣 .C) (𝓣 .Λ) code.function) (WpFn-mono 𝓤 H (W .laws) 𝓣 code.function) (line-walks 𝓤 H A W mem run (𝓣 .C) (𝓣 .Λ) (fmOf 𝓤 H (W .laws) 𝓣) known)
 

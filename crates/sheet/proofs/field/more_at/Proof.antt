@@ -3,7 +3,7 @@
 use Rattle.lists.proofs.Kit.{_≡_, refl, _∙_, _-_, _≤_, arith, length, drop, needs}
 use Rattle.text.specs.Print.{limit}
 use Rattle.text.specs.Read.{readMore}
-use Rattle.sheet.proofs.Places.{at-found, at-none, more-end, more-below, more-above, more-over, more-step}
+use Rattle.sheet.proofs.Places.{more-end, more-below, more-above, more-over, more-step}
 use Rattle.sheet.proofs.field.more_at.Statement.{statement}
 use Rattle.sheet.proofs.field.more_at.Tie as tie
 
@@ -24,19 +24,19 @@ returns : tie.Need-returns Inv-loop μ-loop
 returns c =
     let l : tie.At-loop Inv-loop μ-loop = search in
     let x : tie.Start Inv-loop μ-loop = search in
-    at-found (l .loop .p) (l .loop .inv .2 ∙ more-below (x .args .bytes .now) (l .loop .p) (search) (l .loop .value) (search)) (l .loop .inv .0)
+    (l .loop .inv .2 ∙ more-below (x .args .bytes .now) (l .loop .p) (search) (l .loop .value) (search), l .loop .inv .0)
 
 returns-2 : tie.Need-returns-2 Inv-loop μ-loop
 returns-2 c =
     let l : tie.At-loop Inv-loop μ-loop = search in
     let x : tie.Start Inv-loop μ-loop = search in
-    at-found (l .loop .p) (l .loop .inv .2 ∙ more-above (x .args .bytes .now) (l .loop .p) (search) (l .loop .value) (search)) (l .loop .inv .0)
+    (l .loop .inv .2 ∙ more-above (x .args .bytes .now) (l .loop .p) (search) (l .loop .value) (search), l .loop .inv .0)
 
 returns-3 : tie.Need-returns-3 Inv-loop μ-loop
 returns-3 c =
     let l : tie.At-loop Inv-loop μ-loop = search in
     let x : tie.Start Inv-loop μ-loop = search in
-    at-none (l .loop .inv .2 ∙ more-over (x .args .bytes .now) (l .loop .p) (search) (l .loop .value) (search) (search) (search))
+    l .loop .inv .2 ∙ more-over (x .args .bytes .now) (l .loop .p) (search) (l .loop .value) (search) (search) (search)
 
 loop-again : tie.Need-loop-again Inv-loop μ-loop
 loop-again c =
@@ -48,7 +48,7 @@ returns-4 : tie.Need-returns-4 Inv-loop μ-loop
 returns-4 c =
     let l : tie.At-loop Inv-loop μ-loop = search in
     let x : tie.Start Inv-loop μ-loop = search in
-    at-found (l .loop .p) (l .loop .inv .2 ∙ more-end (x .args .bytes .now) (l .loop .p) (l .loop .value) (search)) (l .loop .inv .0)
+    (l .loop .inv .2 ∙ more-end (x .args .bytes .now) (l .loop .p) (l .loop .value) (search), l .loop .inv .0)
 
 pub more-at-spec : {M : Type 1} → statement M
 more-at-spec = tie.close (tie.spec

@@ -1,42 +1,39 @@
 -- `shape_at` meets its contract: each way out is the first check that holds.
 use Rattle.lists.proofs.Kit.{arith, needs}
-use Rattle.sheet.proofs.HeadLines.{shape-long, shape-form, shape-there, shape-no, shape-go}
+use Rattle.sheet.proofs.HeadLines.{shape-long, shape-form, shape-no, shape-go}
 use Rattle.sheet.proofs.head.shape_at.Statement.{statement}
 use Rattle.sheet.proofs.head.shape_at.Tie as tie
 
 returns : tie.Need-returns
 returns c = let x : tie.Start = search in shape-long (x .args .words .now) (search) (search)
 
+numbers-at-requires : tie.Need-numbers-at-requires
+numbers-at-requires c κs = let s : tie.After-no-page2 = search in rw (s .no-page2 .ensures) (omega arith)
+
 returns-2 : tie.Need-returns-2
 returns-2 c =
-    let l : tie.After-line-at = search in
+    let l : tie.After-numbers-at = search in
+    let s : tie.After-no-page2 = search in
     let x : tie.Start = search in
-    shape-form (x .args .words .now) (search) (l .line-at .ensures) (search) (search)
-
-values-at-requires : tie.Need-values-at-requires
-values-at-requires c κs =
-    let l : tie.After-line-at = search in
-    let x : tie.Start = search in
-    (omega arith, shape-there (x .args .words .now) (search) (l .line-at .ensures) (search))
+    shape-form (x .args .words .now) (search) (s .no-page2 .ensures) (l .numbers-at .ensures) (search)
 
 returns-3 : tie.Need-returns-3
 returns-3 c =
     let n : tie.After-sheet-number = search in
-    let v : tie.After-values-at = search in
-    let l : tie.After-line-at = search in
+    let l : tie.After-numbers-at = search in
+    let s : tie.After-no-page2 = search in
     let x : tie.Start = search in
-    shape-no (x .args .words .now) (search) (l .line-at .ensures) (search) (v .values-at .ensures) (n .sheet-number .ensures) (search) (search)
+    shape-no (x .args .words .now) (search) (s .no-page2 .ensures) (l .numbers-at .ensures) (search) (n .sheet-number .ensures) (search) (search)
 
 returns-4 : tie.Need-returns-4
 returns-4 c =
     let n : tie.After-sheet-number = search in
-    let v : tie.After-values-at = search in
-    let l : tie.After-line-at = search in
+    let l : tie.After-numbers-at = search in
+    let s : tie.After-no-page2 = search in
     let x : tie.Start = search in
-    shape-go (x .args .words .now) (search) (l .line-at .ensures) (search) (v .values-at .ensures) (n .sheet-number .ensures) (search)
+    shape-go (x .args .words .now) (search) (s .no-page2 .ensures) (l .numbers-at .ensures) (search) (n .sheet-number .ensures) (search)
 
 pub shape-at-spec : {M : Type 1} → statement M
 shape-at-spec = tie.close (tie.spec
-    (search needs) returns (search needs) (search needs) (search needs) returns-2 values-at-requires
-    (search needs) (search needs) (search needs) (search needs) (search needs) (search needs) (search needs) returns-3
-    returns-4)
+    (search needs) returns (search needs) (search needs) numbers-at-requires returns-2 (search needs) (search needs) (search needs)
+    (search needs) (search needs) (search needs) (search needs) returns-3 returns-4)

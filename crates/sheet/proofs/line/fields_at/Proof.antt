@@ -2,8 +2,7 @@
 use Rattle.lists.proofs.Kit.{arith, _≡_, _-_, _≤_, length, drop, needs}
 use Rattle.text.specs.Read.{Reading, readFields}
 use Rattle.sheet.specs.Private.{numbersOf}
-use Rattle.sheet.proofs.Places.{at-found}
-use Rattle.sheet.proofs.Runs.{got, no-field, next-field, no-next-field}
+use Rattle.sheet.proofs.Runs.{got, no-field, fields-more, fields-stop}
 use Rattle.sheet.proofs.line.fields_at.Statement.{statement}
 use Rattle.sheet.proofs.line.fields_at.Tie as tie
 
@@ -23,22 +22,24 @@ returns c =
     let f : tie.After-field-at Inv-loop μ-loop = search in
     let l : tie.At-loop Inv-loop μ-loop = search in
     let x : tie.Start Inv-loop μ-loop = search in
-    no-next-field (l .loop .i) (x .args .n) (drop (x .args .at) (x .args .bytes .now)) (l .loop .inv .2) (f .field-at .ensures) (search) (omega arith)
+    fields-stop (l .loop .i) (x .args .n) (drop (x .args .at) (x .args .bytes .now)) (l .loop .inv .2) (rw (c .enum-told .given .1) at (f .field-at .ensures)) (omega arith)
 
 loop-again : tie.Need-loop-again Inv-loop μ-loop
 loop-again c =
+    let k : tie.After-f Inv-loop μ-loop = search in
     let f : tie.After-field-at Inv-loop μ-loop = search in
     let l : tie.At-loop Inv-loop μ-loop = search in
     let x : tie.Start Inv-loop μ-loop = search in
-    (omega arith, f .field-at .ensures .inside, next-field (l .loop .i) (drop (x .args .at) (x .args .bytes .now)) (l .loop .inv .2) (f .field-at .ensures) (search))
+    let found = rw (k .f .given .1) at (f .field-at .ensures) in
+    (omega arith, found .1, got (fields-more (l .loop .i) (drop (x .args .at) (x .args .bytes .now)) (l .loop .inv .2) (found .0)))
 
 returns-2 : tie.Need-returns-2 Inv-loop μ-loop
 returns-2 c =
     let l : tie.At-loop Inv-loop μ-loop = search in
     let x : tie.Start Inv-loop μ-loop = search in
     let e : l .loop .i ≡ x .args .n = omega arith in
-    at-found (l .loop .p) (rw (← e) (l .loop .inv .2)) (l .loop .inv .1)
+    (rw (← e) (l .loop .inv .2), l .loop .inv .1)
 
 pub fields-at-spec : {M : Type 1} → statement M
 fields-at-spec = tie.close (tie.spec
-    Inv-loop μ-loop loop-holds (search needs) returns (search needs) (search needs) loop-again returns-2)
+    Inv-loop μ-loop loop-holds (search needs) (search needs) (search needs) returns (search needs) (search needs) loop-again returns-2)

@@ -27,30 +27,35 @@ returns-2 c =
     let f : tie.After-fields-at = search in
     let w : tie.After-word-at = search in
     let x : tie.Start = search in
-    line-no-fields (x .args .bytes .now) (x .args .at) (x .args .word .now) (x .args .n) (w .word-at .ensures) (search) (f .fields-at .ensures) (search)
+    line-no-fields (x .args .bytes .now) (x .args .at) (x .args .word .now) (x .args .n) (w .word-at .ensures) (search)
+    (rw (c .enum-told .given .1) at (f .fields-at .ensures))
 
 returns-3 : tie.Need-returns-3
 returns-3 c =
+    let k : tie.After-f = search in
     let f : tie.After-fields-at = search in
     let w : tie.After-word-at = search in
     let x : tie.Start = search in
-    line-no-feed (x .args .bytes .now) (x .args .at) (x .args .word .now) (x .args .n) (w .word-at .ensures) (search) (f .fields-at .ensures) (search)
+    let found = rw (k .f .given .1) at (f .fields-at .ensures) in
+    line-no-feed (x .args .bytes .now) (x .args .at) (x .args .word .now) (x .args .n) (w .word-at .ensures) (search) (k .f .given .0 .0) (found .0)
     (λ z. omega arith)
 
 add-next : tie.Need-add-t10
 add-next c =
-    let f : tie.After-fields-at = search in
+    let k : tie.After-f = search in
     let x : tie.Start = search in
-    omega (arith, byte-inside (x .args .bytes .now) (f .fields-at .result .next) {b = 10} (search via) (omega arith))
+    omega (arith, byte-inside (x .args .bytes .now) (k .f .given .0 .0) {b = 10} (search via) (omega arith))
 
 returns-4 : tie.Need-returns-4
 returns-4 c =
+    let k : tie.After-f = search in
     let f : tie.After-fields-at = search in
     let w : tie.After-word-at = search in
     let x : tie.Start = search in
-    line-read (x .args .bytes .now) (x .args .at) (x .args .word .now) (x .args .n) (w .word-at .ensures) (search) (f .fields-at .ensures) (search)
+    let found = rw (k .f .given .1) at (f .fields-at .ensures) in
+    line-read (x .args .bytes .now) (x .args .at) (x .args .word .now) (x .args .n) (w .word-at .ensures) (search) (k .f .given .0 .0) (found .0)
     (search via)
 
 pub line-at-spec : {M : Type 1} → statement M
-line-at-spec =
-    tie.close (tie.spec (search needs) returns add-fields-at fields-at-requires returns-2 (search needs) returns-3 add-next returns-4)
+line-at-spec = tie.close (tie.spec
+    (search needs) returns add-fields-at fields-at-requires (search needs) (search needs) returns-2 (search needs) returns-3 add-next returns-4)

@@ -17,13 +17,15 @@ returns : tie.Need-returns Inv-loop μ-loop
 returns c =
     let r : tie.After-line-at Inv-loop μ-loop = search in
     let l : tie.At-loop Inv-loop μ-loop = search in
-    wrong-row _ _ _ _ (l .loop .p) (l .loop .i) (l .loop .inv .2) (r .line-at .ensures) (search) (omega arith)
+    wrong-row _ _ _ _ (l .loop .p) (l .loop .i) (l .loop .inv .2) (rw (c .enum-told .given .1) at (r .line-at .ensures)) (omega arith)
 
 loop-again : tie.Need-loop-again Inv-loop μ-loop
 loop-again c =
+    let k : tie.After-l Inv-loop μ-loop = search in
     let r : tie.After-line-at Inv-loop μ-loop = search in
     let l : tie.At-loop Inv-loop μ-loop = search in
-    (omega arith, r .line-at .ensures .inside, one-passed _ _ _ _ (l .loop .p) (l .loop .i) (l .loop .inv .2) (r .line-at .ensures) (search) (omega arith))
+    let found = rw (k .l .given .1) at (r .line-at .ensures) in
+    (omega arith, found .1, one-passed _ _ _ _ (l .loop .p) (l .loop .i) (l .loop .inv .2) (found .0) (omega arith))
 
 returns-2 : tie.Need-returns-2 Inv-loop μ-loop
 returns-2 c = let l : tie.At-loop Inv-loop μ-loop = search in left-over _ _ _ _ (l .loop .p) (l .loop .i) (l .loop .inv .2) (omega arith) (search)
@@ -33,5 +35,5 @@ returns-3 c = let l : tie.At-loop Inv-loop μ-loop = search in all-passed _ _ _ 
 
 pub rows-at-spec : {M : Type 1} → statement M
 rows-at-spec = tie.close (tie.spec
-    Inv-loop μ-loop loop-holds (search needs) (search needs) (search needs) returns (search needs) (search needs)
-    loop-again (search needs) returns-2 returns-3)
+    Inv-loop μ-loop loop-holds (search needs) (search needs) (search needs) (search needs) (search needs) returns
+    (search needs) (search needs) loop-again (search needs) returns-2 returns-3)

@@ -3,7 +3,7 @@ use Rattle.lists.proofs.Kit.{set, arith, _≡_, sym, ap, _∙_, List, _++_, ℕ
 use Rattle.text.proofs.Lines.{fields-text}
 use Rattle.text.specs.Read.{Reading, readFields}
 use Rattle.sheet.specs.Private.{numbersOf}
-use Rattle.sheet.proofs.Runs.{got, no-field, fields-more, taken-field}
+use Rattle.sheet.proofs.Runs.{got, no-field, fields-more, field-there}
 use Rattle.text.proofs.Stores.{zeros-more}
 use Rattle.sheet.proofs.values.values_at.Statement.{statement}
 use Rattle.sheet.proofs.values.values_at.Tie as tie
@@ -21,19 +21,29 @@ loop-holds c =
     let start : tie.Start Inv-loop μ-loop = search in
     let bs = drop (start .args .at) (start .args .bytes .now) in (omega arith, got (no-field bs), rw (no-field bs))
 
+returns : tie.Need-returns Inv-loop μ-loop
+returns c =
+    let f : tie.After-field-at Inv-loop μ-loop = search in
+    let l : tie.At-loop Inv-loop μ-loop = search in
+    let x : tie.Start Inv-loop μ-loop = search in
+    absurd (field-there (l .loop .i) (x .args .n) (drop (x .args .at) (x .args .bytes .now)) (x .pre .1 .found) (omega arith) (l .loop .inv .1)
+    (rw (c .enum-told .given .1) at (f .field-at .ensures)))
+
 array-write-out : tie.Need-array-write-out Inv-loop μ-loop
 array-write-out c = let start : tie.Start Inv-loop μ-loop = search in omega (arith, start .pre .0)
 
 loop-again : tie.Need-loop-again Inv-loop μ-loop
 loop-again c =
+    let known : tie.After-f Inv-loop μ-loop = search in
+    let f : tie.After-field-at Inv-loop μ-loop = search in
     let at-loop : tie.At-loop Inv-loop μ-loop = search in
     let start : tie.Start Inv-loop μ-loop = search in
     let l = at-loop .loop in
     let bs = drop (start .args .at) (start .args .bytes .now) in
     let vs = numbersOf (readFields (l .i) bs) in
-    let v = c .field-at .result .value in
-    let f = taken-field (l .i) (start .args .n) bs (c .field-at .result .ok) (start .pre .1) (omega arith) (l .inv .1) (c .field-at .ensures) in
-    let e = fields-more (l .i) bs (l .inv .1) f in (
+    let v = known .f .given .0 .0 in
+    let found = rw (known .f .given .1) at (f .field-at .ensures) in
+    let e = fields-more (l .i) bs (l .inv .1) (found .0) in (
       omega arith,
       got e,
       ap (λ (x : List ℕ). set x (l .i) v) (l .inv .2)
@@ -41,8 +51,8 @@ loop-again c =
           ∙ ap (λ (x : Reading (List ℕ)). numbersOf x ++ replicate (32 - (l .i + 1)) 0) (sym e),
     )
 
-returns : tie.Need-returns Inv-loop μ-loop
-returns c =
+returns-2 : tie.Need-returns-2 Inv-loop μ-loop
+returns-2 c =
     let at-loop : tie.At-loop Inv-loop μ-loop = search in
     let start : tie.Start Inv-loop μ-loop = search in
     let e : at-loop .loop .i ≡ start .args .n = omega arith in
@@ -50,5 +60,5 @@ returns c =
 
 pub values-at-spec : {M : Type 1} → statement M
 values-at-spec = tie.close (tie.spec
-    Inv-loop μ-loop loop-holds (search needs) (search needs) array-write-out (search needs) (search needs) loop-again
-    returns)
+    Inv-loop μ-loop loop-holds (search needs) (search needs) (search needs) returns (search needs) array-write-out
+    (search needs) (search needs) loop-again returns-2)
