@@ -3,10 +3,10 @@
 use Rattle.lists.proofs.Kit.{_≡_, refl, sym, ap, _∙_, Bool, true, false, cond, List, ℕ, _+_, _*_, _-_, _/_, _%_, _<_, _≤_, min, div-add-mod', mul-assoc, add-mul, zero-mul, mul-le-mul-right, arith, getD}
 use Rattle.passes.specs.PrivateScratch.{Apart, Filled, Past}
 use Rattle.passes.proofs.Filled.{filled-none, filled-on}
-use Rattle.wall.specs.Tiles.{part, tilePlace, Tiled}
-use Rattle.wall.specs.Private.{bandHome, tileHome}
-use Rattle.wall.proofs.Bands.{band-home-lt}
-use Rattle.wall.proofs.Places.{tile-home, tile-place-lt, home-of-tile, homes-apart}
+use Rattle.tiles.specs.Tiles.{part, tilePlace, Tiled}
+use Rattle.tiles.specs.PrivateHomes.{bandHome, tileHome}
+use Rattle.tiles.proofs.BandPlaces.{band-home-lt}
+use Rattle.tiles.proofs.Places.{tile-home, tile-place-lt, home-of-tile, homes-apart}
 use Rattle.tiles.specs.Private.{bandTo, bandFrom, BandFits, BandLaid, BandMoved, blockTo, blockFrom, Converts, Converted}
 use Rattle.tiles.specs.declared.bands.Band.{Band}
 use Rattle.tiles.proofs.TileByTile.{filled-count}

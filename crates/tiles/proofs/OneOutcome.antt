@@ -3,8 +3,8 @@
 use Rattle.lists.proofs.Kit.{_≡_, refl, sym, _∙_, List, ℕ, _≤_, length}
 use Rattle.refusals.specs.FirstOf.{firstOf}
 use Rattle.refusals.proofs.Promise.{one-accepted}
-use Rattle.wall.specs.Tiles.{Tiled}
-use Rattle.wall.proofs.Tiled.{one-tiled, one-untiled, wide-stays, tall-same}
+use Rattle.tiles.specs.Tiles.{Tiled}
+use Rattle.tiles.proofs.Tiled.{one-tiled, one-untiled, wide-stays, tall-same}
 use Rattle.tiles.specs.Promises.{bandNeed, tileChecks, ToTilesPromise, FromTilesPromise}
 use Rattle.tiles.specs.Private.{Converts}
 use Rattle.tiles.proofs.Accepted.{converts, passes-again}

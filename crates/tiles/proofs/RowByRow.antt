@@ -2,7 +2,7 @@
 use Rattle.lists.proofs.Kit.{_≡_, sym, ap, ap₂, subst, _∙_, List, ℕ, _+_, _*_, _/_, _%_, _<_, _≤_, mod-lt, div-add-mod', add-mul, one-mul, zero-mul, mul-le-mul-right, arith, digits-div, digits-mod, getD}
 use Rattle.passes.specs.PrivateScratch.{Apart, Filled}
 use Rattle.passes.proofs.Filled.{filled-none, filled-on}
-use Rattle.wall.proofs.Places.{one-cell}
+use Rattle.tiles.proofs.Places.{one-cell}
 use Rattle.tiles.specs.Private.{inRows, RowsFit, RowsLaid}
 use Rattle.tiles.specs.declared.runs.Rows.{Rows}
 

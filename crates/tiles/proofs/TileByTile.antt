@@ -3,10 +3,10 @@
 use Rattle.lists.proofs.Kit.{_≡_, refl, sym, ap, subst, _∙_, Bool, true, false, cond, List, ℕ, _+_, _*_, _-_, _/_, _%_, _<_, _≤_, min, mod-lt, div-add-mod', div-lt-iff-lt-mul, mul-add, mul-comm, mul-le-mul-left, mul-le-mul-right, mul-zero, le-mul-of-pos-right, arith, getD}
 use Rattle.passes.specs.PrivateScratch.{Apart, Filled}
 use Rattle.passes.proofs.Filled.{filled-none, filled-on}
-use Rattle.wall.specs.Tiles.{part}
-use Rattle.wall.specs.Private.{bandHome}
-use Rattle.wall.proofs.Bands.{band-home}
-use Rattle.wall.proofs.Places.{band-homes-apart}
+use Rattle.tiles.specs.Tiles.{part}
+use Rattle.tiles.specs.PrivateHomes.{bandHome}
+use Rattle.tiles.proofs.BandPlaces.{band-home}
+use Rattle.tiles.proofs.Places.{band-homes-apart}
 use Rattle.tiles.specs.Private.{inRows, RowsFit, RowsLaid, bandTo, bandFrom, BandSmall, BandFits, TileAt, tileWidth, toTile, toRows, tileRows, TileLaid, BandLaid}
 use Rattle.tiles.specs.declared.runs.Rows.{Rows}
 use Rattle.tiles.specs.declared.bands.Band.{Band}

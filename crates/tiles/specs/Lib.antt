@@ -1,2 +1,6 @@
+pub mod Tiles
+pub mod Bands
 pub mod Promises
+pub mod PrivateHomes
 pub mod Private
+pub mod Benches

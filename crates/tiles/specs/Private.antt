@@ -6,7 +6,7 @@ use mathlib.Core.List.{List}
 use Prim.Native.Nat.{ℕ, _+_, _*_, _-_, _/_, _%_, _<_, _≤_, min}
 use lib.ListN.{length, getD}
 use Rattle.passes.specs.PrivateScratch.{Filled, Past}
-use Rattle.wall.specs.Private.{bandHome, tileHome}
+use Rattle.tiles.specs.PrivateHomes.{bandHome, tileHome}
 use Rattle.tiles.specs.declared.runs.Rows.{Rows}
 use Rattle.tiles.specs.declared.bands.Band.{Band}
 

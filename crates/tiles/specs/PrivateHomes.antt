@@ -1,7 +1,7 @@
 -- These definitions serve only the contracts of private functions: a reader of the promises can pass over them.
 -- The places of tiles read backwards. Assumes nothing: these are definitions.
 use Prim.Native.Nat.{ℕ, _+_, _*_, _/_, _%_}
-use Rattle.wall.specs.Tiles.{part}
+use Rattle.tiles.specs.Tiles.{part}
 
 -- the offset row by row of the word at offset q of a tile of width w whose first column is j, in a band of n columns
 abbrev pub inTile : ℕ → ℕ → ℕ → ℕ → ℕ

@@ -1,10 +1,10 @@
 -- The places of a block as tiles are one to one: each word has its place in the block, each offset of the block is the place of one word, and no
 -- two words share one. Band by band, from the places of a band: the offsets of band b are those from b·r·n on.
 use Rattle.lists.proofs.Kit.{_≡_, sym, ap, ap₂, _∙_, ℕ, _+_, _*_, _/_, _%_, _<_, _≤_, mod-lt, div-add-mod', mul-assoc, mul-comm, add-mul, mul-pos, mul-le-mul-right, lt-of-mul-lt-mul-right, arith, digits-div, digits-mod}
-use Rattle.wall.specs.Tiles.{part, bandPlace, tilePlace}
-use Rattle.wall.specs.Private.{bandHome, tileHome}
-use Rattle.wall.proofs.Parts.{part-le, part-within, in-part, of-part, at-part}
-use Rattle.wall.proofs.Bands.{in-tile, factor-pos, band-place-lt, home-of-place, spot, spot-column, spot-home, spot-place}
+use Rattle.tiles.specs.Tiles.{part, bandPlace, tilePlace}
+use Rattle.tiles.specs.PrivateHomes.{bandHome, tileHome}
+use Rattle.tiles.proofs.Parts.{part-le, part-within, in-part, of-part, at-part}
+use Rattle.tiles.proofs.BandPlaces.{in-tile, factor-pos, band-place-lt, home-of-place, spot, spot-column, spot-home, spot-place}
 
 module _ (m n r s b : ℕ) where
   -- the place of a word by its band and its row there

@@ -1,7 +1,7 @@
 -- A side cut into parts: no part is longer than the step, none passes the side, and each place of the side lies in its part. By `omega`; a
 -- product of two variables is an atom to it.
 use Rattle.lists.proofs.Kit.{_≡_, ℕ, _+_, _*_, _/_, _%_, _<_, _≤_, mod-lt, div-add-mod', arith, digits-div, digits-mod}
-use Rattle.wall.specs.Tiles.{part}
+use Rattle.tiles.specs.Tiles.{part}
 
 pub part-le : (side step k : ℕ) → part side step k ≤ step
 unfolding part

@@ -1,9 +1,9 @@
 -- A band as tiles. An offset is h·u·s + x·w + c: tile u of width w, row x and column c of the tile. Such an offset is read back by division, every
 -- offset of the band is of this kind, and so the places of a band, read forwards and backwards, undo each other.
 use Rattle.lists.proofs.Kit.{_≡_, sym, ap, _∙_, ⊎-elim, ℕ, _+_, _*_, _/_, _%_, _<_, _≤_, mod-lt, div-add-mod', div-lt-iff-lt-mul, mul-add, mul-pos, mul-le-mul-left, lt-of-mul-lt-mul-left, mul-left-comm, arith, digits-div, digits-mod, digits-lt, lt-or-ge}
-use Rattle.wall.specs.Tiles.{part, bandPlace}
-use Rattle.wall.specs.Private.{bandHome}
-use Rattle.wall.proofs.Parts.{part-le, part-within, part-pos, in-part, of-part, at-part, part-last, part-whole}
+use Rattle.tiles.specs.Tiles.{part, bandPlace}
+use Rattle.tiles.specs.PrivateHomes.{bandHome}
+use Rattle.tiles.proofs.Parts.{part-le, part-within, part-pos, in-part, of-part, at-part, part-last, part-whole}
 
 module _ (h n s u x c : ℕ) (row : x < h) (column : c < part n s u) where
   -- the place of a word in its band, by its tile
