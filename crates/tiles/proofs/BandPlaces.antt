@@ -1,23 +1,21 @@
--- A band as tiles. An offset is h·u·s + x·w + c: tile u of width w, row x and column c of the tile. Such an offset is read back by division, every
--- offset of the band is of this kind, and so the places of a band, read forwards and backwards, undo each other.
-use Rattle.lists.proofs.Kit.{_≡_, sym, ap, _∙_, ⊎-elim, ℕ, _+_, _*_, _/_, _%_, _<_, _≤_, mod-lt, div-add-mod', div-lt-iff-lt-mul, mul-add, mul-pos, mul-le-mul-left, lt-of-mul-lt-mul-left, mul-left-comm, arith, digits-div, digits-mod, digits-lt, lt-or-ge}
+-- A band as tiles. An offset is h·u·s + x·w + c: tile u of width w, row x and column c of the tile. Every offset of the band is of this kind, by
+-- division, and of one word only. In tiles as wide as the band a word stands where its row has it.
+use Rattle.lists.proofs.Kit.{_≡_, sym, ap, ap₂, _∙_, ⊎-elim, ℕ, _+_, _*_, _-_, _/_, _%_, _<_, _≤_, min, mod-lt, div-add-mod', div-lt-iff-lt-mul, mul-add, mul-pos, mul-le-mul-left, lt-of-mul-lt-mul-left, mul-left-comm, div-eq-of-lt, mod-eq-of-lt, mul-zero, zero-mul, arith, digits-lt, lt-or-ge}
 use Rattle.tiles.specs.Tiles.{part, bandPlace}
-use Rattle.tiles.specs.PrivateHomes.{bandHome}
-use Rattle.tiles.proofs.Parts.{part-le, part-within, part-pos, in-part, of-part, at-part, part-last, part-whole}
+use Rattle.tiles.proofs.Parts.{part-le, part-within, part-pos, in-part, of-part, at-part, part-last, part-whole, one-cell}
 
-module _ (h n s u x c : ℕ) (row : x < h) (column : c < part n s u) where
-  -- the place of a word in its band, by its tile
-  pub band-place : bandPlace h n s x (u * s + c) ≡ h * (u * s) + (x * part n s u + c)
-  unfolding bandPlace
-  band-place = rw (of-part n s u c column, at-part n s u c column)
+-- the place of a word in its band, by its tile
+pub band-place : (h n s u x c : ℕ) → c < part n s u → bandPlace h n s x (u * s + c) ≡ h * (u * s) + (x * part n s u + c)
+unfolding bandPlace
+band-place h n s u x c column = rw (of-part n s u c column, at-part n s u c column)
 
-  -- read back
-  pub band-home : bandHome h n s (h * (u * s) + (x * part n s u + c)) ≡ x * n + (u * s + c)
-  unfolding bandHome
-  band-home =
-      let w = part n s u in
-      let low : x * w + c < h * s = omega (arith, digits-lt row column, mul-le-mul-left h (part-le n s u)) in
-      rw (mul-left-comm h u s, digits-div u low, digits-mod u low, digits-div x column, digits-mod x column)
+-- where the tile is as wide as the band
+pub wide-band : (h n s x j : ℕ) → n ≤ s → j < n → bandPlace h n s x j ≡ x * n + j
+unfolding bandPlace part
+wide-band h n s x j wide low =
+    let narrow : j < s = omega arith in
+    let whole : min s (n - 0 * s) ≡ n = omega arith in
+    rw (div-eq-of-lt narrow, mod-eq-of-lt narrow, whole, zero-mul s, mul-zero h) (omega arith)
 
 -- the tile, the row and the column of an offset
 pub record Spot (h n s k : ℕ) : Type 0 where
@@ -65,28 +63,28 @@ module _ {h n s k : ℕ} (p : Spot h n s k) where
   pub spot-column : p .u * s + p .c < n
   spot-column = omega (arith, p .column, part-within n s (p .u) (omega (arith, p .tile)))
 
-  pub spot-home : bandHome h n s k ≡ p .x * n + (p .u * s + p .c)
-  spot-home = ap (bandHome h n s) (sym (p .is)) ∙ band-home h n s (p .u) (p .x) (p .c) (p .row) (p .column)
-
   pub spot-place : bandPlace h n s (p .x) (p .u * s + p .c) ≡ k
-  spot-place = band-place h n s (p .u) (p .x) (p .c) (p .row) (p .column) ∙ p .is
+  spot-place = band-place h n s (p .u) (p .x) (p .c) (p .column) ∙ p .is
 
 module _ (h n s : ℕ) (step : 0 < s) where
-  -- the place of a word of the band lies in the band, and read back it is where the word stood
-  module _ (x j : ℕ) (row : x < h) (low : j < n) where
-    pub band-place-lt : bandPlace h n s x j < h * n
-    unfolding bandPlace
-    band-place-lt =
-        let u = j / s in
-        let w = part n s u in
-        let inside : u * s + w ≤ n = part-within n s u (omega (arith, div-add-mod' j s)) in
-        omega (arith, digits-lt row (in-part n s j step low), mul-add h (u * s) w, mul-le-mul-left h inside)
+  -- the place of a word of the band lies in the band
+  pub band-place-lt : (x j : ℕ) → x < h → j < n → bandPlace h n s x j < h * n
+  unfolding bandPlace
+  band-place-lt x j row low =
+      let u = j / s in
+      let w = part n s u in
+      let inside : u * s + w ≤ n = part-within n s u (omega (arith, div-add-mod' j s)) in
+      omega (arith, digits-lt row (in-part n s j step low), mul-add h (u * s) w, mul-le-mul-left h inside)
 
-    pub home-of-place : bandHome h n s (bandPlace h n s x j) ≡ x * n + j
-    unfolding bandPlace
-    home-of-place = band-home h n s (j / s) x (j % s) row (in-part n s j step low) ∙ ap (λ (z : ℕ). x * n + z) (div-add-mod' j s)
+  -- and is that of no other
+  module _ (x j y k : ℕ) (x-low : x < h) (j-low : j < n) (y-low : y < h) (k-low : k < n) where
+    in-full-tile : (z i : ℕ) → z < h → i < n → z * part n s (i / s) + i % s < h * s
+    in-full-tile z i row low = omega (arith, digits-lt row (in-part n s i step low), mul-le-mul-left h (part-le n s (i / s)))
 
-  -- an offset read back lies in the band
-  module _ (k : ℕ) (low : k < h * n) where
-    pub band-home-lt : bandHome h n s k < h * n
-    band-home-lt = let p = spot h n s step k low in rw (spot-home p) (digits-lt (p .row) (spot-column p))
+    pub band-apart : bandPlace h n s x j ≡ bandPlace h n s y k → (x ≡ y) × (j ≡ k)
+    unfolding bandPlace
+    band-apart e =
+        let tile = one-cell (h * s) (j / s) (x * part n s (j / s) + j % s) (k / s) (y * part n s (k / s) + k % s) (in-full-tile x j x-low j-low) (in-full-tile y k y-low k-low) (omega (arith, mul-left-comm h (j / s) s, mul-left-comm h (k / s) s)) in
+        let same : part n s (k / s) ≡ part n s (j / s) = ap (part n s) (sym (tile .0)) in
+        let cell = one-cell (part n s (j / s)) x (j % s) y (k % s) (in-part n s j step j-low) (rw (tile .0) (in-part n s k step k-low)) (tile .1 ∙ ap (λ (w : ℕ). y * w + k % s) same) in
+        (cell .0, sym (div-add-mod' j s) ∙ ap₂ (λ (u c : ℕ). u * s + c) (tile .0) (cell .1) ∙ div-add-mod' k s)

@@ -1,6 +1,6 @@
 -- a side cut into parts
 pub mod Parts
--- a band as tiles: its places, read forwards and backwards
+-- a band as tiles: its places are one to one
 pub mod BandPlaces
 -- the places of a block as tiles are one to one
 pub mod Places
@@ -10,8 +10,6 @@ pub mod Tiled
 pub mod Listed
 -- the benches hold
 pub mod Benches
--- rows stored one after the other
-pub mod RowByRow
 -- a band laid tile by tile
 pub mod TileByTile
 -- a block moved band by band

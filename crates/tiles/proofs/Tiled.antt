@@ -4,7 +4,7 @@
 use Rattle.lists.proofs.Kit.{_≡_, refl, sym, ap, _∙_, List, ℕ, _+_, _*_, _-_, _/_, _%_, _<_, _≤_, min, mod-lt, div-add-mod', div-lt-iff-lt-mul, div-eq-of-lt, mod-eq-of-lt, mul-comm, mul-zero, zero-mul, zero-add, add-mul, arith, length, getD, ext-getD}
 use Rattle.tiles.specs.Tiles.{part, bandPlace, tilePlace, Tiled}
 use Rattle.tiles.proofs.BandPlaces.{factor-pos}
-use Rattle.tiles.proofs.Places.{cell}
+use Rattle.tiles.proofs.Places.{cell, wide-place}
 
 at : (l : List ℕ) {p q : ℕ} → p ≡ q → getD l p 0 ≡ getD l q 0
 at l e = ap (λ (z : ℕ). getD l z 0) e
@@ -31,15 +31,6 @@ module _ {m n r s : ℕ} {xs : List ℕ} (whole : length xs ≡ m * n) where
   one-untiled {ys} {zs} t u =
       ext-getD 0 ys zs (sym (t .same) ∙ u .same)
       (λ p low. by-rows m n ys zs (λ i j h g. sym (t .placed i j h g) ∙ u .placed i j h g) p (omega (arith, t .same)))
-
--- a word's place where its tile is as wide as the block: where it stood
-wide-place : (m n r s i j : ℕ) → n ≤ s → j < n → tilePlace m n r s i j ≡ i * n + j
-unfolding tilePlace bandPlace part
-wide-place m n r s i j wide low =
-    let narrow : j < s = omega arith in
-    let rows : i / r * r * n + i % r * n ≡ i * n = sym (add-mul (i / r * r) (i % r) n) ∙ ap (λ (z : ℕ). z * n) (div-add-mod' i r) in
-    let whole : min s (n - 0 * s) ≡ n = omega arith in
-    rw (div-eq-of-lt narrow, mod-eq-of-lt narrow, whole, zero-mul s, mul-zero (part m r (i / r))) (omega arith)
 
 -- a tile at least as wide as the block leaves every word in place
 pub wide-stays : {m n r s : ℕ} {xs ys : List ℕ} → length xs ≡ m * n → 0 < r → 0 < s → n ≤ s → Tiled m n r s xs ys → ys ≡ xs

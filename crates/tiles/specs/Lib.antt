@@ -1,6 +1,5 @@
 pub mod Tiles
 pub mod Bands
 pub mod Promises
-pub mod PrivateHomes
 pub mod Private
 pub mod Benches
