@@ -1,7 +1,9 @@
 // Bands of a block, as many rows as a tile is high: lifted into scratch and laid back, from tiles of one width to tiles of another. Tiles at least as
 // wide as the block are its rows, so that a block goes into tiles and back by one way.
 ghost use mathlib.Core.Path.{_≡_};
-ghost use Prim.Native.Nat.{_*_, _<_, _≤_, min};
+ghost use Prim.Native.Nat.{_+_, _*_, _<_, _≤_, min};
+ghost use lib.ListN.{length, getD};
+ghost use Rattle.moves.specs.Stretch.{Stretch};
 ghost use Rattle.tiles.specs.Private.{Aligned, RowsAt, BandFits, PieceAt, LaidTo, PieceLaid, BandMoved, Converts, BlockMoved, Converted};
 
 // A block that is tiled anew: its sides, how high its tiles are, and how wide before and afterwards.
@@ -53,6 +55,17 @@ fn rows_from(rows: usize, columns: usize, width: usize, j: usize) -> Rows
     Rows { at: rows * j, step }
 }
 
+// Word to + u of the buffer receives word from + u of the other one. Word by word, which the compiler makes one move of a block: for runs as long as
+// tiles are wide that takes less time than the pieces of moves::copy.
+fn copy_run(buf: &mut [u32], to: usize, other: &[u32], from: usize, count: usize)
+    requires { ⌜ (to + count ≤ length (now buf)) × (from + count ≤ length (now other)) ⌝ }
+    ensures { λ _. ⌜ Stretch to count (λ u. getD (now (other .entry)) (from + u) 0) (now (buf .entry)) (now (buf .exit)) ⌝ }
+{
+    for u in 0..count {
+        buf[to + u] = other[from + u];
+    }
+}
+
 // The columns from j on, all of one tile, receive their words from scratch, where the band stands.
 fn lay_piece(buf: &mut [u32], scratch: &[u32], b: Band, j: usize, wide: usize)
     requires { ⌜ BandFits b (now buf) (now scratch) × PieceAt b j wide ⌝ }
@@ -61,7 +74,7 @@ fn lay_piece(buf: &mut [u32], scratch: &[u32], b: Band, j: usize, wide: usize)
     let from = rows_from(b.rows, b.columns, b.from, j);
     let to = rows_from(b.rows, b.columns, b.to, j);
     for x in 0..b.rows {
-        moves::copy(
+        copy_run(
             buf,
             b.first + to.at + x * to.step,
             scratch,
