@@ -1,8 +1,8 @@
 -- Removing and adding undo each other: a column removed and the same words added at the same place restore every word; a column added and
 -- removed restores the block. Each column of the larger block is the new one or one of the smaller block, moved past it.
 use Rattle.lists.proofs.Kit.{_≡_, sym, ap, _∙_, List, _⊎_, inl, inr, ⊎-elim, ℕ, suc, _+_, _*_, _-_, _/_, _%_, _<_, _≤_, div-lt-iff-lt-mul, mod-lt, div-add-mod', arith, getD, ext-getD, lt-ltb, le-ltb, lt-or-ge, eq-or-ne}
+use Rattle.moves.proofs.Filling.{at}
 use Rattle.cameras.specs.Columns.{past, Removed, Added}
-use Rattle.cameras.proofs.Runs.{at}
 
 -- columns before k stand, columns from k on are one further
 pub past-before : (k j : ℕ) → j < k → past k j ≡ j

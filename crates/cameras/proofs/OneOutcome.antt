@@ -5,9 +5,9 @@ use Rattle.layout.specs.Layout.{volume}
 use Rattle.refusals.specs.FirstOf.{Check, firstOf}
 use Rattle.flat.specs.Turn.{sides}
 use Rattle.flat.proofs.Turn.{volume-two}
+use Rattle.moves.proofs.Filling.{at}
 use Rattle.cameras.specs.Columns.{Removed, Added}
 use Rattle.cameras.specs.Promises.{removeChecks, addChecks, noColumn, otherLength, Changed, RemovePromise, AddPromise}
-use Rattle.cameras.proofs.Runs.{at}
 use Rattle.cameras.proofs.Back.{by-cells, column-is, Other, restored}
 use Rattle.cameras.proofs.Accepted.{removes, lengths-left, adds}
 

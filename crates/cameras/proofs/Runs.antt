@@ -1,14 +1,11 @@
 -- Run after run. A place (i, j) of the block without column k stands further in the block with it by as many words as the column has before it, and
 -- that number less one is its run. Runs that have closed up stay while the next one does, because it lies past them; runs that have opened stay
 -- while the one before them does.
-use Rattle.lists.proofs.Kit.{_≡_, refl, sym, ap, subst, _∙_, List, _⊎_, inl, inr, ⊎-elim, ℕ, suc, _+_, _*_, _-_, _<_, _≤_, mul-le-mul-right, arith, length, getD, set, length-set, getD-set-same, getD-set-other, lt-ltb, le-ltb, lt-or-ge, eq-or-ne}
+use Rattle.lists.proofs.Kit.{_≡_, refl, sym, ap, subst, _∙_, List, ⊎-elim, ℕ, suc, _+_, _*_, _-_, _<_, _≤_, mul-le-mul-right, arith, length, getD, set, length-set, getD-set-same, getD-set-other, lt-ltb, le-ltb, lt-or-ge, eq-or-ne}
 use Rattle.moves.specs.Stretch.{Stretch}
+use Rattle.moves.proofs.Filling.{at}
 use Rattle.cameras.specs.Columns.{past, Added}
 use Rattle.cameras.specs.Private.{gaps, ClosedTo, OpenedFrom, Closed}
-
--- the same word by two names of its offset
-pub at : (l : List ℕ) {p q : ℕ} → p ≡ q → getD l p 0 ≡ getD l q 0
-at l e = ap (λ (z : ℕ). getD l z 0) e
 
 -- run r has closed up: its n words, which stood from behind column k of row r of n + 1 columns on, stand from column k of row r of n columns on;
 -- words before those stand, and words from column k of the next row on

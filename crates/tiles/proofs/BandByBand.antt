@@ -1,15 +1,15 @@
 -- A block moved band by band. A band that was lifted into scratch and laid back has moved; bands that have moved stay while the next one does,
 -- because it lies past them; at the end every word has its new place, and scratch whose first words are then zeroed is cleared.
-use Rattle.lists.proofs.Kit.{_≡_, refl, sym, ap, _∙_, List, _++_, ⊎-elim, ℕ, _+_, _*_, _-_, _/_, _%_, _<_, _≤_, min, div-add-mod', mul-assoc, add-mul, mul-le-mul-right, arith, length, drop, replicate, getD, length-replicate, length-append, length-drop, getD-replicate, List·getD-append, getD-append-add, getD-drop, ext-getD, lt-or-ge}
+use Rattle.lists.proofs.Kit.{_≡_, refl, sym, ap, _∙_, List, ⊎-elim, ℕ, _+_, _*_, _-_, _/_, _%_, _<_, _≤_, min, div-add-mod', mul-assoc, add-mul, mul-le-mul-right, arith, length, drop, replicate, getD, length-replicate, length-append, length-drop, getD-replicate, List·getD-append, getD-append-add, getD-drop, ext-getD, lt-or-ge}
 use Rattle.refusals.specs.Scratch.{cleared}
 use Rattle.moves.specs.Stretch.{Stretch}
+use Rattle.moves.proofs.Filling.{at}
 use Rattle.tiles.specs.Tiles.{part, bandPlace, tilePlace}
 use Rattle.tiles.specs.Private.{BandFits, LaidTo, Past, BandMoved, Converts, BlockMoved}
 use Rattle.tiles.specs.declared.bands.Band.{Band}
 use Rattle.tiles.specs.declared.bands.Tiling.{Tiling}
 use Rattle.tiles.proofs.BandPlaces.{band-place-lt}
 use Rattle.tiles.proofs.Places.{tile-place, before-band}
-use Rattle.tiles.proofs.TileByTile.{at}
 
 -- lifted, then laid: the band has moved
 pub band-moved : {b : Band} {xs ys scratch held : List ℕ} → 0 < b .from → Stretch 0 (b .rows * b .columns) (λ u. getD xs (b .first + u) 0) scratch held

@@ -1,13 +1,13 @@
 -- The outcome of an accepted conversion: the block goes into tiles from tiles as wide as itself, which are its rows, or out of tiles into these.
-use Rattle.lists.proofs.Kit.{_≡_, sym, _∙_, List, ℕ, _≤_, arith, inl, inr}
+use Rattle.lists.proofs.Kit.{_≡_, sym, _∙_, List, _⊎_, inl, inr, ℕ, _<_, _≤_, arith}
 use Rattle.refusals.specs.FirstOf.{firstOf}
 use Rattle.refusals.proofs.Promise.{accepted}
+use Rattle.moves.proofs.Filling.{at}
 use Rattle.tiles.specs.Promises.{tileChecks, ToTilesPromise, FromTilesPromise}
 use Rattle.tiles.specs.Private.{Converts, Converted}
 use Rattle.tiles.specs.declared.bands.Tiling.{Tiling}
 use Rattle.tiles.proofs.Accepted.{Accepted, tiles-accepted}
 use Rattle.tiles.proofs.Places.{wide-place}
-use Rattle.tiles.proofs.TileByTile.{at}
 
 -- the block into tiles, and out of them
 abbrev pub intoTiles : ℕ → ℕ → ℕ → ℕ → Tiling
@@ -20,33 +20,25 @@ module _ (m n r s : ℕ) {b₀ s₀ : List ℕ} (good : firstOf (tileChecks m n 
   ok : Accepted m n r s b₀ s₀
   ok = tiles-accepted m n r s b₀ s₀ good
 
-  pub converts-into : Converts (intoTiles m n r s) b₀ s₀
-  converts-into = let a = ok in record {
-    high = a .high;
-    low = a .low;
-    before = a .some;
-    afterwards = a .step;
-    near = a .wide;
-    whole = inl (omega arith);
-    tall = a .tall;
-    few = a .few;
-    exact = a .whole;
-    room = a .room;
+  converts : (from to : ℕ) → 0 < from → 0 < to → from ≤ 4096 → (n ≤ from) ⊎ (n ≤ to) → Converts (record { rows = m; columns = n; height = r; from = from; to = to }) b₀ s₀
+  converts from to before afterwards near wide = record {
+    high = ok .high;
+    low = ok .low;
+    before = before;
+    afterwards = afterwards;
+    near = near;
+    whole = wide;
+    tall = ok .tall;
+    few = ok .few;
+    exact = ok .whole;
+    room = ok .room;
   }
 
+  pub converts-into : Converts (intoTiles m n r s) b₀ s₀
+  converts-into = converts n s (ok .some) (ok .step) (ok .wide) (inl (omega arith))
+
   pub converts-out : Converts (outOfTiles m n r s) b₀ s₀
-  converts-out = let a = ok in record {
-    high = a .high;
-    low = a .low;
-    before = a .step;
-    afterwards = a .some;
-    near = omega (arith, a .narrow);
-    whole = inr (omega arith);
-    tall = a .tall;
-    few = a .few;
-    exact = a .whole;
-    room = a .room;
-  }
+  converts-out = converts s n (ok .step) (ok .some) (omega (arith, ok .narrow)) (inr (omega arith))
 
   module _ {b after : List ℕ} where
     pub to-outcome : Converted (intoTiles m n r s) b₀ b s₀ after → ToTilesPromise m n r s b₀ s₀ 0 b after

@@ -1,16 +1,13 @@
 -- A band laid tile by tile, each tile row by row. The words of a tile's row stand together before and afterwards; those that are laid stay while the
 -- next row is, because no two words of a band share a place.
-use Rattle.lists.proofs.Kit.{_≡_, refl, sym, ap, ap₂, _∙_, List, _⊎_, inl, inr, ⊎-elim, ℕ, _+_, _*_, _-_, _/_, _%_, _<_, _≤_, min, div-add-mod', mul-comm, le-mul-of-pos-right, arith, length, getD, eq-or-ne, lt-or-ge}
+use Rattle.lists.proofs.Kit.{_≡_, refl, sym, ap₂, _∙_, List, _⊎_, inl, inr, ⊎-elim, ℕ, _+_, _*_, _-_, _/_, _%_, _<_, _≤_, min, div-add-mod', mul-comm, le-mul-of-pos-right, arith, length, getD, eq-or-ne, lt-or-ge}
 use Rattle.moves.specs.Stretch.{Stretch}
+use Rattle.moves.proofs.Filling.{at}
 use Rattle.tiles.specs.Tiles.{part, bandPlace}
 use Rattle.tiles.specs.Private.{Aligned, RowsAt, BandSmall, BandFits, PieceAt, Laid, LaidTo}
 use Rattle.tiles.specs.declared.bands.Rows.{Rows}
 use Rattle.tiles.specs.declared.bands.Band.{Band}
 use Rattle.tiles.proofs.BandPlaces.{band-place, wide-band, band-place-lt, band-apart}
-
--- the same word by two names of its offset
-pub at : (l : List ℕ) {p q : ℕ} → p ≡ q → getD l p 0 ≡ getD l q 0
-at l e = ap (λ (z : ℕ). getD l z 0) e
 
 -- the rows of a tile that is all of the band, and of a narrower one
 pub rows-wide : {h n width j : ℕ} → n ≤ width → RowsAt h n width j (record { at = j; step = n })

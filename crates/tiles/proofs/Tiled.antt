@@ -1,13 +1,11 @@
 -- A block as tiles: what the one relation `Tiled`, read forwards and backwards, fixes. Two blocks as tiles of one block are equal, two blocks of
 -- which one block is the tiles are equal, so the conversions undo each other; a tile as wide as the block moves nothing; a tile taller than the
 -- block is one as tall. From the places, which are one to one.
-use Rattle.lists.proofs.Kit.{_≡_, refl, sym, ap, _∙_, List, ℕ, _+_, _*_, _-_, _/_, _%_, _<_, _≤_, min, mod-lt, div-add-mod', div-lt-iff-lt-mul, div-eq-of-lt, mod-eq-of-lt, mul-comm, mul-zero, zero-mul, zero-add, add-mul, arith, length, getD, ext-getD}
+use Rattle.lists.proofs.Kit.{_≡_, refl, sym, _∙_, List, ℕ, _+_, _*_, _-_, _/_, _%_, _<_, _≤_, min, mod-lt, div-add-mod', div-lt-iff-lt-mul, div-eq-of-lt, mod-eq-of-lt, mul-comm, zero-mul, zero-add, arith, length, getD, ext-getD}
+use Rattle.moves.proofs.Filling.{at}
 use Rattle.tiles.specs.Tiles.{part, bandPlace, tilePlace, Tiled}
 use Rattle.tiles.proofs.BandPlaces.{factor-pos}
 use Rattle.tiles.proofs.Places.{cell, wide-place}
-
-at : (l : List ℕ) {p q : ℕ} → p ≡ q → getD l p 0 ≡ getD l q 0
-at l e = ap (λ (z : ℕ). getD l z 0) e
 
 -- what holds at every row and column holds at every offset of the block
 by-rows : (m n : ℕ) (xs ys : List ℕ) → ((i j : ℕ) → i < m → j < n → getD xs (i * n + j) 0 ≡ getD ys (i * n + j) 0)
