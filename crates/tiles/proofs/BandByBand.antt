@@ -13,17 +13,19 @@ use Rattle.tiles.proofs.Places.{tile-place, before-band}
 
 -- lifted, then laid: the band has moved
 pub band-moved : {b : Band} {xs ys scratch held : List ℕ} → 0 < b .from → Stretch 0 (b .rows * b .columns) (λ u. getD xs (b .first + u) 0) scratch held
-    → LaidTo b (b .columns) held xs ys → BandMoved b xs ys scratch held
-band-moved {b} {held = held} step lifted laid = record {
-  same = laid .same;
-  placed = λ x j row low.
-      laid .placed x j row low low
-      ∙ at held {q = 0 + bandPlace (b .rows) (b .columns) (b .from) x j} (omega arith)
-      ∙ lifted .holds (bandPlace (b .rows) (b .columns) (b .from) x j) (band-place-lt (b .rows) (b .columns) (b .from) step x j row low);
-  below = laid .below;
-  above = laid .above;
-  past = record { same = lifted .same; rest = λ k h. lifted .above k (omega arith) };
-}
+    → LaidTo b (b .columns) (λ p. getD held p 0) xs ys → BandMoved b xs ys scratch held
+band-moved {b} {held = held} step lifted laid = (
+  record {
+    same = laid .same;
+    placed = λ x j row low done.
+        laid .placed x j row low done
+        ∙ at held {q = 0 + bandPlace (b .rows) (b .columns) (b .from) x j} (omega arith)
+        ∙ lifted .holds (bandPlace (b .rows) (b .columns) (b .from) x j) (band-place-lt (b .rows) (b .columns) (b .from) step x j row low);
+    below = laid .below;
+    above = laid .above;
+  },
+  record { same = lifted .same; rest = λ k h. lifted .above k (omega arith) },
+)
 
 -- the band from row i on, of h rows
 abbrev bandAt : Tiling → ℕ → ℕ → Band
@@ -95,19 +97,19 @@ module _ {t : Tiling} {i h : ℕ} (a : NextBand t i h) where
     -- one band more
     pub band-more : {zs held′ : List ℕ} → BandMoved (bandAt t i h) ys zs held held′ → RowsMoved t (i + r) xs zs scratch held′
     band-more {zs} g = record {
-      same = g .same ∙ f .same;
+      same = g .0 .same ∙ f .same;
       placed = λ k j early row low. ⊎-elim
-          (λ (l : k < i). g .below (tilePlace m n r (t .to) k j) (before-band m n r (t .to) (ok .high) (ok .afterwards) k j row low i (a .first) l) ∙ f .placed k j l row low)
+          (λ (l : k < i). g .0 .below (tilePlace m n r (t .to) k j) (before-band m n r (t .to) (ok .high) (ok .afterwards) k j row low i (a .first) l) ∙ f .placed k j l row low)
           (λ (l : i ≤ k). moves k j (k - i) (omega arith) (omega (arith, a .rows)) low)
           (lt-or-ge k i);
-      above = λ q past. g .above q (omega (arith, lower, add-mul i r n)) ∙ f .above q (omega (arith, add-mul i r n));
-      past = record { same = g .past .same ∙ f .past .same; rest = λ k past. g .past .rest k (omega (arith, lower)) ∙ f .past .rest k past };
+      above = λ q past. g .0 .above q (omega (arith, lower, add-mul i r n)) ∙ f .above q (omega (arith, add-mul i r n));
+      past = record { same = g .1 .same ∙ f .past .same; rest = λ k past. g .1 .rest k (omega (arith, lower)) ∙ f .past .rest k past };
     }
       where
         moves : (k j x : ℕ) → k ≡ i + x → x < h → j < n → getD zs (tilePlace m n r (t .to) k j) 0 ≡ getD xs (tilePlace m n r (t .from) k j) 0
         moves k j x e row low =
             at zs (ap (λ (z : ℕ). tilePlace m n r (t .to) z j) e ∙ in-band (t .to) x j row)
-            ∙ g .placed x j row low
+            ∙ g .0 .placed x j row low low
             ∙ f .above (i * n + bandPlace h n (t .from) x j) (omega arith)
             ∙ at xs (sym (ap (λ (z : ℕ). tilePlace m n r (t .from) z j) e ∙ in-band (t .from) x j row))
 

@@ -11,14 +11,14 @@ unfolding tilePlace
 tile-place m n r s b x j row = rw (of-part m r b x row, at-part m r b x row, mul-assoc b r n)
 
 -- the band of an offset of the block, and the offset there
-pub record Band (m n r p : ℕ) : Type 0 where
+pub record InBand (m n r p : ℕ) : Type 0 where
   pub b : ℕ
   pub k : ℕ
   pub first : b * r ≤ m
   pub low : k < part m r b * n
   pub is : b * (r * n) + k ≡ p
 
-pub band : (m n r : ℕ) → 0 < r → (p : ℕ) → p < m * n → Band m n r p
+pub band : (m n r : ℕ) → 0 < r → (p : ℕ) → p < m * n → InBand m n r p
 band m n r high p low =
     let b = p / (r * n) in
     let k = p % (r * n) in
@@ -29,7 +29,7 @@ band m n r high p low =
     let inside : k < n * part m r b = in-tile n m r b k (omega arith) (omega (arith, mul-comm r n)) (omega (arith, mul-assoc b r n, mul-comm (b * r) n, mul-comm m n)) in
     record { b = b; k = k; first = omega arith; low = omega (arith, mul-comm n (part m r b)); is = p-is }
 
--- a word whose place is p, and where it stood
+-- a word whose place is p
 pub record Cell (m n r s p : ℕ) : Type 0 where
   pub i : ℕ
   pub j : ℕ

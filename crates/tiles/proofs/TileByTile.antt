@@ -81,10 +81,10 @@ module _ {b : Band} {j wide : ℕ} (small : BandSmall b) (piece : PieceAt b j wi
         omega (arith, piece .some, rows .place x (wide - 1) row last inside, band-place-lt (b .rows) (b .columns) width step x (j + (wide - 1)) row inside)
 
   -- one row more
-  pub row-more : {from to : Rows} {x : ℕ} {source xs ys zs : List ℕ} → RowsAt (b .rows) (b .columns) (b .from) j from → RowsAt (b .rows) (b .columns) (b .to) j to → x < b .rows
-      → Laid b (Until j wide x) source xs ys → Stretch (b .first + to .at + x * to .step) wide (λ c. getD source (from .at + x * from .step + c) 0) ys zs
-      → Laid b (Until j wide (x + 1)) source xs zs
-  row-more {from} {to} {x} {source} {xs} {ys} {zs} from-is to-is row f s = record {
+  pub row-more : (source : List ℕ) {from to : Rows} {x : ℕ} {xs ys zs : List ℕ} → RowsAt (b .rows) (b .columns) (b .from) j from → RowsAt (b .rows) (b .columns) (b .to) j to → x < b .rows
+      → Laid b (Until j wide x) (λ p. getD source p 0) xs ys → Stretch (b .first + to .at + x * to .step) wide (λ c. getD source (from .at + x * from .step + c) 0) ys zs
+      → Laid b (Until j wide (x + 1)) (λ p. getD source p 0) xs zs
+  row-more source {from} {to} {x} {xs} {ys} {zs} from-is to-is row f s = record {
     same = s .same ∙ f .same;
     placed = λ y c high low u. ⊎-elim
         (λ (h : c < j). keeps y c high low (record { either = inl h }) (λ p few e. omega arith))
@@ -120,18 +120,18 @@ module _ {b : Band} {j wide : ℕ} (small : BandSmall b) (piece : PieceAt b j wi
           ∙ ap₂ (λ (u v : ℕ). getD source (before u v) 0) (sym e) (sym here)
 
 -- what is laid, told of fewer words
-pub laid-as : {b : Band} {Done Fewer : ℕ → ℕ → Type 0} {source xs ys : List ℕ} → ((x j : ℕ) → x < b .rows → j < b .columns → Fewer x j → Done x j)
+pub laid-as : {b : Band} {Done Fewer : ℕ → ℕ → Type 0} {source : ℕ → ℕ} {xs ys : List ℕ} → ((x j : ℕ) → x < b .rows → j < b .columns → Fewer x j → Done x j)
     → Laid b Done source xs ys → Laid b Fewer source xs ys
 laid-as fewer f = record { same = f .same; placed = λ x j row low d. f .placed x j row low (fewer x j row low d); below = f .below; above = f .above }
 
-pub laid-none : {b : Band} {source xs : List ℕ} → LaidTo b 0 source xs xs
+pub laid-none : {b : Band} {source : ℕ → ℕ} {xs : List ℕ} → LaidTo b 0 source xs xs
 laid-none = record { same = refl; placed = λ x j row low h. absurd (omega arith); below = λ q h. refl; above = λ q h. refl }
 
 -- a piece of which no row is laid, and one of which all rows are
-pub piece-none : {b : Band} {j wide : ℕ} {source xs ys : List ℕ} → LaidTo b j source xs ys → Laid b (Until j wide 0) source xs ys
+pub piece-none : {b : Band} {j wide : ℕ} {source : ℕ → ℕ} {xs ys : List ℕ} → LaidTo b j source xs ys → Laid b (Until j wide 0) source xs ys
 piece-none f = laid-as (λ x c row low u. ⊎-elim (λ h. h) (λ h. absurd (omega arith)) (u .either)) f
 
-pub piece-all : {b : Band} {j wide x : ℕ} {source xs ys : List ℕ} → x ≡ b .rows → Laid b (Until j wide x) source xs ys → LaidTo b (j + wide) source xs ys
+pub piece-all : {b : Band} {j wide x : ℕ} {source : ℕ → ℕ} {xs ys : List ℕ} → x ≡ b .rows → Laid b (Until j wide x) source xs ys → LaidTo b (j + wide) source xs ys
 piece-all e f = laid-as (λ x c row low h. record { either = inr (omega arith, h) }) f
 
 -- a band that fits goes on fitting

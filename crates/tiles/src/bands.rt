@@ -55,8 +55,8 @@ fn rows_from(rows: usize, columns: usize, width: usize, j: usize) -> Rows
     Rows { at: rows * j, step }
 }
 
-// Word to + u of the buffer receives word from + u of the other one. Word by word, which the compiler makes one move of a block: for runs as long as
-// tiles are wide that takes less time than the pieces of moves::copy.
+// Word to + u of the buffer receives word from + u of the other one. Word by word, which the compiler makes wide: from about sixteen words on, up to the
+// 64 that a tile has in a row, that takes less time than the pieces of moves::copy.
 fn copy_run(buf: &mut [u32], to: usize, other: &[u32], from: usize, count: usize)
     requires { ⌜ (to + count ≤ length (now buf)) × (from + count ≤ length (now other)) ⌝ }
     ensures { λ _. ⌜ Stretch to count (λ u. getD (now (other .entry)) (from + u) 0) (now (buf .entry)) (now (buf .exit)) ⌝ }
@@ -69,7 +69,7 @@ fn copy_run(buf: &mut [u32], to: usize, other: &[u32], from: usize, count: usize
 // The columns from j on, all of one tile, receive their words from scratch, where the band stands.
 fn lay_piece(buf: &mut [u32], scratch: &[u32], b: Band, j: usize, wide: usize)
     requires { ⌜ BandFits b (now buf) (now scratch) × PieceAt b j wide ⌝ }
-    ensures { λ _. ⌜ PieceLaid b j wide (now (scratch .entry)) (now (buf .entry)) (now (buf .exit)) ⌝ }
+    ensures { λ _. ⌜ PieceLaid b j wide (λ p. getD (now (scratch .entry)) p 0) (now (buf .entry)) (now (buf .exit)) ⌝ }
 {
     let from = rows_from(b.rows, b.columns, b.from, j);
     let to = rows_from(b.rows, b.columns, b.to, j);
@@ -87,7 +87,7 @@ fn lay_piece(buf: &mut [u32], scratch: &[u32], b: Band, j: usize, wide: usize)
 // The columns of the band receive their words from scratch, tile by tile of the narrower tiles.
 fn lay(buf: &mut [u32], scratch: &[u32], b: Band)
     requires { ⌜ BandFits b (now buf) (now scratch) ⌝ }
-    ensures { λ _. ⌜ LaidTo b (b .columns) (now (scratch .entry)) (now (buf .entry)) (now (buf .exit)) ⌝ }
+    ensures { λ _. ⌜ LaidTo b (b .columns) (λ p. getD (now (scratch .entry)) p 0) (now (buf .entry)) (now (buf .exit)) ⌝ }
 {
     let step = smaller(b.from, b.to);
     let mut j = 0;

@@ -1,13 +1,17 @@
 -- `lay_piece` meets its contract: row after row is copied from its place in the band to its new place.
-use Rattle.lists.proofs.Kit.{_≡_, _∙_, List, ℕ, _+_, _*_, _-_, _<_, _≤_, arith, length, needs}
+use Rattle.lists.proofs.Kit.{_≡_, _∙_, List, ℕ, _+_, _*_, _-_, _<_, _≤_, arith, length, getD, needs}
 use Rattle.tiles.specs.Private.{LaidTo, Laid}
 use Rattle.tiles.proofs.TileByTile.{Until, row-within, row-more, piece-none, piece-all}
 use Rattle.tiles.proofs.bands.lay_piece.Statement.{statement}
 use Rattle.tiles.proofs.bands.lay_piece.Tie as tie
 
+-- what stands at each place of a list
+abbrev words : List ℕ → ℕ → ℕ
+words l p = getD l p 0
+
 abbrev Inv-loop : tie.InvT-loop
 Inv-loop buf₀ scratch b j wide from to x₀ x-end buf x =
-    (x ≤ b .rows) × (length buf ≡ length buf₀) × ((xs : List ℕ) → LaidTo b j scratch xs buf₀ → Laid b (Until j wide x) scratch xs buf)
+    (x ≤ b .rows) × (length buf ≡ length buf₀) × ((xs : List ℕ) → LaidTo b j (words scratch) xs buf₀ → Laid b (Until j wide x) (words scratch) xs buf)
 
 abbrev μ-loop : tie.MeasureT-loop
 μ-loop buf₀ scratch b j wide from to x₀ x-end buf x = b .rows - x
@@ -39,7 +43,7 @@ loop-again c =
     let row = reach i .0 in (
       omega (arith, row),
       m .copy-run .ensures .same ∙ l .loop .inv .1,
-      λ xs before. row-more (s .pre .0 .small) (s .pre .1) (f .rows-from .ensures) (t .rows-from2 .ensures) row (l .loop .inv .2 xs before) (m .copy-run .ensures),
+      λ xs before. row-more (s .pre .0 .small) (s .pre .1) (s .args .scratch .now) (f .rows-from .ensures) (t .rows-from2 .ensures) row (l .loop .inv .2 xs before) (m .copy-run .ensures),
     )
 
 returns : tie.Need-returns Inv-loop μ-loop
