@@ -36,16 +36,13 @@ piece {b} {j} {step} small narrower is low first = record {
   before = omega arith;
   afterwards = omega arith;
   from-first = aligned (b .from) (b .to) (small .whole) narrower;
-  to-first = aligned (b .to) (b .from) (other (small .whole)) (omega arith);
+  to-first = aligned (b .to) (b .from) (⊎-elim inr inl (small .whole)) (omega arith);
 }
   where
-    other : (b .columns ≤ b .from) ⊎ (b .columns ≤ b .to) → (b .columns ≤ b .to) ⊎ (b .columns ≤ b .from)
-    other w = ⊎-elim inr inl w
-
     aligned : (width against : ℕ) → (b .columns ≤ width) ⊎ (b .columns ≤ against) → step ≡ min width against → Aligned (b .columns) width j
     aligned width against w e =
         ⊎-elim
-        (λ (h : width < b .columns). ⊎-elim (λ (g : b .columns ≤ width). inl g) (λ (g : b .columns ≤ against). let same : step ≡ width = omega arith in inr (rw same at first)) w)
+        (λ (h : width < b .columns). let same : step ≡ width = ⊎-elim (λ g. omega arith) (λ g. omega arith) w in inr (rw same at first))
         (λ (h : b .columns ≤ width). inl h)
         (lt-or-ge width (b .columns))
 
