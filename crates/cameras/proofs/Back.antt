@@ -1,8 +1,15 @@
 -- Removing and adding undo each other: a column removed and the same words added at the same place restore every word; a column added and
 -- removed restores the block. Each column of the larger block is the new one or one of the smaller block, moved past it.
-use Rattle.lists.proofs.Kit.{_≡_, sym, ap, _∙_, List, _⊎_, inl, inr, ⊎-elim, ℕ, suc, _+_, _*_, _-_, _/_, _%_, _<_, _≤_, div-lt-iff-lt-mul, mod-lt, div-add-mod', arith, getD, ext-getD, lt-or-ge, eq-or-ne}
+use Rattle.lists.proofs.Kit.{_≡_, sym, ap, _∙_, List, _⊎_, inl, inr, ⊎-elim, ℕ, suc, _+_, _*_, _-_, _/_, _%_, _<_, _≤_, div-lt-iff-lt-mul, mod-lt, div-add-mod', arith, getD, ext-getD, lt-ltb, le-ltb, lt-or-ge, eq-or-ne}
+use Rattle.moves.proofs.Filling.{at}
 use Rattle.cameras.specs.Columns.{past, Removed, Added}
-use Rattle.cameras.proofs.Runs.{past-before, past-after, at}
+
+-- columns before k stand, columns from k on are one further
+pub past-before : (k j : ℕ) → j < k → past k j ≡ j
+past-before k j h = rw (lt-ltb j k h)
+
+pub past-after : (k j : ℕ) → k ≤ j → past k j ≡ suc j
+past-after k j h = rw (le-ltb j k h)
 
 -- a column of the larger block: column k, or column j of the smaller one
 pub record Other (n k c : ℕ) : Type 0 where

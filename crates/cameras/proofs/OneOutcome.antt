@@ -5,9 +5,9 @@ use Rattle.layout.specs.Layout.{volume}
 use Rattle.refusals.specs.FirstOf.{Check, firstOf}
 use Rattle.flat.specs.Turn.{sides}
 use Rattle.flat.proofs.Turn.{volume-two}
+use Rattle.moves.proofs.Filling.{at}
 use Rattle.cameras.specs.Columns.{Removed, Added}
 use Rattle.cameras.specs.Promises.{removeChecks, addChecks, noColumn, otherLength, Changed, RemovePromise, AddPromise}
-use Rattle.cameras.proofs.Runs.{at}
 use Rattle.cameras.proofs.Back.{by-cells, column-is, Other, restored}
 use Rattle.cameras.proofs.Accepted.{removes, lengths-left, adds}
 
@@ -60,16 +60,10 @@ pub add-once : (frames cameras k : ℕ) {r r′ : ℕ} {column xs ys zs : List �
     → (r ≡ r′) × (ys ≡ zs)
 add-once frames cameras k {column = column} {xs} p q = one-change (λ e. one-added (adds frames cameras k column xs e .low)) p q
 
--- what is left to be refused
-place-or-length : (a b : Bool) → let number = cond {A = ℕ} a 16 (cond b 25 0) in (number ≡ 0) ⊎ ((number ≡ 16) ⊎ (number ≡ 25))
-place-or-length true b = inr (inl refl)
-place-or-length false true = inr (inr refl)
-place-or-length false false = inl refl
-
--- after an accepted removal a column can be added to what is left: only its place or its length can be wrong
-pub room-enough : (frames cameras k place : ℕ) (column xs ys : List ℕ) → firstOf (removeChecks frames cameras k xs) ≡ 0 → length ys ≡ length xs
-    → let number = firstOf (addChecks frames (cameras - 1) place column ys) in (number ≡ 0) ⊎ ((number ≡ 16) ⊎ (number ≡ 25))
-room-enough f c k place column xs ys e same =
+-- after an accepted removal only the place or the length of a column that is added to what is left can be wrong
+left-to-check : (frames cameras k place : ℕ) (column xs ys : List ℕ) → firstOf (removeChecks frames cameras k xs) ≡ 0 → length ys ≡ length xs
+    → firstOf (addChecks frames (cameras - 1) place column ys) ≡ cond (noColumn (cameras - 1) place) 16 (cond (otherLength frames column) 25 0)
+left-to-check f c k place column xs ys e same =
     let r = removes f c k xs e in
     let before = volume-two f (c - 1) in
     let after = volume-two f (c - 1 + 1) in
@@ -81,7 +75,17 @@ room-enough f c k place column xs ys e same =
       le-ltb (length ys) (volume (sides f (c - 1))) (omega (arith, r .fits)),
       le-ltb (length ys) (volume (sides f (c - 1 + 1))) (omega (arith, r .fits)),
     )
-    (place-or-length (noColumn (c - 1) place) (otherLength f column))
+
+place-or-length : (a b : Bool) → let number = cond {A = ℕ} a 16 (cond b 25 0) in (number ≡ 0) ⊎ ((number ≡ 16) ⊎ (number ≡ 25))
+place-or-length true b = inr (inl refl)
+place-or-length false true = inr (inr refl)
+place-or-length false false = inl refl
+
+-- so a column can be added
+pub room-enough : (frames cameras k place : ℕ) (column xs ys : List ℕ) → firstOf (removeChecks frames cameras k xs) ≡ 0 → length ys ≡ length xs
+    → let number = firstOf (addChecks frames (cameras - 1) place column ys) in (number ≡ 0) ⊎ ((number ≡ 16) ⊎ (number ≡ 25))
+room-enough f c k place column xs ys e same =
+    rw (left-to-check f c k place column xs ys e same) (place-or-length (noColumn (c - 1) place) (otherLength f column))
 
 -- a column removed, then the same words added at the same place: accepted, and every word of the buffer is what it was
 pub there-and-back : (frames cameras k : ℕ) {r : ℕ} {column xs ys zs : List ℕ} → length column ≡ frames
@@ -90,19 +94,6 @@ pub there-and-back : (frames cameras k : ℕ) {r : ℕ} {column xs ys zs : List 
 there-and-back f c k {column = column} {xs = xs} {ys = ys} long words p q =
     let e = sym (p .number-is) in
     let m = removes f c k xs e in
-    let same = p .words refl .same in
-    let before = volume-two f (c - 1) in
-    let after = volume-two f (c - 1 + 1) in
-    let less : f * (c - 1) ≤ f * suc (c - 1) = omega arith in
-    let z : firstOf (addChecks f (c - 1) k column ys) ≡ 0 =
-    rw (
-      lengths-left f c k xs e,
-      le-ltb 1048576 (volume (sides f (c - 1))) (omega (arith, m .few)),
-      le-ltb 1048576 (volume (sides f (c - 1 + 1))) (omega (arith, m .few)),
-      le-ltb (length ys) (volume (sides f (c - 1))) (omega (arith, m .fits)),
-      le-ltb (length ys) (volume (sides f (c - 1 + 1))) (omega (arith, m .fits)),
-      le-ltb (c - 1) k (m .low),
-      eq-eqb (length column) f long,
-    ) in
-    let y = q .number-is ∙ z in
+    let right : cond {A = ℕ} (noColumn (c - 1) k) 16 (cond (otherLength f column) 25 0) ≡ 0 = rw (le-ltb (c - 1) k (m .low), eq-eqb (length column) f long) in
+    let y = q .number-is ∙ left-to-check f c k k column xs ys e (p .words refl .same) ∙ right in
     (y, restored (m .low) (p .words refl) (λ i h. words i h ∙ at xs (ap (λ (w : ℕ). i * w + k) (m .left))) (q .words y))

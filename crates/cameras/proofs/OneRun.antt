@@ -2,7 +2,8 @@
 -- word is still to be read.
 use Rattle.lists.proofs.Kit.{_≡_, _∙_, List, ℕ, suc, _+_, _*_, _-_, _≤_, arith, length, getD, set, length-set, getD-set-same, getD-set-other}
 use Rattle.moves.specs.Stretch.{Stretch}
-use Rattle.cameras.proofs.Runs.{RunClosed, RunOpened, at}
+use Rattle.moves.proofs.Filling.{at}
+use Rattle.cameras.proofs.Runs.{RunClosed, RunOpened}
 
 module _ {n k r wide : ℕ} (all : n ≤ wide) (few : wide ≤ n + r + 1) where
   -- on the way down, words past the run go along up to the next run

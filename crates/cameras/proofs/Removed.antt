@@ -1,9 +1,9 @@
 -- Rows that have closed up, with the words behind them zeroed, are the block without the column.
 use Rattle.lists.proofs.Kit.{_∙_, List, ℕ, _+_, _*_, _-_, mul-le-mul-right, arith}
-use Rattle.cameras.specs.Columns.{Removed}
 use Rattle.moves.specs.Stretch.{Stretch}
+use Rattle.moves.proofs.Filling.{at}
+use Rattle.cameras.specs.Columns.{Removed}
 use Rattle.cameras.specs.Private.{Closed}
-use Rattle.cameras.proofs.Runs.{at}
 
 pub removed : {frames n k : ℕ} {xs ys zs : List ℕ} → Closed frames n k xs ys → Stretch (frames * n) frames (λ p. 0) ys zs → Removed frames n k xs zs
 removed {frames} {n} {k} {xs} {ys} {zs} c z = record {

@@ -9,7 +9,7 @@ use Rattle.refusals.specs.Scratch.{need, cleared}
 use Rattle.refusals.proofs.Promise.{accepted}
 use Rattle.flat.specs.Turn.{sides}
 use Rattle.flat.specs.Passes.{word, row1, column2, row3}
-use Rattle.wall.specs.Tiles.{part, bandPlace, tilePlace, Tiled}
+use Rattle.tiles.specs.Tiles.{part, bandPlace, tilePlace, Tiled}
 use Rattle.tiles.specs.Promises.{bandNeed, tileChecks, ToTilesPromise, FromTilesPromise}
 use Rattle.tiles.proofs.OneOutcome.{to-tiles-once, from-tiles-once}
 use Rattle.cameras.specs.Columns.{past, Removed, Added}

@@ -11,7 +11,6 @@ use Rattle.refusals.proofs.Conditions.InRange.{none, more}
 use Rattle.flat.specs.Turn.{sides}
 use Rattle.flat.proofs.Turn.{volume-two}
 use Rattle.tiles.specs.Promises.{noSide, badTile, bandNeed, tileChecks}
-use Rattle.tiles.specs.Private.{Converts}
 
 -- a side that a tile may have
 sided : (d : ℕ) → noSide d ≡ false → (0 < d) × (d ≤ 64)
@@ -26,13 +25,13 @@ tileRest m n r s buffer scratch =
     check 15 (badTile r s) ∷ (exactChecks (sides m n) buffer ++ (check 4 (shortScratch (bandNeed n r) scratch) ∷ []))
 
 -- sides that pass the checks of the size
-lengths : (m n : ℕ) → Sized (sides m n) → (m ≤ 4096) × (n ≤ 4096) × (m * n ≤ 1048576)
+lengths : (m n : ℕ) → Sized (sides m n) → (m ≤ 4096) × (n ≤ 4096) × (m * n ≤ 1048576) × (0 < n)
 lengths m n v = go (v .lengths)
   where
-    go : InRange (sides m n) → (m ≤ 4096) × (n ≤ 4096) × (m * n ≤ 1048576)
-    go (more pm fm (more pn fn none)) = (fm, fn, rw (volume-two m n) at (v .few))
+    go : InRange (sides m n) → (m ≤ 4096) × (n ≤ 4096) × (m * n ≤ 1048576) × (0 < n)
+    go (more pm fm (more pn fn none)) = (fm, fn, rw (volume-two m n) at (v .few), omega arith)
 
-pub sizes : (m n : ℕ) → firstOf (sizeChecks (sides m n)) ≡ 0 → (m ≤ 4096) × (n ≤ 4096) × (m * n ≤ 1048576)
+pub sizes : (m n : ℕ) → firstOf (sizeChecks (sides m n)) ≡ 0 → (m ≤ 4096) × (n ≤ 4096) × (m * n ≤ 1048576) × (0 < n)
 sizes m n e = lengths m n (size-valid (sides m n) [] e .0)
 
 -- the size has passed: the other checks decide, one after the other
@@ -82,9 +81,21 @@ pub size-refused : (m n r s : ℕ) (buffer scratch : List ℕ) {k : ℕ} → k �
     → k ≡ firstOf (tileChecks m n r s buffer scratch)
 size-refused m n r s buffer scratch e z = refused-by (sizeChecks (sides m n)) (tileRest m n r s buffer scratch) e z
 
--- none holds: the block can be converted
-pub converts : (m n r s : ℕ) (buffer scratch : List ℕ) → firstOf (tileChecks m n r s buffer scratch) ≡ 0 → Converts m n r s buffer scratch
-converts m n r s buffer scratch e =
+-- none holds
+pub record Accepted (m n r s : ℕ) (buffer scratch : List ℕ) : Type 0 where
+  pub high : 0 < r
+  pub step : 0 < s
+  pub low : r ≤ 64
+  pub narrow : s ≤ 64
+  pub tall : m ≤ 4096
+  pub some : 0 < n
+  pub wide : n ≤ 4096
+  pub few : m * n ≤ 1048576
+  pub whole : length buffer ≡ m * n
+  pub room : r * n ≤ length scratch
+
+pub tiles-accepted : (m n r s : ℕ) (buffer scratch : List ℕ) → firstOf (tileChecks m n r s buffer scratch) ≡ 0 → Accepted m n r s buffer scratch
+tiles-accepted m n r s buffer scratch e =
     let v = size-valid (sides m n) (tileRest m n r s buffer scratch) e in
     let tile = passed (badTile r s) 15 _ (lit< tt) (v .1) in
     let exact = exact-passed (sides m n) buffer (check 4 (shortScratch (bandNeed n r) scratch) ∷ []) (tile .1) in
@@ -97,6 +108,8 @@ converts m n r s buffer scratch e =
       low = sided r (sides-are .0) .1;
       narrow = sided s (sides-are .1) .1;
       tall = z .0;
+      some = z .3;
+      wide = z .1;
       few = z .2;
       whole = exact .0 ∙ words;
       room = enough-scratch (r * n) scratch [] (exact .1) .0;
@@ -112,4 +125,4 @@ pub passes-again : (m n r s : ℕ) (b b′ scratch scratch′ : List ℕ) → fi
 passes-again m n r s b b′ scratch scratch′ e same room =
     let v = size-valid (sides m n) (tileRest m n r s b scratch) e in
     let tile = passed (badTile r s) 15 _ (lit< tt) (v .1) in
-    sym (all-passed m n r s b′ scratch′ (size-alone m n r s b scratch e) (tile .0) (same ∙ converts m n r s b scratch e .whole) room)
+    sym (all-passed m n r s b′ scratch′ (size-alone m n r s b scratch e) (tile .0) (same ∙ tiles-accepted m n r s b scratch e .whole) room)

@@ -1,74 +1,65 @@
 -- A block moved band by band. A band that was lifted into scratch and laid back has moved; bands that have moved stay while the next one does,
--- because it lies past them; at the end the block is in tiles, or the tiles are a block.
-use Rattle.lists.proofs.Kit.{_≡_, refl, sym, ap, _∙_, Bool, true, false, cond, List, ℕ, _+_, _*_, _-_, _/_, _%_, _<_, _≤_, min, div-add-mod', mul-assoc, add-mul, zero-mul, mul-le-mul-right, arith, getD}
-use Rattle.passes.specs.PrivateScratch.{Apart, Filled, Past}
-use Rattle.passes.proofs.Filled.{filled-none, filled-on}
-use Rattle.wall.specs.Tiles.{part, tilePlace, Tiled}
-use Rattle.wall.specs.Private.{bandHome, tileHome}
-use Rattle.wall.proofs.Bands.{band-home-lt}
-use Rattle.wall.proofs.Places.{tile-home, tile-place-lt, home-of-tile, homes-apart}
-use Rattle.tiles.specs.Private.{bandTo, bandFrom, BandFits, BandLaid, BandMoved, blockTo, blockFrom, Converts, Converted}
+-- because it lies past them; at the end every word has its new place, and scratch whose first words are then zeroed is cleared.
+use Rattle.lists.proofs.Kit.{_≡_, refl, sym, ap, _∙_, List, ⊎-elim, ℕ, _+_, _*_, _-_, _/_, _%_, _<_, _≤_, min, div-add-mod', mul-assoc, add-mul, mul-le-mul-right, arith, length, drop, replicate, getD, length-replicate, length-append, length-drop, getD-replicate, List·getD-append, getD-append-add, getD-drop, ext-getD, lt-or-ge}
+use Rattle.refusals.specs.Scratch.{cleared}
+use Rattle.moves.specs.Stretch.{Stretch}
+use Rattle.moves.proofs.Filling.{at}
+use Rattle.tiles.specs.Tiles.{part, bandPlace, tilePlace}
+use Rattle.tiles.specs.Private.{BandFits, LaidTo, Past, BandMoved, Converts, BlockMoved}
 use Rattle.tiles.specs.declared.bands.Band.{Band}
-use Rattle.tiles.proofs.TileByTile.{filled-count}
-
--- the words of a band come from the band, and go to it
-module _ (b : Band) (step : 0 < b .width) (k : ℕ) (low : k < b .rows * b .columns) where
-  from-low : bandFrom b k < b .rows * b .columns
-  from-low = go (b .into)
-    where
-      go : (t : Bool) → cond t (bandHome (b .rows) (b .columns) (b .width) k) k < b .rows * b .columns
-      go true = band-home-lt (b .rows) (b .columns) (b .width) step k low
-      go false = low
-
-  to-low : bandTo b k < b .first + b .rows * b .columns
-  to-low = go (b .into)
-    where
-      go : (t : Bool) → b .first + cond t k (bandHome (b .rows) (b .columns) (b .width) k) < b .first + b .rows * b .columns
-      go true = omega (arith, low)
-      go false = omega (arith, band-home-lt (b .rows) (b .columns) (b .width) step k low)
+use Rattle.tiles.specs.declared.bands.Tiling.{Tiling}
+use Rattle.tiles.proofs.BandPlaces.{band-place-lt}
+use Rattle.tiles.proofs.Places.{tile-place, before-band}
 
 -- lifted, then laid: the band has moved
-pub band-moved : {b : Band} {xs ys scratch held : List ℕ} → 0 < b .width
-    → Filled (λ t. 0 + t) (λ t. getD xs (b .first + t) 0) (b .rows * b .columns) scratch held → BandLaid b held xs ys → BandMoved b xs ys scratch held
-band-moved {b} {held = held} step lifted laid = record {
-  moved = record {
+pub band-moved : {b : Band} {xs ys scratch held : List ℕ} → 0 < b .from → Stretch 0 (b .rows * b .columns) (λ u. getD xs (b .first + u) 0) scratch held
+    → LaidTo b (b .columns) (λ p. getD held p 0) xs ys → BandMoved b xs ys scratch held
+band-moved {b} {held = held} step lifted laid = (
+  record {
     same = laid .same;
-    placed = λ k low.
-        let q = bandFrom b k in
-        laid .placed k low ∙ ap (λ (z : ℕ). getD held z 0) (omega arith) ∙ lifted .placed q (from-low b step k low);
-    others = laid .others;
-  };
-  past = record { same = lifted .same; rest = λ p past. lifted .others p (λ k low e. omega arith) };
-}
+    placed = λ x j row low done.
+        laid .placed x j row low done
+        ∙ at held {q = 0 + bandPlace (b .rows) (b .columns) (b .from) x j} (omega arith)
+        ∙ lifted .holds (bandPlace (b .rows) (b .columns) (b .from) x j) (band-place-lt (b .rows) (b .columns) (b .from) step x j row low);
+    below = laid .below;
+    above = laid .above;
+  },
+  record { same = lifted .same; rest = λ k h. lifted .above k (omega arith) },
+)
 
 -- the band from row i on, of h rows
-abbrev pub bandAt : Bool → ℕ → ℕ → ℕ → ℕ → Band
-bandAt into n s i h = record { first = i * n; rows = h; columns = n; width = s; into = into }
+abbrev bandAt : Tiling → ℕ → ℕ → Band
+bandAt t i h = record { first = i * t .columns; rows = h; columns = t .columns; from = t .from; to = t .to }
 
--- no two words of the block go to one offset
-block-apart : (into : Bool) (m n r s : ℕ) → 0 < r → 0 < s → Apart (blockTo into m n r s) (m * n)
-block-apart true m n r s high step p q _ _ e = e
-block-apart false m n r s high step p q a b e = homes-apart m n r s high step p q a b e
-
--- the rows before i have moved
-pub record SomeBands (into : Bool) (m n r s i : ℕ) (xs ys scratch held : List ℕ) : Type 0 where
-  pub filled : Filled (blockTo into m n r s) (λ p. getD xs (blockFrom into m n r s p) 0) (min i m * n) xs ys
-  pub above : (p : ℕ) → min i m * n ≤ p → getD ys p 0 ≡ getD xs p 0
-  pub past : Past (r * n) scratch held
+-- the rows before i have moved, the others stand; scratch past a band is as it was
+pub record RowsMoved (t : Tiling) (i : ℕ) (xs ys scratch held : List ℕ) : Type 0 where
+  pub same : length ys ≡ length xs
+  pub placed : (k j : ℕ) → k < i → k < t .rows → j < t .columns
+      → getD ys (tilePlace (t .rows) (t .columns) (t .height) (t .to) k j) 0 ≡ getD xs (tilePlace (t .rows) (t .columns) (t .height) (t .from) k j) 0
+  pub above : (q : ℕ) → i * t .columns ≤ q → getD ys q 0 ≡ getD xs q 0
+  pub past : Past (t .height * t .columns) scratch held
 
 -- none yet
-pub bands-none : {into : Bool} {m n r s : ℕ} {xs scratch : List ℕ} → SomeBands into m n r s 0 xs xs scratch scratch
-bands-none {m = m} {n} {xs = xs} =
-    let none : min 0 m * n ≡ 0 = ap (λ (z : ℕ). z * n) (omega arith) ∙ zero-mul n in
-    record { filled = filled-count none (filled-none _ _ xs); above = λ p _. refl; past = record { same = refl; rest = λ p _. refl } }
+pub none-moved : {t : Tiling} {xs scratch : List ℕ} → RowsMoved t 0 xs xs scratch scratch
+none-moved = record { same = refl; placed = λ k j early row low. absurd (omega arith); above = λ q h. refl; past = record { same = refl; rest = λ k h. refl } }
 
 -- the next band starts at row i and has h rows
-pub record NextBand (m r i h : ℕ) : Type 0 where
-  pub first : i % r ≡ 0
-  pub low : i < m
-  pub rows : h ≡ min r (m - i)
+pub record NextBand (t : Tiling) (i h : ℕ) : Type 0 where
+  pub first : i % t .height ≡ 0
+  pub low : i < t .rows
+  pub rows : h ≡ min (t .height) (t .rows - i)
 
-module _ {m r i h : ℕ} (n s : ℕ) (a : NextBand m r i h) where
+module _ {t : Tiling} {i h : ℕ} (a : NextBand t i h) where
+  abbrev m : ℕ
+  m = t .rows
+
+  abbrev n : ℕ
+  n = t .columns
+
+  abbrev r : ℕ
+  r = t .height
+
+  -- the words of the band in the block
   start : i / r * r ≡ i
   start = omega (arith, div-add-mod' i r, a .first)
 
@@ -76,77 +67,73 @@ module _ {m r i h : ℕ} (n s : ℕ) (a : NextBand m r i h) where
   unfolding part
   height-is = rw start (sym (a .rows))
 
-  -- the words of the band in the block
-  in-band : (k : ℕ) → k < h * n → tileHome m n r s (i * n + k) ≡ i * n + bandHome h n s k
-  in-band k few =
+  in-band : (s x j : ℕ) → x < h → tilePlace m n r s (i + x) j ≡ i * n + bandPlace h n s x j
+  in-band s x j row =
+      let e = tile-place m n r s (i / r) x j (rw height-is row) in
       let begin : i / r * (r * n) ≡ i * n = sym (mul-assoc (i / r) r n) ∙ ap (λ (z : ℕ). z * n) start in
-      let e = tile-home m n r s (i / r) k (rw height-is few) in
-      rw (height-is, begin) at e
+      rw (height-is, begin, start) at e
 
   within : i * n + h * n ≤ m * n
-  within =
-      let last : i + h ≤ m = omega (arith, a .low, a .rows) in
-      omega (arith, add-mul i h n, mul-le-mul-right n last)
+  within = let last : i + h ≤ m = omega (arith, a .low, a .rows) in omega (arith, add-mul i h n, mul-le-mul-right n last)
 
   lower : h * n ≤ r * n
   lower = let few : h ≤ r = omega (arith, a .rows) in mul-le-mul-right n few
 
-  before : i * n ≡ min i m * n
-  before = ap (λ (z : ℕ). z * n) (omega (arith, a .low))
-
-  after : min (i + r) m * n ≡ i * n + h * n
-  after = ap (λ (z : ℕ). z * n) (omega (arith, a .low, a .rows)) ∙ add-mul i h n
-
-  -- where the words of the band go, and where they come from, in the block
-  goes-to : (into : Bool) (k : ℕ) → k < h * n → blockTo into m n r s (i * n + k) ≡ bandTo (bandAt into n s i h) k
-  goes-to true k few = refl
-  goes-to false k few = in-band k few
-
-  comes-from : (into : Bool) (k : ℕ) → k < h * n → blockFrom into m n r s (i * n + k) ≡ i * n + bandFrom (bandAt into n s i h) k
-  comes-from true k few = in-band k few
-  comes-from false k few = refl
-
-  module _ {into : Bool} {xs ys scratch held : List ℕ} (ok : Converts m n r s xs scratch) (f : SomeBands into m n r s i xs ys scratch held) where
-    pub band-fits : BandFits (bandAt into n s i h) ys held
+  module _ {xs ys scratch held : List ℕ} (ok : Converts t xs scratch) (f : RowsMoved t i xs ys scratch held) where
+    pub band-fits : BandFits (bandAt t i h) ys held
     band-fits = record {
-      small = record { high = omega (arith, ok .high, a .low, a .rows); step = ok .step; narrow = ok .narrow; few = omega (arith, ok .few, within) };
-      inside = omega (arith, f .filled .same, ok .whole, within);
+      small = record {
+        high = omega (arith, ok .high, a .low, a .rows);
+        before = ok .before;
+        afterwards = ok .afterwards;
+        near = ok .near;
+        few = omega (arith, ok .few, within);
+        whole = ok .whole;
+      };
+      inside = omega (arith, f .same, ok .exact, within);
       room = omega (arith, f .past .same, ok .room, lower);
     }
 
     -- one band more
-    pub bands-more : {zs held′ : List ℕ} → BandMoved (bandAt into n s i h) ys zs held held′ → SomeBands into m n r s (i + r) xs zs scratch held′
-    bands-more g =
-        let b = bandAt into n s i h in
-        record {
-          filled =
-              filled-count after
-              (filled-on (block-apart into m n r s (ok .high) (ok .step)) within (goes-to into)
-              (λ k few. ap (λ (z : ℕ). getD xs z 0) (comes-from into k few) ∙ sym (f .above (i * n + bandFrom b k) (omega (arith, before))))
-              (filled-count before (f .filled))
-              (g .moved));
-          above = λ p past.
-              g .moved .others p (λ k few e. omega (arith, to-low b (ok .step) k few, after)) ∙ f .above p (omega (arith, before, after));
-          past = record { same = g .past .same ∙ f .past .same; rest = λ p past. g .past .rest p (omega (arith, lower)) ∙ f .past .rest p past };
-        }
+    pub band-more : {zs held′ : List ℕ} → BandMoved (bandAt t i h) ys zs held held′ → RowsMoved t (i + r) xs zs scratch held′
+    band-more {zs} g = record {
+      same = g .0 .same ∙ f .same;
+      placed = λ k j early row low. ⊎-elim
+          (λ (l : k < i). g .0 .below (tilePlace m n r (t .to) k j) (before-band m n r (t .to) (ok .high) (ok .afterwards) k j row low i (a .first) l) ∙ f .placed k j l row low)
+          (λ (l : i ≤ k). moves k j (k - i) (omega arith) (omega (arith, a .rows)) low)
+          (lt-or-ge k i);
+      above = λ q past. g .0 .above q (omega (arith, lower, add-mul i r n)) ∙ f .above q (omega (arith, add-mul i r n));
+      past = record { same = g .1 .same ∙ f .past .same; rest = λ k past. g .1 .rest k (omega (arith, lower)) ∙ f .past .rest k past };
+    }
+      where
+        moves : (k j x : ℕ) → k ≡ i + x → x < h → j < n → getD zs (tilePlace m n r (t .to) k j) 0 ≡ getD xs (tilePlace m n r (t .from) k j) 0
+        moves k j x e row low =
+            at zs (ap (λ (z : ℕ). tilePlace m n r (t .to) z j) e ∙ in-band (t .to) x j row)
+            ∙ g .0 .placed x j row low low
+            ∙ f .above (i * n + bandPlace h n (t .from) x j) (omega arith)
+            ∙ at xs (sym (ap (λ (z : ℕ). tilePlace m n r (t .from) z j) e ∙ in-band (t .from) x j row))
 
--- all of them
-pub bands-all : {into : Bool} {m n r s i : ℕ} {xs ys scratch held : List ℕ} → SomeBands into m n r s i xs ys scratch held → m ≤ i → Converted into m n r s xs ys scratch held
-bands-all {n = n} f past = record { moved = filled-count (ap (λ (z : ℕ). z * n) (omega arith)) (f .filled); past = f .past }
+-- scratch of which the first words were used and then zeroed is cleared
+pub zeroed : {k : ℕ} {scratch held after : List ℕ} → k ≤ length scratch → Past k scratch held → Stretch 0 k (λ u. 0) held after → after ≡ cleared k scratch
+zeroed {k} {scratch} {held} {after} room p z =
+    ext-getD 0 after (cleared k scratch) (z .same ∙ p .same ∙ sym long)
+    (λ i _. ⊎-elim
+    (λ (h : i < k). at after {q = 0 + i} (omega arith) ∙ z .holds i h ∙ sym (List·getD-append zeroes (drop k scratch) 0 i (omega (arith, some)) ∙ getD-replicate k i 0 0 h))
+    (λ (h : k ≤ i). z .above i (omega arith) ∙ p .rest i h ∙ sym (behind i (i - k) (omega (arith, some))))
+    (lt-or-ge i k))
+  where
+    zeroes : List ℕ
+    zeroes = replicate k 0
 
--- moved into tiles, and back
-pub into-tiles : {m n r s : ℕ} {xs ys scratch held : List ℕ} → 0 < r → 0 < s → Converted true m n r s xs ys scratch held → Tiled m n r s xs ys
-into-tiles {m} {n} {r} {s} {xs} high step c = record {
-  same = c .moved .same;
-  placed = λ i j row column.
-      c .moved .placed (tilePlace m n r s i j) (tile-place-lt m n r s high step i j row column)
-      ∙ ap (λ (z : ℕ). getD xs z 0) (home-of-tile m n r s high step i j row column);
-}
+    some : length zeroes ≡ k
+    some = length-replicate k 0
 
-pub out-of-tiles : {m n r s : ℕ} {xs ys scratch held : List ℕ} → 0 < r → 0 < s → Converted false m n r s xs ys scratch held → Tiled m n r s ys xs
-out-of-tiles {m} {n} {r} {s} {ys = ys} high step c = record {
-  same = sym (c .moved .same);
-  placed = λ i j row column.
-      sym (c .moved .placed (tilePlace m n r s i j) (tile-place-lt m n r s high step i j row column))
-      ∙ ap (λ (z : ℕ). getD ys z 0) (home-of-tile m n r s high step i j row column);
-}
+    long : length (cleared k scratch) ≡ length scratch
+    long = simp (length-append, length-drop) (omega (arith, some))
+
+    behind : (i u : ℕ) → i ≡ length zeroes + u → getD (cleared k scratch) i 0 ≡ getD scratch i 0
+    behind i u e = at (cleared k scratch) e ∙ getD-append-add zeroes (drop k scratch) u 0 ∙ getD-drop k scratch u 0 ∙ at scratch (omega (arith, some))
+
+-- all bands have moved
+pub all-moved : {t : Tiling} {i : ℕ} {xs ys scratch held : List ℕ} → t .rows ≤ i → RowsMoved t i xs ys scratch held → BlockMoved t xs ys scratch held
+all-moved past f = (record { same = f .same; placed = λ k j row low. f .placed k j (omega arith) row low }, f .past)

@@ -3,16 +3,15 @@
 use Rattle.lists.proofs.Kit.{_≡_, refl, sym, _∙_, List, ℕ, _≤_, length}
 use Rattle.refusals.specs.FirstOf.{firstOf}
 use Rattle.refusals.proofs.Promise.{one-accepted}
-use Rattle.wall.specs.Tiles.{Tiled}
-use Rattle.wall.proofs.Tiled.{one-tiled, one-untiled, wide-stays, tall-same}
+use Rattle.tiles.specs.Tiles.{Tiled}
+use Rattle.tiles.proofs.Tiled.{one-tiled, one-untiled, wide-stays, tall-same}
 use Rattle.tiles.specs.Promises.{bandNeed, tileChecks, ToTilesPromise, FromTilesPromise}
-use Rattle.tiles.specs.Private.{Converts}
-use Rattle.tiles.proofs.Accepted.{converts, passes-again}
+use Rattle.tiles.proofs.Accepted.{Accepted, tiles-accepted, passes-again}
 
 -- two right outcomes of an accepted conversion are equal
 module _ (m n r s : ℕ) (b₀ s₀ : List ℕ) (good : firstOf (tileChecks m n r s b₀ s₀) ≡ 0) where
-  ok : Converts m n r s b₀ s₀
-  ok = converts m n r s b₀ s₀ good
+  ok : Accepted m n r s b₀ s₀
+  ok = tiles-accepted m n r s b₀ s₀ good
 
   one-to : (ys zs : List ℕ) → Tiled m n r s b₀ ys → Tiled m n r s b₀ zs → ys ≡ zs
   one-to ys zs t u = one-tiled (ok .whole) (ok .high) (ok .step) t u

@@ -1,154 +1,136 @@
--- A band laid tile by tile. The offsets of the tile that starts at column j are those from h·j on, h the band's height, and each, read back, is a
--- word of a row of the tile; so the rows that are copied are the tile's words, and tile after tile the band's.
-use Rattle.lists.proofs.Kit.{_≡_, refl, sym, ap, subst, _∙_, Bool, true, false, cond, List, ℕ, _+_, _*_, _-_, _/_, _%_, _<_, _≤_, min, mod-lt, div-add-mod', div-lt-iff-lt-mul, mul-add, mul-comm, mul-le-mul-left, mul-le-mul-right, mul-zero, le-mul-of-pos-right, arith, getD}
-use Rattle.passes.specs.PrivateScratch.{Apart, Filled}
-use Rattle.passes.proofs.Filled.{filled-none, filled-on}
-use Rattle.wall.specs.Tiles.{part}
-use Rattle.wall.specs.Private.{bandHome}
-use Rattle.wall.proofs.Bands.{band-home}
-use Rattle.wall.proofs.Places.{band-homes-apart}
-use Rattle.tiles.specs.Private.{inRows, RowsFit, RowsLaid, bandTo, bandFrom, BandSmall, BandFits, TileAt, tileWidth, toTile, toRows, tileRows, TileLaid, BandLaid}
-use Rattle.tiles.specs.declared.runs.Rows.{Rows}
+-- A band laid tile by tile, each tile row by row. The words of a tile's row stand together before and afterwards; those that are laid stay while the
+-- next row is, because no two words of a band share a place.
+use Rattle.lists.proofs.Kit.{_≡_, refl, sym, ap₂, _∙_, List, _⊎_, inl, inr, ⊎-elim, ℕ, _+_, _*_, _-_, _/_, _%_, _<_, _≤_, min, div-add-mod', mul-comm, le-mul-of-pos-right, arith, length, getD, eq-or-ne, lt-or-ge}
+use Rattle.moves.specs.Stretch.{Stretch}
+use Rattle.moves.proofs.Filling.{at}
+use Rattle.tiles.specs.Tiles.{part, bandPlace}
+use Rattle.tiles.specs.Private.{Aligned, RowsAt, BandSmall, BandFits, PieceAt, Laid, LaidTo}
+use Rattle.tiles.specs.declared.bands.Rows.{Rows}
 use Rattle.tiles.specs.declared.bands.Band.{Band}
+use Rattle.tiles.proofs.BandPlaces.{band-place, wide-band, band-place-lt, band-apart}
+
+-- the rows of a tile that is all of the band, and of a narrower one
+pub rows-wide : {h n width j : ℕ} → n ≤ width → RowsAt h n width j (record { at = j; step = n })
+rows-wide {h} {n} {width} {j} wide = record { place = λ x c row low within. omega (arith, wide-band h n width x (j + c) wide within) }
+
+pub rows-narrow : {h n width j step : ℕ} → width < n → Aligned n width j → step ≡ min width (n - j) → RowsAt h n width j (record { at = h * j; step = step })
+unfolding part
+rows-narrow {h} {n} {width} {j} {step} less aligned is = record {
+  place = λ x c row low within.
+      let first : j % width ≡ 0 = ⊎-elim (λ (g : n ≤ width). absurd (omega arith)) (λ g. g) aligned in
+      let start : j / width * width ≡ j = omega (arith, div-add-mod' j width) in
+      let wide : part n width (j / width) ≡ step = rw start (sym is) in
+      let e = band-place h n width (j / width) x c (rw wide (omega (arith, is))) in
+      omega (arith, rw (wide, start) at e);
+}
 
 -- a band has no more columns than words
 pub columns-few : {b : Band} → BandSmall b → b .columns ≤ 1048576
 columns-few {b} small = omega (arith, small .few, mul-comm (b .rows) (b .columns), le-mul-of-pos-right (b .columns) (small .high))
 
--- the direction decided
-pub rows-into : (b : Band) (j : ℕ) {w : ℕ} → b .into ≡ true → w ≡ tileWidth b j → toTile b j w ≡ tileRows b j
-rows-into b j e f = rw (e, f)
-
-pub rows-back : (b : Band) (j : ℕ) {w : ℕ} → b .into ≡ false → w ≡ tileWidth b j → toRows b j w ≡ tileRows b j
-rows-back b j e f = rw (e, f)
-
--- the tile from column j on, with h rows and w columns
-module _ (h n s j k : ℕ) (first : j % s ≡ 0) (low : j < n) where
-  abbrev w : ℕ
-  w = min s (n - j)
-
-  start : j / s * s ≡ j
-  start = omega (arith, div-add-mod' j s)
-
-  width-is : part n s (j / s) ≡ w
-  unfolding part
-  width-is = rw start
-
-  -- word k of the tile, read back
-  home-in-tile : 0 < w → k < h * w → bandHome h n s (h * j + k) ≡ j + inRows n w k
-  home-in-tile wide few =
-      let u = j / s in
-      let row : k / w < h = div-lt-iff-lt-mul wide .1 few in
-      let e = band-home h n s u (k / w) (k % w) row (rw width-is (mod-lt k wide)) in
-      ap (λ (z : ℕ). bandHome h n s (h * j + z)) (sym (div-add-mod' k w)) ∙ rw (width-is, start) at e ∙ omega arith
-
-same-place : (w k : ℕ) → inRows w w k ≡ k
-same-place w k = div-add-mod' k w
-
--- stores that go to the same places and bring the same words
-pub filled-as : {to word to′ word′ : ℕ → ℕ} {count : ℕ} {xs ys : List ℕ} → ((k : ℕ) → k < count → to k ≡ to′ k) → ((k : ℕ) → k < count → word k ≡ word′ k)
-    → Filled to′ word′ count xs ys → Filled to word count xs ys
-filled-as {ys = ys} t v f = record {
-  same = f .same;
-  placed = λ k h. ap (λ (z : ℕ). getD ys z 0) (t k h) ∙ f .placed k h ∙ sym (v k h);
-  others = λ p g. f .others p (λ k h e. g k h (t k h ∙ e));
+-- a piece as wide as the narrower tiles, or as what is left of the band
+pub piece : {b : Band} {j step wide : ℕ} → BandSmall b → step ≡ min (b .from) (b .to) → wide ≡ min step (b .columns - j) → j < b .columns → j % step ≡ 0 → PieceAt b j wide
+piece {b} {j} {step} small narrower is low first = record {
+  some = omega (arith, small .before, small .afterwards);
+  within = omega arith;
+  before = omega arith;
+  afterwards = omega arith;
+  from-first = aligned (b .from) (b .to) (small .whole) narrower;
+  to-first = aligned (b .to) (b .from) (⊎-elim inr inl (small .whole)) (omega arith);
 }
-
--- and as many
-pub filled-count : {to word : ℕ → ℕ} {count count′ : ℕ} {xs ys : List ℕ} → count ≡ count′ → Filled to word count′ xs ys → Filled to word count xs ys
-filled-count {to} {word} {xs = xs} {ys} e f = subst (λ (k : ℕ). Filled to word k xs ys) (sym e) f
-
-module _ {b : Band} {j : ℕ} (small : BandSmall b) (tile : TileAt b j) where
-  abbrev h : ℕ
-  h = b .rows
-
-  abbrev n : ℕ
-  n = b .columns
-
-  abbrev v : ℕ
-  v = tileWidth b j
-
-  wide : 0 < v
-  wide = omega (arith, small .step, tile .low)
-
-  -- the words of the tile's rows, in the rows and in the tile
-  in-rows : (x : ℕ) → x < h → j + x * n + v ≤ h * n
-  in-rows x row = omega (arith, tile .low, mul-le-mul-right n row)
-
-  in-tile : (x : ℕ) → x < h → h * j + x * v + v ≤ h * n
-  in-tile x row =
-      let within : j + v ≤ n = omega (arith, tile .low) in
-      omega (arith, mul-le-mul-right v row, mul-add h j v, mul-le-mul-left h within)
-
-  -- the rows of the tile lie in both slices
-  pub tile-fits : {l : Rows} {buf scratch : List ℕ} → l ≡ tileRows b j → BandFits b buf scratch → RowsFit l scratch buf
-  tile-fits {l} {buf} {scratch} e fit = subst (λ (z : Rows). RowsFit z scratch buf) (sym e) (go (b .into))
-    where
-      go : (t : Bool) → RowsFit (cond t (toTile b j v) (toRows b j v)) scratch buf
-      go true = record {
-        wide = wide;
-        apart = omega arith;
-        reads = λ x row. omega (arith, in-rows x row, fit .room);
-        writes = λ x row. omega (arith, in-tile x row, fit .inside);
-      }
-      go false = record {
-        wide = wide;
-        apart = omega (arith, tile .low);
-        reads = λ x row. omega (arith, in-tile x row, fit .room);
-        writes = λ x row. omega (arith, in-rows x row, fit .inside);
-      }
-
-  -- and once they are copied the tile is laid
-  pub tile-laid : {l : Rows} (scratch : List ℕ) {xs ys : List ℕ} → l ≡ tileRows b j → RowsLaid l scratch xs ys → TileLaid b j scratch xs ys
-  tile-laid {l} scratch {xs} {ys} e f = go (b .into) (subst (λ (z : Rows). RowsLaid z scratch xs ys) e f)
-    where
-      home : ℕ → ℕ
-      home k = bandHome h n (b .width) k
-
-      read-back : (k : ℕ) → k < h * v → home (h * j + k) ≡ j + inRows n v k
-      read-back k few = home-in-tile h n (b .width) j k (tile .first) (tile .low) wide few
-
-      go : (t : Bool) → RowsLaid (cond t (toTile b j v) (toRows b j v)) scratch xs ys
-          → Filled (λ k. b .first + cond t (h * j + k) (home (h * j + k))) (λ k. getD scratch (cond t (home (h * j + k)) (h * j + k)) 0) (h * v) xs ys
-      go true g =
-          filled-as (λ k few. omega (arith, same-place v k)) (λ k few. ap (λ (z : ℕ). getD scratch z 0) (read-back k few)) g
-      go false g =
-          filled-as (λ k few. omega (arith, read-back k few)) (λ k few. ap (λ (z : ℕ). getD scratch z 0) (ap (λ (z : ℕ). h * j + z) (sym (same-place v k)))) g
-
--- no two words of the band go to one offset
-band-apart : (b : Band) → 0 < b .width → Apart (bandTo b) (b .rows * b .columns)
-band-apart b step = go (b .into)
   where
-    go : (t : Bool) → Apart (λ k. b .first + cond t k (bandHome (b .rows) (b .columns) (b .width) k)) (b .rows * b .columns)
-    go true i k _ _ e = omega arith
-    go false i k a c e = band-homes-apart (b .rows) (b .columns) (b .width) step i k a c (omega arith)
+    aligned : (width against : ℕ) → (b .columns ≤ width) ⊎ (b .columns ≤ against) → step ≡ min width against → Aligned (b .columns) width j
+    aligned width against w e =
+        ⊎-elim
+        (λ (h : width < b .columns). let same : step ≡ width = ⊎-elim (λ g. omega arith) (λ g. omega arith) w in inr (rw same at first))
+        (λ (h : b .columns ≤ width). inl h)
+        (lt-or-ge width (b .columns))
 
--- the tiles before column j are laid
-pub record SomeTiles (b : Band) (j : ℕ) (scratch xs ys : List ℕ) : Type 0 where
-  pub filled : Filled (bandTo b) (λ k. getD scratch (bandFrom b k) 0) (b .rows * min j (b .columns)) xs ys
+-- words outside a stretch stand
+stands : {to count : ℕ} {value : ℕ → ℕ} {xs ys : List ℕ} (q : ℕ) → ((p : ℕ) → p < count → to + p ≡ q → ⊥) → Stretch to count value xs ys → getD ys q 0 ≡ getD xs q 0
+stands {to} {count} q away s =
+    ⊎-elim
+    (λ (h : q < to). s .below q h)
+    (λ (h : to ≤ q).
+    ⊎-elim
+    (λ (g : q - to < count). absurd (away (q - to) g (omega arith)))
+    (λ (g : count ≤ q - to). s .above q (omega arith))
+    (lt-or-ge (q - to) count))
+    (lt-or-ge q to)
 
--- none yet, one tile more, all of them
-pub tiles-none : {b : Band} {scratch xs : List ℕ} → SomeTiles b 0 scratch xs xs
-tiles-none {b} {scratch} {xs} =
-    let none : b .rows * min 0 (b .columns) ≡ 0 = ap (λ (z : ℕ). b .rows * z) (omega arith) ∙ mul-zero (b .rows) in
-    record { filled = filled-count none (filled-none _ _ xs) }
+-- columns before j are laid, and of the columns from j on, `wide` of them, the rows before x
+pub record Until (j wide x y c : ℕ) : Type 0 where
+  pub either : (c < j) ⊎ ((y < x) × (c < j + wide))
 
-pub tiles-more : {b : Band} {j : ℕ} {scratch xs ys zs : List ℕ} → BandSmall b → TileAt b j → SomeTiles b j scratch xs ys → TileLaid b j scratch ys zs
-    → SomeTiles b (j + b .width) scratch xs zs
-tiles-more {b} {j} small tile f g =
-    let v = tileWidth b j in
-    let before : b .rows * j ≡ b .rows * min j (b .columns) = ap (λ (z : ℕ). b .rows * z) (omega (arith, tile .low)) in
-    let after : b .rows * min (j + b .width) (b .columns) ≡ b .rows * j + b .rows * v = ap (λ (z : ℕ). b .rows * z) (omega (arith, tile .low)) ∙ mul-add (b .rows) j v in
-    let within : j + v ≤ b .columns = omega (arith, tile .low) in
-    record {
-      filled =
-          filled-count after
-          (filled-on (band-apart b (small .step)) (omega (arith, mul-add (b .rows) j v, mul-le-mul-left (b .rows) within)) (λ t d. refl) (λ t d. refl) (filled-count before (f .filled)) g);
-    }
+module _ {b : Band} {j wide : ℕ} (small : BandSmall b) (piece : PieceAt b j wide) where
+  abbrev before : ℕ → ℕ → ℕ
+  before x c = bandPlace (b .rows) (b .columns) (b .from) x c
 
-pub tiles-all : {b : Band} {j : ℕ} {scratch xs ys : List ℕ} → SomeTiles b j scratch xs ys → b .columns ≤ j → BandLaid b scratch xs ys
-tiles-all {b} f past = filled-count (ap (λ (z : ℕ). b .rows * z) (omega arith)) (f .filled)
+  abbrev afterwards : ℕ → ℕ → ℕ
+  afterwards x c = bandPlace (b .rows) (b .columns) (b .to) x c
 
--- a band that fits goes on fitting while its tiles are laid
-pub fits-on : {b : Band} {j : ℕ} {scratch xs ys : List ℕ} → BandFits b xs scratch → SomeTiles b j scratch xs ys → BandFits b ys scratch
-fits-on fit f = record { small = fit .small; inside = rw (f .filled .same) (fit .inside); room = fit .room }
+  -- a row of the piece lies in the band, before and afterwards
+  module _ {r : Rows} {width : ℕ} (step : 0 < width) (narrow : wide ≤ width) (rows : RowsAt (b .rows) (b .columns) width j r) where
+    pub row-within : (x : ℕ) → x < b .rows → r .at + x * r .step + wide ≤ b .rows * b .columns
+    row-within x row =
+        let last : wide - 1 < width = omega (arith, piece .some) in
+        let inside : j + (wide - 1) < b .columns = omega (arith, piece .some, piece .within) in
+        omega (arith, piece .some, rows .place x (wide - 1) row last inside, band-place-lt (b .rows) (b .columns) width step x (j + (wide - 1)) row inside)
+
+  -- one row more
+  pub row-more : (source : List ℕ) {from to : Rows} {x : ℕ} {xs ys zs : List ℕ} → RowsAt (b .rows) (b .columns) (b .from) j from → RowsAt (b .rows) (b .columns) (b .to) j to → x < b .rows
+      → Laid b (Until j wide x) (λ p. getD source p 0) xs ys → Stretch (b .first + to .at + x * to .step) wide (λ c. getD source (from .at + x * from .step + c) 0) ys zs
+      → Laid b (Until j wide (x + 1)) (λ p. getD source p 0) xs zs
+  row-more source {from} {to} {x} {xs} {ys} {zs} from-is to-is row f s = record {
+    same = s .same ∙ f .same;
+    placed = λ y c high low u. ⊎-elim
+        (λ (h : c < j). keeps y c high low (record { either = inl h }) (λ p few e. omega arith))
+        (λ (h : (y < x + 1) × (c < j + wide)). ⊎-elim
+        (λ (e : y ≡ x). ⊎-elim (λ (g : c < j). keeps y c high low (record { either = inl g }) (λ p few e. omega arith)) (λ (g : j ≤ c). lays y c (c - j) e (omega arith) (omega arith)) (lt-or-ge c j))
+        (λ (e : y ≡ x → ⊥). keeps y c high low (record { either = inr (omega arith, h .1) }) (λ p few d. e (d .0)))
+        (eq-or-ne y x))
+        (u .either);
+    below = λ q h. s .below q (omega arith) ∙ f .below q h;
+    above = λ q h. s .above q (omega (arith, row-within (small .afterwards) (piece .afterwards) to-is x row)) ∙ f .above q h;
+  }
+    where
+      in-row : (p : ℕ) → p < wide → j + p < b .columns
+      in-row p few = omega (arith, piece .within)
+
+      goes : (p : ℕ) → p < wide → b .first + to .at + x * to .step + p ≡ b .first + afterwards x (j + p)
+      goes p few = omega (arith, to-is .place x p row (omega (arith, piece .afterwards)) (in-row p few))
+
+      keeps : (y c : ℕ) → y < b .rows → c < b .columns → Until j wide x y c → ((p : ℕ) → p < wide → (y ≡ x) × (c ≡ j + p) → ⊥)
+          → getD zs (b .first + afterwards y c) 0 ≡ getD source (before y c) 0
+      keeps y c high low u other =
+          stands (b .first + afterwards y c)
+          (λ p few e. other p few (band-apart (b .rows) (b .columns) (b .to) (small .afterwards) y c x (j + p) high low row (in-row p few) (omega (arith, goes p few))))
+          s
+          ∙ f .placed y c high low u
+
+      lays : (y c p : ℕ) → y ≡ x → c ≡ j + p → p < wide → getD zs (b .first + afterwards y c) 0 ≡ getD source (before y c) 0
+      lays y c p e here few =
+          ap₂ (λ (u v : ℕ). getD zs (b .first + afterwards u v) 0) e here
+          ∙ at zs (sym (goes p few))
+          ∙ s .holds p few
+          ∙ at source (from-is .place x p row (omega (arith, piece .before)) (in-row p few))
+          ∙ ap₂ (λ (u v : ℕ). getD source (before u v) 0) (sym e) (sym here)
+
+-- what is laid, told of fewer words
+pub laid-as : {b : Band} {Done Fewer : ℕ → ℕ → Type 0} {source : ℕ → ℕ} {xs ys : List ℕ} → ((x j : ℕ) → x < b .rows → j < b .columns → Fewer x j → Done x j)
+    → Laid b Done source xs ys → Laid b Fewer source xs ys
+laid-as fewer f = record { same = f .same; placed = λ x j row low d. f .placed x j row low (fewer x j row low d); below = f .below; above = f .above }
+
+pub laid-none : {b : Band} {source : ℕ → ℕ} {xs : List ℕ} → LaidTo b 0 source xs xs
+laid-none = record { same = refl; placed = λ x j row low h. absurd (omega arith); below = λ q h. refl; above = λ q h. refl }
+
+-- a piece of which no row is laid, and one of which all rows are
+pub piece-none : {b : Band} {j wide : ℕ} {source : ℕ → ℕ} {xs ys : List ℕ} → LaidTo b j source xs ys → Laid b (Until j wide 0) source xs ys
+piece-none f = laid-as (λ x c row low u. ⊎-elim (λ h. h) (λ h. absurd (omega arith)) (u .either)) f
+
+pub piece-all : {b : Band} {j wide x : ℕ} {source : ℕ → ℕ} {xs ys : List ℕ} → x ≡ b .rows → Laid b (Until j wide x) source xs ys → LaidTo b (j + wide) source xs ys
+piece-all e f = laid-as (λ x c row low h. record { either = inr (omega arith, h) }) f
+
+-- a band that fits goes on fitting
+pub fits-on : {b : Band} {scratch xs ys : List ℕ} → length ys ≡ length xs → BandFits b xs scratch → BandFits b ys scratch
+fits-on same fit = record { small = fit .small; inside = rw same (fit .inside); room = fit .room }

@@ -1,45 +1,33 @@
 -- These definitions serve only the contracts of private functions: a reader of the promises can pass over them.
--- What the functions that move runs, tiles and bands ask and leave. Assumes nothing: these are definitions.
-use mathlib.Core.Bool.{Bool, cond}
+-- What the functions that move tiles and bands ask and leave. Both conversions are one: from tiles of one width to tiles of another, where tiles at
+-- least as wide as the block are its rows. Assumes nothing: these are definitions.
 use mathlib.Core.Path.{_≡_}
 use mathlib.Core.List.{List}
-use Prim.Native.Nat.{ℕ, _+_, _*_, _-_, _/_, _%_, _<_, _≤_, min}
+use mathlib.Core.Logic.{_⊎_}
+use Prim.Native.Nat.{ℕ, _+_, _*_, _%_, _<_, _≤_}
 use lib.ListN.{length, getD}
-use Rattle.passes.specs.PrivateScratch.{Filled, Past}
-use Rattle.wall.specs.Private.{bandHome, tileHome}
-use Rattle.tiles.specs.declared.runs.Rows.{Rows}
+use Rattle.refusals.specs.Scratch.{cleared}
+use Rattle.tiles.specs.Tiles.{bandPlace, tilePlace}
+use Rattle.tiles.specs.declared.bands.Rows.{Rows}
 use Rattle.tiles.specs.declared.bands.Band.{Band}
+use Rattle.tiles.specs.declared.bands.Tiling.{Tiling}
 
--- word k of rows that are `width` long, the rows `step` apart
-abbrev pub inRows : ℕ → ℕ → ℕ → ℕ
-inRows step width k = k / width * step + k % width
+-- column j is the first of a tile of a band of n columns, or the tile is all of the band
+abbrev pub Aligned : ℕ → ℕ → ℕ → Type 0
+Aligned n width j = (n ≤ width) ⊎ (j % width ≡ 0)
 
--- the rows are as many words apart as they are long, or more, and both slices have them
-pub record RowsFit (l : Rows) (from to : List ℕ) : Type 0 where
-  pub wide : 0 < l .width
-  pub apart : l .width ≤ l .step
-  pub reads : (x : ℕ) → x < l .count → l .start + x * l .stride + l .width ≤ length from
-  pub writes : (x : ℕ) → x < l .count → l .at + x * l .step + l .width ≤ length to
+-- the rows of the tile that column j lies in, from j on: as far apart as they are, their words stand at their places in the band
+pub record RowsAt (h n width j : ℕ) (r : Rows) : Type 0 where
+  pub place : (x c : ℕ) → x < h → c < width → j + c < n → r .at + x * r .step + c ≡ bandPlace h n width x (j + c)
 
--- the rows are stored
-abbrev pub RowsLaid : Rows → List ℕ → List ℕ → List ℕ → Type 0
-RowsLaid l from to after =
-    Filled (λ k. l .at + inRows (l .step) (l .width) k) (λ k. getD from (l .start + inRows (l .stride) (l .width) k) 0) (l .count * l .width) to after
-
--- where the word of offset k of the band's tiles goes: to its tile, or back to its row
-abbrev pub bandTo : Band → ℕ → ℕ
-bandTo b k = b .first + cond (b .into) k (bandHome (b .rows) (b .columns) (b .width) k)
-
--- where it comes from, in the band
-abbrev pub bandFrom : Band → ℕ → ℕ
-bandFrom b k = cond (b .into) (bandHome (b .rows) (b .columns) (b .width) k) k
-
--- a band of a block
+-- a band of a block: before or afterwards its tiles are at least as wide as itself
 pub record BandSmall (b : Band) : Type 0 where
   pub high : 0 < b .rows
-  pub step : 0 < b .width
-  pub narrow : b .width ≤ 64
+  pub before : 0 < b .from
+  pub afterwards : 0 < b .to
+  pub near : b .from ≤ 4096
   pub few : b .first + b .rows * b .columns ≤ 1048576
+  pub whole : (b .columns ≤ b .from) ⊎ (b .columns ≤ b .to)
 
 -- a band that lies in the buffer and for which scratch has room
 pub record BandFits (b : Band) (buf scratch : List ℕ) : Type 0 where
@@ -47,61 +35,64 @@ pub record BandFits (b : Band) (buf scratch : List ℕ) : Type 0 where
   pub inside : b .first + b .rows * b .columns ≤ length buf
   pub room : b .rows * b .columns ≤ length scratch
 
--- column j is the first of a tile of the band
-pub record TileAt (b : Band) (j : ℕ) : Type 0 where
-  pub low : j < b .columns
-  pub first : j % b .width ≡ 0
+-- the columns from j on, `wide` of them, lie in one tile before and in one afterwards
+pub record PieceAt (b : Band) (j wide : ℕ) : Type 0 where
+  pub some : 0 < wide
+  pub within : j + wide ≤ b .columns
+  pub before : wide ≤ b .from
+  pub afterwards : wide ≤ b .to
+  pub from-first : Aligned (b .columns) (b .from) j
+  pub to-first : Aligned (b .columns) (b .to) j
 
--- how wide the tile from column j on is
-abbrev pub tileWidth : Band → ℕ → ℕ
-tileWidth b j = min (b .width) (b .columns - j)
+-- the words of these rows and columns have received their new places from a source, where the band stands; words outside the band stand
+pub record Laid (b : Band) (Done : ℕ → ℕ → Type 0) (source : ℕ → ℕ) (xs ys : List ℕ) : Type 0 where
+  pub same : length ys ≡ length xs
+  pub placed : (x j : ℕ) → x < b .rows → j < b .columns → Done x j
+      → getD ys (b .first + bandPlace (b .rows) (b .columns) (b .to) x j) 0 ≡ source (bandPlace (b .rows) (b .columns) (b .from) x j)
+  pub below : (q : ℕ) → q < b .first → getD ys q 0 ≡ getD xs q 0
+  pub above : (q : ℕ) → b .first + b .rows * b .columns ≤ q → getD ys q 0 ≡ getD xs q 0
 
--- the rows of a tile of width w from column j on: from where the band's rows have them to where the tile has them
-abbrev pub toTile : Band → ℕ → ℕ → Rows
-toTile b j w = record { at = b .first + b .rows * j; step = w; start = j; stride = b .columns; width = w; count = b .rows }
+-- the columns before j have
+abbrev pub LaidTo : Band → ℕ → (ℕ → ℕ) → List ℕ → List ℕ → Type 0
+LaidTo b j = Laid b (λ _ c. c < j)
 
--- and back
-abbrev pub toRows : Band → ℕ → ℕ → Rows
-toRows b j w = record { at = b .first + j; step = b .columns; start = b .rows * j; stride = w; width = w; count = b .rows }
+-- if the columns before j had, then those before j + wide have
+pub record PieceLaid (b : Band) (j wide : ℕ) (source : ℕ → ℕ) (ys zs : List ℕ) : Type 0 where
+  pub same : length zs ≡ length ys
+  pub laid : (xs : List ℕ) → LaidTo b j source xs ys → LaidTo b (j + wide) source xs zs
 
--- the rows of the tile from column j on, as the band goes
-abbrev pub tileRows : Band → ℕ → Rows
-tileRows b j = cond (b .into) (toTile b j (tileWidth b j)) (toRows b j (tileWidth b j))
-
--- the tile from column j on has received its words from scratch, where the band stands
-abbrev pub TileLaid : Band → ℕ → List ℕ → List ℕ → List ℕ → Type 0
-TileLaid b j scratch xs ys =
-    Filled (λ k. bandTo b (b .rows * j + k)) (λ k. getD scratch (bandFrom b (b .rows * j + k)) 0) (b .rows * tileWidth b j) xs ys
-
--- all tiles of the band have
-abbrev pub BandLaid : Band → List ℕ → List ℕ → List ℕ → Type 0
-BandLaid b scratch xs ys = Filled (bandTo b) (λ k. getD scratch (bandFrom b k) 0) (b .rows * b .columns) xs ys
+-- scratch past its first words is as it was
+pub record Past (count : ℕ) (before after : List ℕ) : Type 0 where
+  pub same : length after ≡ length before
+  pub rest : (k : ℕ) → count ≤ k → getD after k 0 ≡ getD before k 0
 
 -- the band has moved within the buffer; scratch past its words is as it was
-pub record BandMoved (b : Band) (xs ys scratch held : List ℕ) : Type 0 where
-  pub moved : Filled (bandTo b) (λ k. getD xs (b .first + bandFrom b k) 0) (b .rows * b .columns) xs ys
-  pub past : Past (b .rows * b .columns) scratch held
+abbrev pub BandMoved : Band → List ℕ → List ℕ → List ℕ → List ℕ → Type 0
+BandMoved b xs ys scratch held = LaidTo b (b .columns) (λ p. getD xs (b .first + p) 0) xs ys × Past (b .rows * b .columns) scratch held
 
--- where the word of offset p of the block's tiles goes
-abbrev pub blockTo : Bool → ℕ → ℕ → ℕ → ℕ → ℕ → ℕ
-blockTo into m n r s p = cond into p (tileHome m n r s p)
+-- a block and its tiles, where the buffer is the block and scratch has room for a band
+pub record Converts (t : Tiling) (buf scratch : List ℕ) : Type 0 where
+  pub high : 0 < t .height
+  pub low : t .height ≤ 64
+  pub before : 0 < t .from
+  pub afterwards : 0 < t .to
+  pub near : t .from ≤ 4096
+  pub whole : (t .columns ≤ t .from) ⊎ (t .columns ≤ t .to)
+  pub tall : t .rows ≤ 4096
+  pub few : t .rows * t .columns ≤ 1048576
+  pub exact : length buf ≡ t .rows * t .columns
+  pub room : t .height * t .columns ≤ length scratch
 
--- where it comes from
-abbrev pub blockFrom : Bool → ℕ → ℕ → ℕ → ℕ → ℕ → ℕ
-blockFrom into m n r s p = cond into (tileHome m n r s p) p
+-- every word of the block has its new place
+pub record Retiled (t : Tiling) (xs ys : List ℕ) : Type 0 where
+  pub same : length ys ≡ length xs
+  pub placed : (i j : ℕ) → i < t .rows → j < t .columns
+      → getD ys (tilePlace (t .rows) (t .columns) (t .height) (t .to) i j) 0 ≡ getD xs (tilePlace (t .rows) (t .columns) (t .height) (t .from) i j) 0
 
--- the sides of a block and of its tiles, where the buffer is the block and scratch has room for a band
-pub record Converts (m n r s : ℕ) (buf scratch : List ℕ) : Type 0 where
-  pub high : 0 < r
-  pub step : 0 < s
-  pub low : r ≤ 64
-  pub narrow : s ≤ 64
-  pub tall : m ≤ 4096
-  pub few : m * n ≤ 1048576
-  pub whole : length buf ≡ m * n
-  pub room : r * n ≤ length scratch
+-- the block has moved; scratch past a band is as it was
+abbrev pub BlockMoved : Tiling → List ℕ → List ℕ → List ℕ → List ℕ → Type 0
+BlockMoved t xs ys scratch held = Retiled t xs ys × Past (t .height * t .columns) scratch held
 
--- the block has moved within the buffer; scratch past a band is as it was
-pub record Converted (into : Bool) (m n r s : ℕ) (xs ys scratch held : List ℕ) : Type 0 where
-  pub moved : Filled (blockTo into m n r s) (λ p. getD xs (blockFrom into m n r s p) 0) (m * n) xs ys
-  pub past : Past (r * n) scratch held
+-- the block has moved, and scratch is cleared
+abbrev pub Converted : Tiling → List ℕ → List ℕ → List ℕ → List ℕ → Type 0
+Converted t xs ys scratch held = Retiled t xs ys × (held ≡ cleared (t .height * t .columns) scratch)

@@ -8,7 +8,7 @@ use Rattle.refusals.specs.Conditions.{shortScratch}
 use Rattle.refusals.specs.Calls.{sizeChecks, exactChecks}
 use Rattle.refusals.specs.Promise.{Rearranged}
 use Rattle.flat.specs.Turn.{sides}
-use Rattle.wall.specs.Tiles.{Tiled}
+use Rattle.tiles.specs.Tiles.{Tiled}
 
 -- a side that no tile may have: 0 or above 64
 abbrev pub noSide : ℕ → Bool

@@ -1,8 +1,8 @@
 // A block stored as tiles within its buffer, and tiles as a block.
 mod bands;
 mod refusal;
-mod runs;
 
+use crate::bands::Tiling;
 ghost use Rattle.tiles.specs.Promises.{ToTilesPromise, FromTilesPromise};
 
 // Stores an m by n block as tiles of r by s words within its buffer, through scratch of r·n words: 0, or 1, 2, 15, 3, 13, 4.
@@ -13,8 +13,14 @@ pub fn to_tiles(buf: &mut [u32], scratch: &mut [u32], m: usize, n: usize, r: usi
     if number != 0 {
         return number;
     }
-    bands::convert(buf, scratch, m, n, r, s, true);
-    passes::clear(scratch, r * n);
+    let t = Tiling {
+        rows: m,
+        columns: n,
+        height: r,
+        from: n,
+        to: s,
+    };
+    bands::convert(buf, scratch, t);
     0
 }
 
@@ -33,7 +39,13 @@ pub fn from_tiles(
     if number != 0 {
         return number;
     }
-    bands::convert(buf, scratch, m, n, r, s, false);
-    passes::clear(scratch, r * n);
+    let t = Tiling {
+        rows: m,
+        columns: n,
+        height: r,
+        from: s,
+        to: n,
+    };
+    bands::convert(buf, scratch, t);
     0
 }

@@ -5,28 +5,41 @@ use Rattle.cameras.proofs.Runs.{opened-also}
 use Rattle.cameras.proofs.rows.open_runs.Statement.{statement}
 use Rattle.cameras.proofs.rows.open_runs.Tie as tie
 
-open-wide-requires : tie.Need-open-wide-requires
-open-wide-requires c κs =
-    let l : tie.After-smaller2 = search in (
-      (omega arith, omega arith, omega arith, omega arith, omega arith, omega arith, omega arith),
-      λ some. let first = l .smaller2 .ensures .2 some in (omega (arith, first), omega (arith, first)),
-    )
+open-range-requires : tie.Need-open-range-requires
+open-range-requires c κs =
+    let l : tie.After-smaller2 = search in record {
+      order = omega arith;
+      some = omega arith;
+      low = omega arith;
+      all = omega arith;
+      words = omega arith;
+      inside = omega arith;
+      room = λ some. let first = l .smaller2 .ensures .2 some in (omega (arith, first), omega (arith, first));
+    }
 
-open-exact-requires : tie.Need-open-exact-requires
-open-exact-requires c κs =
+open-range-requires-2 : tie.Need-open-range-requires-2
+open-range-requires-2 c κs =
     let l : tie.After-smaller2 = search in
     let s : tie.Start = search in
-    (omega arith, omega arith, omega (arith, mul-le-mul-right (suc (s .args .n)) (l .smaller2 .ensures .1)))
+    let rows = mul-le-mul-right (suc (s .args .n)) (l .smaller2 .ensures .1) in record {
+      order = omega arith;
+      some = omega arith;
+      low = omega arith;
+      all = omega arith;
+      words = omega arith;
+      inside = omega (arith, rows);
+      room = λ some. (omega arith, omega arith);
+    }
 
 returns-2 : tie.Need-returns-2
 returns-2 c =
-    let e : tie.After-open-exact = search in
-    let w : tie.After-open-wide = search in
+    let y : tie.After-open-range2 = search in
+    let x : tie.After-open-range = search in
     let l : tie.After-smaller2 = search in
-    λ frames xs f o. e .open-exact .ensures frames xs (omega (arith, l .smaller2 .ensures .1)) (w .open-wide .ensures frames xs f o)
+    λ frames xs f o. y .open-range2 .ensures frames xs (omega (arith, l .smaller2 .ensures .1)) (x .open-range .ensures frames xs f o)
 
 pub open-runs-spec : {M : Type 1} → statement M
 open-runs-spec = tie.close (tie.spec
     (λ c frames xs _ o. opened-also (omega arith) o)
-    (search needs) (search needs) (search needs) (search needs) (search needs) (search needs) open-wide-requires
-    open-exact-requires (search needs) returns-2)
+    (search needs) (search needs) (search needs) (search needs) (search needs) (search needs) open-range-requires
+    open-range-requires-2 (search needs) returns-2)

@@ -1,13 +1,11 @@
 -- A block as tiles: what the one relation `Tiled`, read forwards and backwards, fixes. Two blocks as tiles of one block are equal, two blocks of
 -- which one block is the tiles are equal, so the conversions undo each other; a tile as wide as the block moves nothing; a tile taller than the
 -- block is one as tall. From the places, which are one to one.
-use Rattle.lists.proofs.Kit.{_≡_, refl, sym, ap, _∙_, List, ℕ, _+_, _*_, _-_, _/_, _%_, _<_, _≤_, min, mod-lt, div-add-mod', div-lt-iff-lt-mul, div-eq-of-lt, mod-eq-of-lt, mul-comm, mul-zero, zero-mul, zero-add, add-mul, arith, length, getD, ext-getD}
-use Rattle.wall.specs.Tiles.{part, bandPlace, tilePlace, Tiled}
-use Rattle.wall.proofs.Bands.{factor-pos}
-use Rattle.wall.proofs.Places.{cell}
-
-at : (l : List ℕ) {p q : ℕ} → p ≡ q → getD l p 0 ≡ getD l q 0
-at l e = ap (λ (z : ℕ). getD l z 0) e
+use Rattle.lists.proofs.Kit.{_≡_, refl, sym, _∙_, List, ℕ, _+_, _*_, _-_, _/_, _%_, _<_, _≤_, min, mod-lt, div-add-mod', div-lt-iff-lt-mul, div-eq-of-lt, mod-eq-of-lt, mul-comm, zero-mul, zero-add, arith, length, getD, ext-getD}
+use Rattle.moves.proofs.Filling.{at}
+use Rattle.tiles.specs.Tiles.{part, bandPlace, tilePlace, Tiled}
+use Rattle.tiles.proofs.BandPlaces.{factor-pos}
+use Rattle.tiles.proofs.Places.{cell, wide-place}
 
 -- what holds at every row and column holds at every offset of the block
 by-rows : (m n : ℕ) (xs ys : List ℕ) → ((i j : ℕ) → i < m → j < n → getD xs (i * n + j) 0 ≡ getD ys (i * n + j) 0)
@@ -31,15 +29,6 @@ module _ {m n r s : ℕ} {xs : List ℕ} (whole : length xs ≡ m * n) where
   one-untiled {ys} {zs} t u =
       ext-getD 0 ys zs (sym (t .same) ∙ u .same)
       (λ p low. by-rows m n ys zs (λ i j h g. sym (t .placed i j h g) ∙ u .placed i j h g) p (omega (arith, t .same)))
-
--- a word's place where its tile is as wide as the block: where it stood
-wide-place : (m n r s i j : ℕ) → n ≤ s → j < n → tilePlace m n r s i j ≡ i * n + j
-unfolding tilePlace bandPlace part
-wide-place m n r s i j wide low =
-    let narrow : j < s = omega arith in
-    let rows : i / r * r * n + i % r * n ≡ i * n = sym (add-mul (i / r * r) (i % r) n) ∙ ap (λ (z : ℕ). z * n) (div-add-mod' i r) in
-    let whole : min s (n - 0 * s) ≡ n = omega arith in
-    rw (div-eq-of-lt narrow, mod-eq-of-lt narrow, whole, zero-mul s, mul-zero (part m r (i / r))) (omega arith)
 
 -- a tile at least as wide as the block leaves every word in place
 pub wide-stays : {m n r s : ℕ} {xs ys : List ℕ} → length xs ≡ m * n → 0 < r → 0 < s → n ≤ s → Tiled m n r s xs ys → ys ≡ xs

@@ -3,7 +3,7 @@ use mathlib.Core.Path.{_≡_}
 use mathlib.Core.List.{List, [], _∷_, List·Memᴰ}
 use Prim.Native.Nat.{ℕ, _*_}
 use Rattle.lists.specs.Tab.{upto}
-use Rattle.wall.specs.Bands.{tilesOf}
+use Rattle.tiles.specs.Bands.{tilesOf}
 
 -- a row: the sides, the tile's sides, and the words afterwards
 pub record Row : Type 0 where

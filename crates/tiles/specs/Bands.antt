@@ -3,7 +3,7 @@ use mathlib.Core.List.{List, [], _++_}
 use Prim.Native.Nat.{ℕ, zero, suc, _+_, _*_, _-_, _/_}
 use lib.ListN.{getD}
 use Rattle.lists.specs.Tab.{tab}
-use Rattle.wall.specs.Tiles.{part}
+use Rattle.tiles.specs.Tiles.{part}
 
 -- f 0, f 1, .., f (n - 1), one list after the other
 unfoldable pub joined : ℕ → (ℕ → List ℕ) → List ℕ

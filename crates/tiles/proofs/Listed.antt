@@ -1,11 +1,11 @@
 -- The tiles listed as document 02 tells them are the tiles of the promise: before a band, a tile or a row stand only whole ones, so that its first word
 -- stands at their number times their length; and all of them together are as long as the block.
 use Rattle.lists.proofs.Kit.{_≡_, sym, ap, ap₂, subst, _∙_, List, [], _↔_, ⊎-elim, ℕ, zero, suc, _+_, _*_, _-_, _/_, _%_, _<_, _≤_, not-suc-le-zero, le-of-suc-le-suc, mod-lt, div-add-mod', mul-comm, zero-mul, mul-le-mul-right, arith, length, getD, length-append, List·getD-append, getD-append-add, digits-lt, length-tab, getD-tab, lt-or-ge}
-use Rattle.wall.specs.Tiles.{part, bandPlace, tilePlace, Tiled}
-use Rattle.wall.specs.Bands.{joined, parts, tileWords, bandWords, tilesOf}
-use Rattle.wall.proofs.Parts.{part-whole, part-last, in-part}
-use Rattle.wall.proofs.Bands.{band-place-lt}
-use Rattle.wall.proofs.Tiled.{one-tiled}
+use Rattle.tiles.specs.Tiles.{part, bandPlace, tilePlace, Tiled}
+use Rattle.tiles.specs.Bands.{joined, parts, tileWords, bandWords, tilesOf}
+use Rattle.tiles.proofs.Parts.{part-whole, part-last, in-part}
+use Rattle.tiles.proofs.BandPlaces.{band-place-lt}
+use Rattle.tiles.proofs.Tiled.{one-tiled}
 
 -- a word of list u, where the lists before it are alike in length
 joined-at : (n : ℕ) (f : ℕ → List ℕ) (long u q : ℕ) → u < n → ((k : ℕ) → k < u → length (f k) ≡ long) → q < length (f u)

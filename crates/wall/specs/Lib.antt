@@ -1,4 +1,0 @@
-pub mod Tiles
-pub mod Bands
-pub mod Private
-pub mod Benches

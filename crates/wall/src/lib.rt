@@ -1,1 +1,0 @@
-// A block as tiles: definitions and laws, no function.
