@@ -10,6 +10,7 @@ ghost use Rattle.orders.specs.Needs.{swapNeed, chainNeed};
 ghost use Rattle.refusals.specs.FirstOf.{check, firstOf};
 ghost use Rattle.refusals.specs.Conditions.{outOfRange, badLength, longest, firstPlace, noRelease};
 ghost use Rattle.refusals.specs.Calls.{sizeChecks, blockChecks, passesChecks};
+ghost use Rattle.text.specs.Checks.{sheetChecks};
 ghost use Rattle.checks.specs.Words.{capped};
 
 // Whether no axis may have this length: 0 or above 4,096.
@@ -188,6 +189,23 @@ pub fn named_number(last: usize, release: usize, order: usize) -> u32
     }
     if last < order {
         return 7;
+    }
+    0
+}
+
+// The first of the checks 1, 11 and 3 of a sheet's block that holds, else 0.
+pub fn sheet_number(lens: &[usize], words: &[u32]) -> u32
+    ensures { λ r. ⌜ r ≡ firstOf (sheetChecks (now (lens .entry)) (now (words .entry))) ⌝ }
+{
+    if bad_length(lens) {
+        return 1;
+    }
+    let size = words_of(lens);
+    if 1024 < size {
+        return 11;
+    }
+    if words.len() < size {
+        return 3;
     }
     0
 }

@@ -6,7 +6,7 @@ use Rattle.refusals.specs.FirstOf.{firstOf}
 use Rattle.refusals.specs.Conditions.{some, outOfRange, badLength}
 use Rattle.refusals.proofs.Some.{either-false, none-some}
 use Rattle.refusals.proofs.Conditions.{passed, ranged}
-use Rattle.signed.specs.Signed.{beyond}
+use Rattle.desk.specs.Signed.{beyond}
 use Rattle.desk.specs.Exchange.{reading}
 use Rattle.desk.specs.Conditions.{farReading, farShift, badRun, badTicks, four, measureChecks, framesChecks, shiftChecks}
 

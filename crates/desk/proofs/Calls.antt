@@ -4,9 +4,9 @@ use Rattle.lists.proofs.Kit.{_≡_, sym, ap, _∙_, false, List, ⊎-elim, ℕ,
 use lib.IntN.{ℤ, pos, negsuc, natAbs, _+ℤ_}
 use Rattle.refusals.specs.Conditions.{some}
 use Rattle.refusals.proofs.Some.{none-some}
-use Rattle.signed.specs.Signed.{floorBy}
-use Rattle.signed.proofs.Ends.{above, below, sum, size, near}
-use Rattle.signed.proofs.Floor.{floor}
+use Rattle.desk.specs.Signed.{floorBy}
+use Rattle.desk.proofs.Ends.{above, below, sum, size, near}
+use Rattle.desk.proofs.Floor.{floor}
 use Rattle.desk.specs.declared.Measured.{Measured}
 use Rattle.desk.specs.declared.Frames.{Frames}
 use Rattle.desk.specs.Exchange.{reading, twiceOffset, offsetOf}

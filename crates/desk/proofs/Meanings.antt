@@ -3,8 +3,8 @@
 use Rattle.lists.proofs.Kit.{_≡_, refl, Bool, true, false, cond, List, _↔_, ℕ, _+_, _<_, arith, lit<, length, decided}
 use lib.IntN.{ℤ, pos, _+ℤ_, _-ℤ_, _*ℤ_}
 use lib.Signed.{ltZ, _≤ℤ_, _<ℤ_, ≤ℤ-refl}
-use Rattle.signed.proofs.Ends.{sum, difference, le, lt, of-le, of-lt, holds, fails, holds-le, fails-le}
-use Rattle.signed.proofs.Floor.{rounds-down}
+use Rattle.desk.proofs.Ends.{sum, difference, le, lt, of-le, of-lt, holds, fails, holds-le, fails-le}
+use Rattle.desk.proofs.Floor.{rounds-down}
 use Rattle.desk.specs.Exchange.{reading, twiceOffset, offsetOf}
 use Rattle.desk.specs.Frames.{nearestFrame}
 use Rattle.desk.specs.Shifts.{higherOf, lowerOf, smallest, largest, endOf, Common}

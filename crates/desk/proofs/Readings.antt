@@ -7,7 +7,7 @@ use mir.Syntax.{w64}
 use mir.Val.{SFits, toZ, ofZ}
 use mir.Facts.{toZ-ofZ}
 use mir.ValLaws.{sfits-le}
-use Rattle.signed.proofs.Ends.{near-sum, near-difference, small}
+use Rattle.desk.proofs.Ends.{near-sum, near-difference, small}
 use Rattle.desk.specs.Exchange.{reading, twiceOffset, offsetOf, delayOf}
 
 module _ (run : List ℤ) (near : (k : ℕ) → natAbs (reading run k) ≤ 2 ^ 60) where

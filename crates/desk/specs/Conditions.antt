@@ -8,7 +8,7 @@ use lib.IntN.{ℤ}
 use lib.Signed.{leZ}
 use Rattle.refusals.specs.FirstOf.{Check, check}
 use Rattle.refusals.specs.Conditions.{some, badLength}
-use Rattle.signed.specs.Signed.{beyond}
+use Rattle.desk.specs.Signed.{beyond}
 use Rattle.desk.specs.Shifts.{largest, endOf}
 
 -- 26: a run whose count of readings is not one that the call takes

@@ -3,7 +3,7 @@ use mathlib.Core.List.{List}
 use Prim.Native.Nat.{ℕ}
 use lib.ListN.{getD}
 use lib.IntN.{ℤ, pos, _+ℤ_, _-ℤ_}
-use Rattle.signed.specs.Signed.{floorBy}
+use Rattle.desk.specs.Signed.{floorBy}
 
 -- the reading at a place of a run, from 0
 abbrev pub reading : List ℤ → ℕ → ℤ

@@ -3,3 +3,9 @@ pub mod Frames
 pub mod Shifts
 pub mod Conditions
 pub mod Promises
+pub mod Signed
+pub mod Choice
+pub mod ChoiceConditions
+pub mod Parts
+pub mod Private
+pub mod ChoicePromises

@@ -1,15 +1,21 @@
 // The join desk: the offset and the delay of an exchange, an offset in frames, the frames that are common to all cameras.
 mod extremes;
 mod limits;
+mod parts;
+mod paths;
 mod rounding;
+mod search;
 
 use extremes::span_of;
 use limits::beyond;
 use limits::some_beyond;
+use parts::exchange_of;
+use paths::chosen_at;
 use rounding::floor_by;
 ghost use mathlib.Core.Path.{_≡_};
 ghost use Rattle.refusals.specs.FirstOf.{firstOf};
 ghost use Rattle.desk.specs.Conditions.{farReading, measureChecks, framesChecks, shiftChecks};
+ghost use Rattle.desk.specs.ChoicePromises.{ChosenAs, NumberAs};
 ghost use Rattle.desk.specs.Promises.{MeasuredAs, FramesAs, JoinedAs};
 
 // What the call for offset and delay answers.
@@ -41,7 +47,7 @@ const READING_LIMIT: i64 = 1 << 60;
 const SHIFT_LIMIT: i64 = 1 << 61;
 
 // Whether a reading of the run lies beyond 2 to the 60th either side of zero.
-pub fn far_reading(run: &[i64]) -> bool
+pub(crate) fn far_reading(run: &[i64]) -> bool
     ensures { λ r. ⌜ r ≡ farReading (now (run .entry)) ⌝ }
 {
     some_beyond(run, READING_LIMIT)
@@ -162,4 +168,29 @@ pub fn join(shifts: &[i64], frames: usize) -> Joined
         first: first,
         end: end,
     }
+}
+
+// The four readings of the usable exchange with the smallest delay, as a part of the run that holds it; refused, the empty start of the first run.
+pub fn choose<'a>(first: &'a [i64], second: &'a [i64]) -> &'a [i64]
+    ensures { λ r. ⌜ ChosenAs (first .entry) (second .entry) r ⌝ }
+{
+    let p = chosen_at(first, second);
+    let number = p.number;
+    let path = p.path;
+    let exchange = p.exchange;
+    if number != 0 {
+        return &first[..0];
+    }
+    if path == 0 {
+        return exchange_of(first, exchange);
+    }
+    exchange_of(second, exchange)
+}
+
+// The number of that choice, 0 where it was accepted.
+pub fn choose_number(first: &[i64], second: &[i64]) -> u32
+    ensures { λ r. ⌜ NumberAs (now (first .entry)) (now (second .entry)) r ⌝ }
+{
+    let p = chosen_at(first, second);
+    p.number
 }

@@ -3,7 +3,7 @@ ghost use mathlib.Core.Path.{_≡_};
 ghost use lib.IntN.{pos, natAbs};
 ghost use lib.Signed.{_≤ℤ_};
 ghost use Rattle.refusals.specs.Conditions.{some};
-ghost use Rattle.signed.specs.Signed.{beyond as far};
+ghost use Rattle.desk.specs.Signed.{beyond as far};
 
 // Whether x lies beyond the limit, either side of zero.
 pub(crate) fn beyond(x: i64, limit: i64) -> bool

@@ -13,10 +13,10 @@ ghost use Rattle.home.specs.Promise.{RepeatsPromise};
 ghost use Rattle.cameras.specs.Promises.{RemovePromise, AddPromise};
 ghost use Rattle.tiles.specs.Promises.{ToTilesPromise, FromTilesPromise};
 ghost use Rattle.desk.specs.Promises.{MeasuredAs, FramesAs, JoinedAs};
-ghost use Rattle.choice.specs.Promises.{ChosenAs, NumberAs};
+ghost use Rattle.desk.specs.ChoicePromises.{ChosenAs, NumberAs};
 ghost use Rattle.passes.specs.Ticks.{LinesPromise};
 ghost use Rattle.passes.specs.Restart.{memory, ResumePromise};
-ghost use Rattle.ticks.specs.Steps.{StepPromise};
+ghost use Rattle.passes.specs.Steps.{StepPromise};
 ghost use Rattle.cycles.specs.Promise.{JudgedAs, RunAs};
 
 // The lengths of a sheet's four axes.
@@ -293,7 +293,7 @@ pub extern "C" fn zib_join(shifts: &[i64], frames: usize) -> desk::Joined
 pub extern "C" fn zib_choose<'a>(first: &'a [i64], second: &'a [i64], part: &mut &'a [i64])
     ensures { λ _. ⌜ ChosenAs (first .entry) (second .entry) (now (part .exit)) ⌝ }
 {
-    let four = choice::choose(first, second);
+    let four = desk::choose(first, second);
     *part = four;
 }
 
@@ -302,7 +302,7 @@ pub extern "C" fn zib_choose<'a>(first: &'a [i64], second: &'a [i64], part: &mut
 pub extern "C" fn zib_choose_number(first: &[i64], second: &[i64]) -> u32
     ensures { λ r. ⌜ NumberAs (now (first .entry)) (now (second .entry)) r ⌝ }
 {
-    choice::choose_number(first, second)
+    desk::choose_number(first, second)
 }
 
 // How many lines the turn of m by n by passes has.
@@ -318,13 +318,13 @@ pub extern "C" fn zib_lines(m: usize, n: usize) -> passes::LineCount
 pub extern "C" fn zib_tick(
     buf: &mut [u32],
     scratch: &mut [u32],
-    lines: &mut ticks::LineRecord,
+    lines: &mut passes::LineRecord,
     m: usize,
     n: usize,
 ) -> u32
     ensures { λ r. ⌜ StepPromise m n (now (lines .entry)) (now (buf .entry)) (now (scratch .entry)) r (now (lines .exit)) (now (buf .exit)) (now (scratch .exit)) ⌝ }
 {
-    ticks::step(buf, scratch, lines, m, n)
+    passes::step(buf, scratch, lines, m, n)
 }
 
 // Goes on with the turn of m by n from the stage that the progress word names, and stops after `budget` stores.

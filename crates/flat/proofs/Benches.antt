@@ -1,7 +1,7 @@
 -- The benches hold: one computed test over the table, turned into the rule at each row.
 use Rattle.lists.proofs.Kit.{Bool, same, at-entry, same→eq}
 use Rattle.layout.specs.Layout.{laid, at, pick, coords, places, placeOf, volume}
-use Rattle.numbers.specs.Gcd.{gcdOf, euclid}
+use Rattle.flat.specs.Gcd.{gcdOf, euclid}
 use Rattle.orders.specs.Numbers.{orderOf, orders, arrangements}
 use Rattle.orders.specs.Plans.{planOf, planned, falling, under, firstBack, relabelled}
 use Rattle.flat.specs.Turn.{turned, turnedBack}

@@ -8,3 +8,7 @@ pub mod Sides
 pub mod Passes
 -- what the checks of a flat call tell
 pub mod Accepted
+-- the numbers that a line is sent to are different
+pub mod Apart
+-- Euclid's algorithm gives the greatest common divisor, and Euclid's lemma
+pub mod Gcd

@@ -2,9 +2,9 @@
 -- its word's cell: the passes carry the word of row i′, column j′ over row r = (l − floor(i/a)) mod m to row i, column j,
 -- and passes 2 and 3 send different cells of a line to different cells.
 use Rattle.lists.proofs.Kit.{_≡_, sym, ap, ap₂, _∙_, ℕ, _+_, _*_, _-_, _/_, _%_, _<_, _≤_, arith, mod-lt, mod-add-mod, div-add-mod', div-div-eq-div-mul, div-mul-cancel, div-le-self, div-lt-iff-lt-mul, le-mul-of-pos-right, mul-comm, sub-add-cancel, add-comm, mod-mod-of-dvd, pos-of-dvd-of-pos, mul-assoc, eq-zero-or-pos, zero-mul, ⊎-elim, digits-div, digits-mod}
-use Rattle.numbers.specs.Gcd.{gcdOf}
-use Rattle.numbers.proofs.Gcd.{gcd-is, quotients-apart}
-use Rattle.numbers.proofs.Apart.{apart-at, shift-apart}
+use Rattle.flat.specs.Gcd.{gcdOf}
+use Rattle.flat.proofs.Gcd.{gcd-is, quotients-apart}
+use Rattle.flat.proofs.Apart.{apart-at, shift-apart}
 use Rattle.flat.specs.Passes.{rowGroup, columnGroup, row1, column2, row3}
 
 -- what is known of the sides, their greatest common divisor and their quotients by it

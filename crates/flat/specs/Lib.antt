@@ -2,3 +2,4 @@ pub mod Turn
 pub mod Passes
 pub mod Benches
 pub mod Promises
+pub mod Gcd

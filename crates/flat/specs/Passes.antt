@@ -6,7 +6,7 @@ use Prim.Native.Nat.{ℕ, _+_, _*_, _-_, _/_, _%_, _<_, _≤_}
 use lib.ListN.{length, getD, drop}
 use Rattle.lists.specs.Tab.{tab}
 use Rattle.layout.specs.Layout.{placeOf}
-use Rattle.numbers.specs.Gcd.{gcdOf}
+use Rattle.flat.specs.Gcd.{gcdOf}
 
 -- the word in row i and column j of a block with n columns
 abbrev pub word : ℕ → List ℕ → ℕ → ℕ → ℕ

@@ -4,7 +4,7 @@ use Rattle.lists.proofs.Kit.{_≡_, refl, sym, ap, _∙_, subst, List, _++_, �
 use borrow.Rule.Slice.PartMut.{midOf, putMid}
 use Rattle.flat.specs.Turn.{Turn}
 use Rattle.halves.specs.Private.{Block}
-use Rattle.halves.proofs.Parts.{whole, second, second-length, joined}
+use Rattle.lists.proofs.Parts.{whole, second, second-length, joined}
 
 -- the first k words are m₁ by n₁, the others m₂ by n₂
 pub record Parted (k m₁ n₁ m₂ n₂ : ℕ) (xs : List ℕ) : Type 0 where

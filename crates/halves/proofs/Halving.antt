@@ -4,7 +4,7 @@ use Rattle.lists.proofs.Kit.{_≡_, refl, sym, ap, _∙_, subst, List, _++_, ap
 use borrow.Rule.Slice.PartMut.{midOf, putMid, mid-len}
 use Rattle.halves.specs.Private.{rotated, Runs}
 use Rattle.halves.specs.Merge.{Merged}
-use Rattle.halves.proofs.Parts.{whole, second, second-length, joined}
+use Rattle.lists.proofs.Parts.{whole, second, second-length, joined}
 use Rattle.halves.proofs.Four.{Four, four, middle-turned, Halved, halved}
 use Rattle.halves.proofs.Merges.{merged-halves, merged-one}
 

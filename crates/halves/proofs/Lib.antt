@@ -1,7 +1,5 @@
 -- one exchange more of two stretches
 mod Stretches
--- a slice lent in parts, and the whole once they are back
-pub mod Parts
 -- rotation by exchanges of the shorter side
 mod Rotations
 -- words in front of and behind a cut, and runs merged half by half
@@ -24,5 +22,3 @@ mod Lent
 pub mod Undo
 -- any two outcomes that the promise allows coincide
 pub mod OneOutcome
--- blocks of chunks turned where they lie, one after the other, are the adjacent swap
-pub mod Blocks

@@ -1,14 +1,8 @@
 -- Merge by halves: where the first h runs of each kind and the last g runs of each kind are merged by themselves, all are.
 -- Each offset lies in one of the two halves and is read there.
 use Rattle.lists.proofs.Kit.{_≡_, refl, sym, ap, _∙_, subst, List, _++_, ⊎-elim, ℕ, _+_, _-_, _*_, _≤_, _<_, arith, add-mul, mul-add, one-mul, zero-mul, length, getD, List·getD-append, length-append, getD-append-add, digits-lt, lt-or-ge}
+use Rattle.lists.proofs.Parts.{in-front, behind}
 use Rattle.halves.specs.Merge.{Merged}
-
--- what stands in the first part and in the second part of a list
-pub in-front : (xs ys : List ℕ) {n k : ℕ} → length xs ≡ n → k < n → getD (xs ++ ys) k 0 ≡ getD xs k 0
-in-front xs ys {n} {k} e h = List·getD-append xs ys 0 k (rw e h)
-
-pub behind : (xs ys : List ℕ) {n k : ℕ} (i : ℕ) → length xs ≡ n → k ≡ n + i → getD (xs ++ ys) k 0 ≡ getD ys i 0
-behind xs ys {n} {k} i e h = ap (λ (z : ℕ). getD (xs ++ ys) z 0) (h ∙ ap (λ (z : ℕ). z + i) (sym e)) ∙ getD-append-add xs ys i 0
 
 -- the first h runs of p words, the other g; the first h runs of q words, the other g
 module _ (h g p q : ℕ) (a b c d ys zs : List ℕ)

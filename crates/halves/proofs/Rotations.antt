@@ -3,7 +3,7 @@
 use Rattle.lists.proofs.Kit.{_≡_, sym, ap, ap₂, _∙_, List, [], _++_, append-assoc, append-nil, ℕ, _+_, _-_, _≤_, arith, length, take, drop, length-drop, take-append-drop, drop-of-length-le, length-take-le, take-at, drop-at, take-take, drop-drop, take-all}
 use Rattle.halves.specs.Private.{traded, rotated}
 use borrow.Rule.Slice.PartMut.{midOf, putMid}
-use Rattle.halves.proofs.Parts.{rest-lent, rest-back, take-past, drop-past}
+use Rattle.lists.proofs.Parts.{rest-lent, rest-back, take-past, drop-past}
 
 -- two parts change places
 pub rotated-parts : (p q : List ℕ) (k : ℕ) → length p ≡ k → rotated k (p ++ q) ≡ q ++ p

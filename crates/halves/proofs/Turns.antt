@@ -5,7 +5,7 @@ use Rattle.flat.specs.Turn.{Turn}
 use Rattle.flat.proofs.Turn.{literally, from-literal}
 use Rattle.halves.specs.Merge.{Merged}
 use Rattle.halves.specs.Private.{Runs, Block}
-use Rattle.halves.proofs.Merges.{in-front, behind}
+use Rattle.lists.proofs.Parts.{in-front, behind}
 use Rattle.halves.proofs.Cuts.{Parted, Both, rows-cut, columns-cut}
 
 -- a block that fills its slice is turned where each of its words is: past it there is none

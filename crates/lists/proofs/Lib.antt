@@ -12,3 +12,5 @@ pub mod Front
 pub mod Copied
 -- what proofs of every crate use, passed on by one module
 pub mod Kit
+-- a slice lent in parts, and the whole once they are back
+pub mod Parts

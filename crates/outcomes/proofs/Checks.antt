@@ -1,7 +1,6 @@
 -- The checks on lengths, counts and sheets: one answer each, because each promise is an equation with it.
 use mathlib.Core.Path.{refl, sym, _∙_}
 use Rattle.checks.proofs as checks
-use Rattle.blocks.proofs as blocks
 use Rattle.outcomes.specs.Once.{Once}
 
 pub bad-length-once : Once checks.bad_length.Kinds.ps checks.bad_length.Kinds.r checks.bad_length.Reads.Post
@@ -34,5 +33,5 @@ named-number-once t = (t .first ∙ sym (t .second), refl)
 pub swap-number-once : Once checks.swaps.swap_number.Kinds.ps checks.swaps.swap_number.Kinds.r checks.swaps.swap_number.Reads.Post
 swap-number-once t = (t .first ∙ sym (t .second), refl)
 
-pub sheet-number-once : Once blocks.sheet_number.Kinds.ps blocks.sheet_number.Kinds.r blocks.sheet_number.Reads.Post
+pub sheet-number-once : Once checks.sheet_number.Kinds.ps checks.sheet_number.Kinds.r checks.sheet_number.Reads.Post
 sheet-number-once t = (t .first ∙ sym (t .second), refl)

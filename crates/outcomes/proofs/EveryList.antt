@@ -12,10 +12,10 @@ use Rattle.passes.specs.Restart.{resumeChecks}
 use Rattle.cycles.specs.Promise.{cycleChecks, runChecks}
 use Rattle.cameras.specs.Promises.{removeChecks, addChecks}
 use Rattle.tiles.specs.Promises.{tileChecks}
-use Rattle.blocks.specs.Checks.{sheetChecks}
+use Rattle.text.specs.Checks.{sheetChecks}
 use Rattle.printer.specs.Writer.{writerChecks, releaseChecks}
 use Rattle.desk.specs.Conditions.{measureChecks, framesChecks, joinChecks}
-use Rattle.choice.specs.Conditions.{chooseChecks}
+use Rattle.desk.specs.ChoiceConditions.{chooseChecks}
 
 module _ (m n : ℕ) (buffer scratch : List ℕ) where
   -- the count of lines, the count of repeats

@@ -9,7 +9,6 @@ use ghost.Atoms.{Atoms}
 use contract.Monad.{Fun}
 use Rattle.halves.proofs as halves
 use Rattle.passes.proofs as passes
-use Rattle.ticks.proofs as ticks
 use Rattle.home.proofs as home
 use Rattle.cycles.proofs as cycles
 use Rattle.cameras.proofs as cameras
@@ -20,7 +19,6 @@ use Rattle.sheet.proofs as sheet
 use Rattle.printer.proofs as printer
 use Rattle.job.proofs as job
 use Rattle.desk.proofs as desk
-use Rattle.choice.proofs as choice
 use Rattle.exports.proofs as exports
 use Rattle.outcomes.proofs.Axes.{reads}
 use Rattle.outcomes.proofs.Desk.{one-part}
@@ -48,7 +46,7 @@ lines-once t = (passes.OneTick.lines-once (t .first) (t .second), refl)
 -- proved by a walk, as the step is
 module _ {M : Type 1} (𝓤 : URA M) (H : Heap 𝓤) (A : Atoms 𝓤) (mem : Memory → SProp 𝓤) (run : Routine → Fun 𝓤) where
   pub tick-once : OnceWalked 𝓤 exports.zib_tick.ended (exports.zib_tick.clauses 𝓤 H A mem run)
-  tick-once κs a g x y u v = both 𝓤 (λ p q. let (number, lines, b, s) = ticks.OneOutcome.step-once p q in (number, λ i. (b i, (s i, (lines i, _)))))
+  tick-once κs a g x y u v = both 𝓤 (λ p q. let (number, lines, b, s) = passes.StepOutcome.step-once p q in (number, λ i. (b i, (s i, (lines i, _)))))
 
 pub resume-once : Once exports.zib_resume.Kinds.ps exports.zib_resume.Kinds.r exports.zib_resume.Reads.Post
 resume-once t = let (x, m) = passes.OneOutcome.resume-once (t .first) (t .second) in (x, λ i. (m i .buffer, (m i .scratch, (m i .progress, _))))
@@ -119,10 +117,10 @@ join-once t = (desk.OneOutcome.join-once (t .args .0 .now) (t .args .1 .0) (t .f
 -- the part stands in a variable of the caller's, the last that is lent
 pub choose-once : (t : Two exports.zib_choose.Kinds.ps exports.zib_choose.Kinds.r exports.zib_choose.Reads.Post)
     → (t .x ≡ t .y) × ((t .u .0, (t .u .1 .0, (under (t .v .1 .1 .0 .name) (t .u .1 .1 .0), t .u .1 .1 .1))) ≡ t .v)
-choose-once t = let part = one-part (choice.OneOutcome.choose-once (t .first) (t .second)) in (refl, λ i. (_, (_, (part i, _))))
+choose-once t = let part = one-part (desk.ChoiceOutcome.choose-once (t .first) (t .second)) in (refl, λ i. (_, (_, (part i, _))))
 
 pub choose-number-once : Once exports.zib_choose_number.Kinds.ps exports.zib_choose_number.Kinds.r exports.zib_choose_number.Reads.Post
-choose-number-once t = (choice.OneOutcome.choose-number-once (t .args .0 .now) (t .args .1 .0 .now) (t .first) (t .second), refl)
+choose-number-once t = (desk.ChoiceOutcome.choose-number-once (t .args .0 .now) (t .args .1 .0 .now) (t .first) (t .second), refl)
 
 pub version-once : Once exports.zib_version_3_0.Kinds.ps exports.zib_version_3_0.Kinds.r exports.zib_version_3_0.Reads.Post
 version-once t = (t .first ∙ sym (t .second), refl)

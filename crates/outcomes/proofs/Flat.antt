@@ -11,7 +11,6 @@ use Rattle.refusals.proofs as refusals
 use Rattle.halves.proofs as halves
 use Rattle.strips.proofs as strips
 use Rattle.passes.proofs as passes
-use Rattle.ticks.proofs as ticks
 use Rattle.home.proofs as home
 use Rattle.cycles.proofs as cycles
 use Rattle.moves.proofs as moves
@@ -50,8 +49,8 @@ tick-once t = let (x, y, z) = passes.OneTick.tick-once (t .first) (t .second) in
 
 -- the step over a lent record is proved by a walk
 module _ {M : Type 1} (𝓤 : URA M) (H : Heap 𝓤) (A : Atoms 𝓤) (mem : Memory → SProp 𝓤) (run : Routine → Fun 𝓤) where
-  pub step-once : OnceWalked 𝓤 ticks.step.ended (ticks.step.clauses 𝓤 H A mem run)
-  step-once κs a g x y u v = both 𝓤 (λ p q. let (number, lines, b, s) = ticks.OneOutcome.step-once p q in (number, λ i. (b i, (s i, (lines i, _)))))
+  pub step-once : OnceWalked 𝓤 passes.step.ended (passes.step.clauses 𝓤 H A mem run)
+  step-once κs a g x y u v = both 𝓤 (λ p q. let (number, lines, b, s) = passes.StepOutcome.step-once p q in (number, λ i. (b i, (s i, (lines i, _)))))
 
 pub resume-once : Once passes.resume.Kinds.ps passes.resume.Kinds.r passes.resume.Reads.Post
 resume-once t = let (x, m) = passes.OneOutcome.resume-once (t .first) (t .second) in (x, λ i. (m i .buffer, (m i .scratch, (m i .progress, _))))

@@ -3,7 +3,7 @@
 -- the length of every plan are refuted by theorems: they are statements about all orders, and no outcome of a call.
 use Rattle.lists.proofs.Kit.{_≡_, refl, sym, Bool, true, cond, List, [], _∷_, ℕ, zero, suc, _*_, _-_, _%_, _^_, min, _<_, _≤_, arith, T, ltb, length, take}
 use Rattle.layout.specs.Layout.{volume, placeOf, places}
-use Rattle.numbers.specs.Gcd.{gcdOf, euclid}
+use Rattle.flat.specs.Gcd.{gcdOf, euclid}
 use Rattle.orders.specs.Chains.{exchange}
 use Rattle.orders.specs.Numbers.{arrangements, orders, orderOf, orderCount, rank, numberOf}
 use Rattle.orders.specs.Releases.{numberBy}
@@ -15,7 +15,7 @@ use Rattle.refusals.specs.Calls.{sizeChecks, blockChecks, passesChecks, swapChe
 use Rattle.flat.specs.Turn.{sides}
 use Rattle.orbits.specs.Turns.{Order}
 use Rattle.checks.specs.Words.{capped}
-use Rattle.blocks.specs.Checks.{sheetChecks}
+use Rattle.text.specs.Checks.{sheetChecks}
 use Rattle.axes.specs.Answers.{fiveLengths}
 use Rattle.plans.specs.declared.Planned.{Planned}
 use Rattle.plans.specs.Promise.{plannedAs, noPlan, PlanPromise}

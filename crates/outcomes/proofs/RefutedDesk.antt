@@ -15,11 +15,11 @@ use Rattle.desk.specs.Exchange.{offsetOf, delayOf}
 use Rattle.desk.specs.Frames.{nearestFrame}
 use Rattle.desk.specs.Shifts.{through, largest, endOf}
 use Rattle.desk.specs.Promises.{MeasuredAs, FramesAs, JoinedAs}
-use Rattle.choice.specs.Choice.{exchanges, fourAt, delayAt, usable, Best, FirstWins, SecondWins}
-use Rattle.choice.specs.Conditions.{chooseChecks}
-use Rattle.choice.specs.Promises.{Four, ChosenAs}
-use Rattle.choice.specs.Promises.Four.{of-first, of-second}
-use Rattle.choice.proofs.OneOutcome.{choose-once}
+use Rattle.desk.specs.Choice.{exchanges, fourAt, delayAt, usable, Best, FirstWins, SecondWins}
+use Rattle.desk.specs.ChoiceConditions.{chooseChecks}
+use Rattle.desk.specs.ChoicePromises.{Four, ChosenAs}
+use Rattle.desk.specs.ChoicePromises.Four.{of-first, of-second}
+use Rattle.desk.proofs.ChoiceOutcome.{choose-once}
 use Rattle.outcomes.specs.Wrong.{Case, Row, Refuted}
 use Rattle.outcomes.proofs.Wrong.{refuted}
 use Rattle.outcomes.specs.Wrong.Row.{wrong, gives, late, refuses}
@@ -68,19 +68,6 @@ measured =
 
 pub measured-refuted : Refuted measured
 measured-refuted = refuted measured refl
-
--- whether a reading is far: the limit itself is not, and the last reading counts like the first
-abbrev far : List ℤ → Case Bool
-far run = value (λ t. cond t 1 0) (farReading run)
-
-abbrev pub readings : List (Row Bool)
-readings =
-    gives "far_reading/limit-is-far" (far (pos (2 ^ 60) ∷ [])) 1
-    ∷ gives "far_reading/first-reading-only" (far (pos 0 ∷ negsuc (2 ^ 60) ∷ [])) 0
-    ∷ []
-
-pub readings-refuted : Refuted readings
-readings-refuted = refuted readings refl
 
 -- to frames
 abbrev pub framed : ℤ → ℕ → Case Frames

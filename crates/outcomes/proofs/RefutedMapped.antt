@@ -1,7 +1,7 @@
 -- Wrong versions of the mapped turn, as a table: what is left of the block, its scratch and the progress word after a budget of stores.
 use Rattle.lists.proofs.Kit.{refl, List, [], _∷_, _++_, ℕ, upto}
 use Rattle.layout.specs.Layout.{volume, placeOf}
-use Rattle.numbers.specs.Gcd.{gcdOf, euclid}
+use Rattle.flat.specs.Gcd.{gcdOf, euclid}
 use Rattle.refusals.specs.Conditions.{longest}
 use Rattle.flat.specs.Passes.{row1, column2, source2, row3}
 use Rattle.stages.specs.Stages.{Memory, stage, next, remaining, call}

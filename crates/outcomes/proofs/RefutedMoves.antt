@@ -2,7 +2,7 @@
 -- entry, and the test sees that they meet the rule.
 use Rattle.lists.proofs.Kit.{_≡_, refl, sym, ap, _∙_, List, [], _∷_, _++_, ℕ, suc, _+_, _*_, _-_, _/_, _%_, _≤_, arith, length, getD, drop, replicate, getD-drop, upto}
 use Rattle.layout.specs.Layout.{volume}
-use Rattle.numbers.specs.Gcd.{gcdOf, euclid}
+use Rattle.flat.specs.Gcd.{gcdOf, euclid}
 use Rattle.refusals.specs.FirstOf.{Check, firstOf}
 use Rattle.refusals.specs.Conditions.{longest}
 use Rattle.refusals.specs.Scratch.{need, cleared}

@@ -7,7 +7,7 @@ use Rattle.text.specs.Right.{SheetNumbers, RightResult}
 use Rattle.text.proofs.Rows.{small-take, result-first}
 use Rattle.text.proofs.Length.{result-fits}
 use Rattle.text.proofs.SecondLines.{one-of-two, two-known, good-by}
-use Rattle.blocks.specs.Private.{OnSheet}
+use Rattle.text.specs.Private.{OnSheet}
 use Rattle.sheet.specs.declared.ResultSheet.{ResultSheet}
 use Rattle.sheet.specs.ResultReader.{ResultReadAs, resultFound}
 use Rattle.sheet.proofs.RightResults.{right-is-read, read-is-right}

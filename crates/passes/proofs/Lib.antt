@@ -38,3 +38,7 @@ pub mod OneOutcome
 pub mod OneTick
 -- a turn and its reverse, either one first, restore every word
 pub mod ThereAndBack
+-- any two outcomes of a step coincide
+pub mod StepOutcome
+-- any run of calls: the record counts the accepted ones up to the line count, and the buffer then holds the flat turn
+pub mod TickRuns

@@ -1,7 +1,7 @@
 -- The walks over the lines of the passes go over the places that the lines receive from, by the laws of crate walks; and where they begin, worked out or
 -- carried on from the line before.
 use Rattle.lists.proofs.Kit.{_≡_, refl, sym, ap, _∙_, subst, ⊎-elim, ℕ, _+_, _*_, _-_, _/_, _%_, _<_, _≤_, arith, mod-lt, mod-eq-of-lt, mod-self, zero-mod, mod-add-mod, add-comm, add-zero, add-mul, one-mul, zero-mul, add-mod-right, mul-comm, mul-le-mul, le-mul-of-pos-right, div-eq-of-lt, div-eq-of-lt-le, div-add-mod', div-le-self, eq-or-ne, ne-eqb}
-use Rattle.numbers.specs.Gcd.{gcdOf}
+use Rattle.flat.specs.Gcd.{gcdOf}
 use Rattle.flat.specs.Passes.{rowGroup, columnGroup, row1, source2, row3}
 use Rattle.flat.proofs.Sides.{Sides, sides-are, rows1-apart, rows3-apart}
 use Rattle.walks.specs.PrivateSource.{Inverse, StateAt}

@@ -1,7 +1,7 @@
 -- The lines of a block turn it: the lines of each pass are a family, so the passes of the block are passes in the sense of
 -- crate flat, and those are the turn.
 use Rattle.lists.proofs.Kit.{_≡_, refl, sym, ap, _∙_, subst, Bool, true, false, cond, List, ℕ, zero, suc, _+_, _*_, _<_, _≤_, arith, mul-one, le-mul-of-pos-right, ltb, getD, lt-ltb, le-ltb, ltb-false}
-use Rattle.numbers.specs.Gcd.{gcdOf}
+use Rattle.flat.specs.Gcd.{gcdOf}
 use Rattle.flat.specs.Turn.{Turn}
 use Rattle.flat.specs.Passes.{rowGroup, columnGroup}
 use Rattle.flat.proofs.Sides.{Sides, sides-are}

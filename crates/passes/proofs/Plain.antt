@@ -1,7 +1,7 @@
 -- The line of a tick in the words of documents 01 and 02 is the line that the functions move. In a block of exactly m rows and n columns every place is
 -- the cell of one row and one column, so the places off a line are the cells of the other rows or columns.
 use Rattle.lists.proofs.Kit.{_≡_, refl, sym, ap, _∙_, subst, Bool, true, false, cond, List, _↔_, ⊎-elim, ℕ, _+_, _*_, _-_, _/_, _%_, _<_, _≤_, arith, mod-lt, div-add-mod', div-lt-iff-lt-mul, ltb, length, getD, List·getD-eq-default, digits-div, digits-mod, lt-or-ge}
-use Rattle.numbers.specs.Gcd.{gcdOf}
+use Rattle.flat.specs.Gcd.{gcdOf}
 use Rattle.flat.specs.Passes.{row1, column2, row3}
 use Rattle.passes.specs.Lines.{Moved, column, row, lineOf, skipped, lineCount, posOn, LineMoved}
 use Rattle.passes.specs.Plain.{ColumnMoved, RowMoved, firstLines, LineTicked}

@@ -5,3 +5,5 @@ pub mod Promises
 pub mod Ticks
 pub mod Restart
 pub mod Plain
+pub mod TickRuns
+pub mod Steps

@@ -5,7 +5,7 @@ use mathlib.Core.List.{List}
 use Prim.Native.Nat.{ℕ, _+_, _<_, _≤_}
 use lib.Dec.{ltb}
 use lib.ListN.{length}
-use Rattle.numbers.specs.Gcd.{gcdOf}
+use Rattle.flat.specs.Gcd.{gcdOf}
 use Rattle.flat.specs.Passes.{word, row1, column2, row3}
 
 -- in column j, row i receives the word of row `source i`, and every other word stands

@@ -1,6 +1,6 @@
 // The greatest common divisor, and inverses, by Euclid's algorithm.
 ghost use mathlib.Core.Path.{_≡_};
-ghost use Rattle.numbers.specs.Gcd.{gcdOf};
+ghost use Rattle.flat.specs.Gcd.{gcdOf};
 ghost use Rattle.walks.specs.PrivateSource.{Inverse};
 ghost use Rattle.passes.specs.PrivateScratch.{Coprime};
 

@@ -15,6 +15,7 @@ ghost use Rattle.flat.specs.Turn.{sides};
 ghost use Rattle.passes.specs.Promises.{TurnPromise, TurnBackPromise, ClearPromise};
 ghost use Rattle.passes.specs.PrivateScratch.{TurnsPromise};
 ghost use Rattle.passes.specs.Ticks.{LinesPromise, TickPromise};
+ghost use Rattle.passes.specs.Steps.{StepPromise};
 ghost use Rattle.passes.specs.Restart.{memory, ResumePromise};
 
 // Turns the m by n block that fills a buffer, or, home, undoes its turn, through scratch of max(m, n) words: 0, or 1, 2, 3, 13, 4.
@@ -100,6 +101,23 @@ pub fn tick(buf: &mut [u32], scratch: &mut [u32], m: usize, n: usize, done: usiz
         number: 0,
         done: done + 1,
     }
+}
+
+// The lines done, as a player keeps them: C lends the same record.
+#[repr(C)]
+pub struct LineRecord {
+    pub done: usize,
+}
+
+// One line of the turn of an m by n block: the record is taken apart, the line that it names moves, and the record is advanced where it
+// stands: 0, or 1, 2, 3, 13, 4, 12.
+pub fn step(buf: &mut [u32], scratch: &mut [u32], lines: &mut LineRecord, m: usize, n: usize) -> u32
+    ensures { λ r. ⌜ StepPromise m n (now (lines .entry)) (now (buf .entry)) (now (scratch .entry)) r (now (lines .exit)) (now (buf .exit)) (now (scratch .exit)) ⌝ }
+{
+    let done = lines.done;
+    let ticked = tick(buf, scratch, m, n, done);
+    lines.done = ticked.done;
+    ticked.number
 }
 
 // Goes on with the turn of an m by n block from the stage that the progress word names, and stops after `budget` stores: 0, or 1, 2, 3, 13, 4, 23.

@@ -10,8 +10,8 @@ use Rattle.refusals.proofs.Conditions.{passed}
 use Rattle.text.specs.Right.{SheetNumbers}
 use Rattle.text.specs.Sheet.{resultText, resultBy}
 use Rattle.text.specs.Meaning.{bigSheet}
-use Rattle.blocks.specs.Private.{OnSheet}
-use Rattle.blocks.specs.Checks.{sheetChecks}
+use Rattle.text.specs.Private.{OnSheet}
+use Rattle.text.specs.Checks.{sheetChecks}
 use Rattle.printer.specs.declared.Written.{Written}
 use Rattle.printer.specs.PrivateBytes.{Put, roomNumber, TextWritten}
 use Rattle.printer.specs.Writer.{shortBytes, nothingWritten, written, writtenTo, writerNumber, WrittenAs, releaseNumber, ReleaseWrittenAs}

@@ -10,7 +10,7 @@ use Rattle.refusals.specs.Conditions.{noOrder}
 use Rattle.refusals.specs.Calls.{namedChecks}
 use Rattle.text.specs.Sheet.{resultText, resultBy}
 use Rattle.text.specs.Right.{SheetNumbers}
-use Rattle.blocks.specs.Checks.{sheetChecks}
+use Rattle.text.specs.Checks.{sheetChecks}
 use Rattle.printer.specs.declared.Written.{Written}
 
 -- 24: the byte buffer is shorter than the result sheet

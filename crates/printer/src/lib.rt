@@ -7,7 +7,7 @@ ghost use mathlib.Core.Path.{_≡_};
 ghost use Prim.Native.Nat.{_≤_};
 ghost use lib.ListN.{length};
 ghost use Rattle.text.specs.Sheet.{resultBy};
-ghost use Rattle.blocks.specs.Private.{OnSheet};
+ghost use Rattle.text.specs.Private.{OnSheet};
 ghost use Rattle.printer.specs.PrivateBytes.{TextWritten};
 ghost use Rattle.printer.specs.Writer.{nothingWritten, WrittenAs, ReleaseWrittenAs};
 ghost use Rattle.printer.specs.RefusalWriter.{RefusalWrittenAs};
@@ -67,7 +67,7 @@ fn put_result(
 pub fn write_result(lens: [usize; 4], order: usize, words: &[u32], out: &mut [u8]) -> Written
     ensures { λ r. ⌜ WrittenAs lens order (now (words .entry)) (now (out .entry)) r (now (out .exit)) ⌝ }
 {
-    let number = blocks::sheet_number(&lens, words);
+    let number = checks::sheet_number(&lens, words);
     if number != 0 {
         return nothing_written(number);
     }
@@ -87,7 +87,7 @@ pub fn write_release(
 ) -> Written
     ensures { λ r. ⌜ ReleaseWrittenAs lens release order (now (words .entry)) (now (out .entry)) r (now (out .exit)) ⌝ }
 {
-    let number = blocks::sheet_number(&lens, words);
+    let number = checks::sheet_number(&lens, words);
     if number != 0 {
         return nothing_written(number);
     }

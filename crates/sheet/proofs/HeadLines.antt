@@ -14,8 +14,8 @@ use Rattle.sheet.specs.declared.line.End.{End}
 use Rattle.sheet.specs.declared.line.End.the-variants.{At}
 use Rattle.sheet.specs.declared.page.Page.{Page}
 use Rattle.sheet.specs.Private.{EndAt, There, LineAt, FirstAt, SecondAt, noPage, further, numbersLine, numbersOf, wordsOf, lineNumber}
-use Rattle.blocks.specs.Checks.{sheetChecks}
-use Rattle.blocks.proofs.Block.{firstFour, first-four}
+use Rattle.text.specs.Checks.{sheetChecks}
+use Rattle.checks.proofs.SheetBlock.{firstFour, first-four}
 use Rattle.sheet.proofs.LinesAt.{line-fields}
 
 -- a page with these lengths

@@ -13,7 +13,7 @@ use Rattle.refusals.specs.Conditions.{longChain}
 use Rattle.text.specs.Read.{Reading, readLine}
 use Rattle.text.specs.Sheet.{rowCount, rowWidth}
 use Rattle.text.specs.Meaning.{Verdict, onLine, onward, refuseIf, shapeLine, rowLines}
-use Rattle.blocks.specs.Private.{OnSheet}
+use Rattle.text.specs.Private.{OnSheet}
 use Rattle.sheet.specs.Swaps.{padded}
 use Rattle.sheet.specs.declared.field.Field.{Field}
 use Rattle.sheet.specs.declared.field.Field.the-variants.{Nothing, Number}

@@ -47,7 +47,7 @@ pub(crate) fn shape_at(bytes: &[u8], words: &[u32]) -> page::Page
     }
     let v = first.numbers;
     let lengths = [v[0], v[1], v[2], v[3]];
-    let number = blocks::sheet_number(&lengths, words);
+    let number = checks::sheet_number(&lengths, words);
     if number != 0 {
         return page::no_page(number, 0);
     }

@@ -2,7 +2,7 @@
 use Rattle.lists.proofs.Kit.{_≡_, refl, ap, subst, _∙_, List, _++_, _⊎_, inl, inr, ⊎-elim, ℕ, _+_, _*_, _-_, _/_, _%_, _<_, _≤_, mod-lt, div-add-mod', div-lt-iff-lt-mul, mul-le-mul, mul-le-mul-right, le-mul-of-pos-right, mul-pos, arith, length, getD, take, drop, replicate, length-replicate, length-take-le, lt-or-ge}
 use borrow.Rule.Slice.PartMut.{midOf, mid-len}
 use Rattle.grids.specs.Promises.{Turnable}
-use Rattle.halves.proofs.Parts.{whole}
+use Rattle.lists.proofs.Parts.{whole}
 use Rattle.strips.specs.PrivateBounds.{Held, From, Lines, Strip, Narrow}
 use Rattle.grids.specs.Grids.{GridTurned}
 use Rattle.strips.specs.PrivateSteps.{BlocksTurned, PartTurned, Widened}

@@ -8,7 +8,7 @@ use Rattle.refusals.specs.Calls.{recursionChecks}
 use Rattle.refusals.proofs.Conditions.{range-in, not-short, not-long}
 use Rattle.flat.specs.Turn.{sides, Turn}
 use Rattle.flat.proofs.Turn.{volume-two}
-use Rattle.halves.proofs.Blocks.{laid-turned, part-turned}
+use Rattle.strips.proofs.Blocks.{laid-turned, part-turned}
 use Rattle.moves.specs.Stretch.{Outside, Traded}
 use Rattle.grids.specs.Grids.{GridTurned}
 use Rattle.strips.specs.PrivateBounds.{Square}

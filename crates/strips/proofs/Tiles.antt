@@ -2,7 +2,7 @@
 -- from j·m on. Blocks so turned one after the other, each a part of the buffer, are the layout whose two axes in the middle are exchanged.
 use Rattle.lists.proofs.Kit.{_≡_, refl, sym, ap, ap₂, _∙_, ⊎-elim, List, ℕ, _+_, _*_, _-_, _/_, _%_, _<_, _≤_, zero-mul, mul-comm, mul-le-mul-right, add-mul, one-mul, le-mul-of-pos-right, arith, digits-div, digits-mod, digits-lt, length, getD, eq-or-ne}
 use borrow.Rule.Slice.PartMut.{midOf, putMid, mid-len}
-use Rattle.halves.proofs.Blocks.{laid-turned, part-turned, TurnedTo, turned-more, all-turned}
+use Rattle.strips.proofs.Blocks.{laid-turned, part-turned, TurnedTo, turned-more, all-turned}
 use Rattle.moves.specs.Stretch.{Stretch}
 use Rattle.strips.specs.PrivateMoves.{Scattered, RowsOut, Lifted}
 use Rattle.strips.specs.PrivateBounds.{Held, From}

@@ -10,3 +10,7 @@ pub mod Meaning
 pub mod Right
 -- a sheet that is refused
 pub mod Refused
+-- the checks of a sheet's block
+pub mod Checks
+-- for private functions only: a block that a sheet may have
+pub mod Private

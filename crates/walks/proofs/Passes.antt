@@ -1,6 +1,6 @@
 -- The places that the passes pair, group by group: c groups of b columns or of a rows. b·m = a·n, so whole groups drop out.
 use Rattle.lists.proofs.Kit.{_≡_, sym, ap, ap₂, _∙_, ℕ, _+_, _*_, _-_, _/_, _%_, _<_, _≤_, arith, mod-add-mod, add-mod-right, add-mul-mod-self-right, add-mul, mul-assoc, mul-comm, add-comm, add-assoc, div-lt-iff-lt-mul, le-mul-of-pos-right, le-trans, digits-div}
-use Rattle.numbers.specs.Gcd.{gcdOf}
+use Rattle.flat.specs.Gcd.{gcdOf}
 use Rattle.flat.specs.Passes.{rowGroup, columnGroup, column2, row3}
 use Rattle.flat.proofs.Sides.{Sides}
 use Rattle.walks.specs.PrivateWalk.{walk}

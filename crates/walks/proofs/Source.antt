@@ -1,6 +1,6 @@
 -- The inverse of pass 2, and a walk over it in rising place: the state at any place, and the next one.
 use Rattle.lists.proofs.Kit.{_≡_, sym, ap, ap₂, _∙_, ℕ, _+_, _*_, _-_, _/_, _%_, _<_, _≤_, arith, mod-lt, mod-eq-of-lt, mod-add-mod, add-mul-mod-self-right, add-mul, add-assoc, add-zero, mul-assoc, mul-comm, mul-right-comm, mul-one, one-mul, div-add-mod', div-eq-of-lt, div-eq-of-lt-le, ⊎-elim, digits-lt, lt-or-ge}
-use Rattle.numbers.specs.Gcd.{gcdOf}
+use Rattle.flat.specs.Gcd.{gcdOf}
 use Rattle.flat.specs.Passes.{rowGroup, columnGroup, column2, source2}
 use Rattle.flat.proofs.Sides.{Sides}
 use Rattle.flat.proofs.Passes.{source-is}

@@ -3,7 +3,7 @@
 -- is column t of group g. Assumes nothing: these are definitions.
 use mathlib.Core.Path.{_≡_}
 use Prim.Native.Nat.{ℕ, _+_, _*_, _/_, _%_, _<_}
-use Rattle.numbers.specs.Gcd.{gcdOf}
+use Rattle.flat.specs.Gcd.{gcdOf}
 use Rattle.flat.specs.Passes.{columnGroup}
 
 -- x is the inverse of a modulo b: x·a leaves 1

@@ -7,7 +7,7 @@ use mir.Val.{SFits, toZ, ofZ}
 use mir.Facts.{toZ-ofZ, toZ-pos}
 use Rattle.refusals.specs.FirstOf.{check, firstOf}
 use Rattle.refusals.proofs.FirstOf.{refused-by}
-use Rattle.signed.proofs.Ends.{near-sum, small}
+use Rattle.desk.proofs.Ends.{near-sum, small}
 use Rattle.desk.specs.Exchange.{reading}
 use Rattle.desk.specs.Conditions.{noCommon, shiftChecks, joinChecks}
 use Rattle.desk.specs.Shifts.{higherOf, lowerOf, through, smallest, largest, endOf}

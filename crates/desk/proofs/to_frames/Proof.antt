@@ -5,7 +5,7 @@ use mir.Syntax.{w64}
 use mir.Val.{SFits, toZ, ofZ}
 use mir.Facts.{toZ-ofZ, toZ-pos}
 use Rattle.refusals.specs.FirstOf.{firstOf}
-use Rattle.signed.proofs.Ends.{near-sum, small, back, le}
+use Rattle.desk.proofs.Ends.{near-sum, small, back, le}
 use Rattle.desk.specs.Conditions.{framesChecks}
 use Rattle.desk.proofs.Answers.{refused, accepted}
 use Rattle.desk.proofs.Accepted.{TicksNear, framed}

@@ -1,4 +1,4 @@
--- `zib_tick` meets its contract: a walk of its MIR, by hand. Its signature and its clauses are those of `ticks::step`, so what it has on
+-- `zib_tick` meets its contract: a walk of its MIR, by hand. Its signature and its clauses are those of `passes::step`, so what it has on
 -- entry is what `step` asks, at the same lifetimes, shares and ghost names, and what `step` gives back is what it owes: nothing is
 -- opened, and nothing is lent again. Between the two only its own slots are filled and freed.
 use mathlib.Core.Path.{refl}
@@ -33,11 +33,11 @@ use denote.Triple.Spec.{Meets, tripleOf}
 use denote.Triple.Statement.{Contract, Triple}
 use denote.Triple.Call.{calls-at}
 use denote.Triple.Table.{entered, cited}
-use Rattle.ticks.proofs.LineRecord as T
-use Rattle.ticks.proofs.step as step
-use Rattle.ticks.proofs.step.Symbol as step-def
-use Rattle.ticks.proofs.step.Symbol.{name as #ticks·step}
-use Rattle.ticks.proofs.step.Met as step-thm
+use Rattle.passes.proofs.LineRecord as T
+use Rattle.passes.proofs.step as step
+use Rattle.passes.proofs.step.Symbol as step-def
+use Rattle.passes.proofs.step.Symbol.{name as #passes·step}
+use Rattle.passes.proofs.step.Met as step-thm
 use Rattle.exports.proofs.zib_tick.Key.{name as #exports·zib-tick}
 use Rattle.exports.proofs.zib_tick as zib
 use Rattle.exports.proofs.zib_tick.Statement as stated
@@ -92,7 +92,7 @@ module _ {M : Type 1} (𝓤 : URA M) (H : Heap 𝓤) (A : Atoms 𝓤) (W : Given
         qed W (‵ (u32 .own r (w ∷ [])) ∷ raw (alive 𝓤 H A step.signature κs qs) ∷ raw (step.spec 𝓤 H A mem run κs a .ensures tt r) ∷ []) ∵
         updating ! $ at-once ! $ show ! (Given-back w) r $ move ! (1 ∷ 0 ∷ []) $ join ! $ done !
 
-    module _ (C : Calls 𝓤 H) (Λ : Loops 𝓤 H) (fm : FmC 𝓤 H (W .laws) C) (known : Triple 𝓤 (C #ticks·step) Step) where
+    module _ (C : Calls 𝓤 H) (Λ : Loops 𝓤 H) (fm : FmC 𝓤 H (W .laws) C) (known : Triple 𝓤 (C #passes·step) Step) where
       walk : Room u32 (length (a .0 .now)) → Room u32 (length (a .1 .0 .now)) → Is usize (a .1 .1 .1 .0) (vm ∷ []) → Is usize (a .1 .1 .1 .1 .0) (vn ∷ [])
           → ent 𝓤 Entry (WpFn 𝓤 H C Λ code.function (s ∷ t ∷ p ∷ vm ∷ vn ∷ []) (Tick .post bound))
       walk room room′ m-is n-is =
@@ -130,7 +130,7 @@ module _ {M : Type 1} (𝓤 : URA M) (H : Heap 𝓤) (A : Atoms 𝓤) (W : Given
           keep ! (0 ∷ 1 ∷ 2 ∷ []) $ by ! (exits w r)))))))))))))))
 
   -- the parameters' machine values are spelled out, and the walk goes from there
-  zib-tick-meets : (𝓣 : Tables 𝓤 H) → Triple 𝓤 (𝓣 .C #ticks·step) Step
+  zib-tick-meets : (𝓣 : Tables 𝓤 H) → Triple 𝓤 (𝓣 .C #passes·step) Step
       → Meets 𝓤 H A zib.signature (WpFn 𝓤 H (𝓣 .C) (𝓣 .Λ) code.function) (zib.spec 𝓤 H A mem run)
   zib-tick-meets 𝓣 known y =
       via 𝓤 _ (fst∗ 𝓤 _ (emp 𝓤))
@@ -148,4 +148,4 @@ zib-tick-spec 𝓤 H 𝓜 𝓖 𝓡 =
     entered 𝓤 H (tripleOf 𝓤 H (𝓖 .A) zib.signature (zib.spec 𝓤 H (𝓖 .A) (𝓜 .mem) (𝓡 .run)))
     (tables 𝓤 H 𝓜 𝓡 code.env .C) (tables 𝓤 H 𝓜 𝓡 code.env .Λ) #exports·zib-tick code.function (code.unfolded 𝓤 H 𝓜 𝓡)
     (zib-tick-meets 𝓤 H (𝓖 .A) (givenOf 𝓤 H 𝓜 𝓖) (𝓜 .mem) (𝓡 .run) (tablesOf 𝓤 H 𝓜 (tables 𝓤 H 𝓜 𝓡 code.env))
-    (cited 𝓤 H (Step 𝓤 H (𝓖 .A) (givenOf 𝓤 H 𝓜 𝓖) (𝓜 .mem) (𝓡 .run)) 𝓜 𝓡 code.env #ticks·step step-def.routine code.calls-ticks·step (step-thm.met 𝓤 H 𝓜 𝓖 𝓡)))
+    (cited 𝓤 H (Step 𝓤 H (𝓖 .A) (givenOf 𝓤 H 𝓜 𝓖) (𝓜 .mem) (𝓡 .run)) 𝓜 𝓡 code.env #passes·step step-def.routine code.calls-ticks·step (step-thm.met 𝓤 H 𝓜 𝓖 𝓡)))

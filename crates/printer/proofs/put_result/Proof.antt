@@ -1,7 +1,7 @@
 -- `put_result` meets its contract: 24 where the buffer is shorter than the measured text; else the thin writer puts the text.
 use Rattle.lists.proofs.Kit.{_≡_, _∙_, List, ℕ, arith, length, needs}
 use Rattle.text.specs.Sheet.{resultBy}
-use Rattle.blocks.proofs.Block.{Counts, counts, first-three, rows-fit}
+use Rattle.checks.proofs.SheetBlock.{Counts, counts, first-three, rows-fit}
 use Rattle.printer.proofs.Puts.{put-length}
 use Rattle.printer.proofs.Pages.{page-ready, page-put}
 use Rattle.printer.proofs.Writes.{text-short, text-put}

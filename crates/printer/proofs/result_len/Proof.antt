@@ -5,7 +5,7 @@ use Rattle.checks.specs.Words.{capped}
 use Rattle.text.specs.Print.{fields}
 use Rattle.printer.specs.PrivateWriter.{textOf}
 use Rattle.printer.specs.declared.page.Line.{Line}
-use Rattle.blocks.proofs.Block.{Counts, counts, first-three}
+use Rattle.checks.proofs.SheetBlock.{Counts, counts, first-three}
 use Rattle.printer.proofs.Pages.{order-count, length-measured}
 use Rattle.printer.proofs.result_len.Statement.{statement}
 use Rattle.printer.proofs.result_len.Tie as tie

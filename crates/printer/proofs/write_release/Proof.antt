@@ -3,7 +3,7 @@ use Rattle.lists.proofs.Kit.{arith, needs, via}
 use Rattle.text.proofs.SecondLines.{one-of-two}
 use Rattle.text.specs.Right.{SheetNumbers}
 use Rattle.text.proofs.Rows.{words-held}
-use Rattle.blocks.proofs.Block.{on-sheet}
+use Rattle.checks.proofs.SheetBlock.{on-sheet}
 use Rattle.printer.proofs.Writes.{refused-block-by, refused-named, accepted-by, named-good}
 use Rattle.printer.proofs.write_release.Statement.{statement}
 use Rattle.printer.proofs.write_release.Tie as tie

@@ -2,7 +2,7 @@
 use Rattle.lists.proofs.Kit.{arith, needs, via}
 use Rattle.text.specs.Right.{SheetNumbers}
 use Rattle.text.proofs.Rows.{words-held}
-use Rattle.blocks.proofs.Block.{on-sheet}
+use Rattle.checks.proofs.SheetBlock.{on-sheet}
 use Rattle.printer.proofs.Writes.{refused-block, refused-order, accepted}
 use Rattle.printer.proofs.write_result.Statement.{statement}
 use Rattle.printer.proofs.write_result.Tie as tie

@@ -5,8 +5,8 @@ use mir.Syntax.{w64}
 use mir.Val.{toZ}
 use mir.Facts.{toZ-ofZ}
 use Rattle.refusals.specs.Conditions.{some}
-use Rattle.signed.specs.Signed.{beyond as far}
-use Rattle.signed.proofs.Ends.{back}
+use Rattle.desk.specs.Signed.{beyond as far}
+use Rattle.desk.proofs.Ends.{back}
 use Rattle.desk.proofs.limits.some_beyond.Statement.{statement}
 use Rattle.desk.proofs.limits.some_beyond.Tie as tie
 

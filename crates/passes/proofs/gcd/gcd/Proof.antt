@@ -1,7 +1,7 @@
 -- `gcd` meets its contract: each turn of the loop keeps the greatest common divisor, and the remainder falls.
 use Rattle.lists.proofs.Kit.{_≡_, refl, sym, ap, _∙_, mod-lt, arith, needs}
-use Rattle.numbers.specs.Gcd.{gcdOf}
-use Rattle.numbers.proofs.Gcd.{gcd-step, gcd-end}
+use Rattle.flat.specs.Gcd.{gcdOf}
+use Rattle.flat.proofs.Gcd.{gcd-step, gcd-end}
 use Rattle.passes.proofs.gcd.gcd.Statement.{statement}
 use Rattle.passes.proofs.gcd.gcd.Tie as tie
 

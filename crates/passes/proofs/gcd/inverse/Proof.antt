@@ -1,7 +1,7 @@
 -- `inverse` meets its contract: v times a leaves y modulo b and u times a leaves x, and at the end y is the greatest common divisor, 1.
 use Rattle.lists.proofs.Kit.{_≡_, sym, ap, _∙_, ℕ, _*_, _/_, _%_, _<_, _≤_, arith, mod-lt, mod-self, mod-eq-of-lt, zero-mul, zero-mod, one-mul, div-le-self, mul-le-mul, needs}
-use Rattle.numbers.specs.Gcd.{gcdOf}
-use Rattle.numbers.proofs.Gcd.{gcd-step, gcd-end}
+use Rattle.flat.specs.Gcd.{gcdOf}
+use Rattle.flat.proofs.Gcd.{gcd-step, gcd-end}
 use Rattle.walks.proofs.Remainders.{times-reduced}
 use Rattle.walks.proofs.Inverse.{less, inverse-step}
 use Rattle.passes.proofs.gcd.inverse.Statement.{statement}

@@ -1,7 +1,7 @@
 -- `put_rows` meets its contract. The loop's invariant: the rows left lead to all rows.
 use Rattle.lists.proofs.Kit.{arith, _≡_, _+_, _-_, _*_, _≤_, length, drop, needs}
 use Rattle.text.specs.Sheet.{rowsText}
-use Rattle.blocks.proofs.Block.{room-left}
+use Rattle.checks.proofs.SheetBlock.{room-left}
 use Rattle.printer.proofs.Puts.{Leads, leads-start}
 use Rattle.printer.proofs.Pages.{next-row-room, next-row-put, all-rows-put}
 use Rattle.printer.proofs.page.put_rows.Statement.{statement}

@@ -2,7 +2,7 @@
 use Rattle.lists.proofs.Kit.{_≡_, ap, ℕ, _<_, _≤_, arith, length, getD, needs}
 use Rattle.refusals.proofs.Conditions.{length-at}
 use Rattle.printer.specs.PrivateWriter.{shapeLineOf}
-use Rattle.blocks.proofs.Block.{just-four}
+use Rattle.checks.proofs.SheetBlock.{just-four}
 use Rattle.printer.proofs.page.shape_line.Statement.{statement}
 use Rattle.printer.proofs.page.shape_line.Tie as tie
 

@@ -1,6 +1,6 @@
 -- `rows_into` meets its contract: the rows are those of the lengths, and they are stored only where all of them are right.
 use Rattle.lists.proofs.Kit.{_≡_, ap, _∙_, arith, length, length-sets, needs}
-use Rattle.blocks.proofs.Block.{Counts, counts, first-three, rows-fit}
+use Rattle.checks.proofs.SheetBlock.{Counts, counts, first-three, rows-fit}
 use Rattle.sheet.proofs.RowsFrom.{page-stands, rows-kept, rows-stored}
 use Rattle.sheet.proofs.rows.rows_into.Statement.{statement}
 use Rattle.sheet.proofs.rows.rows_into.Tie as tie

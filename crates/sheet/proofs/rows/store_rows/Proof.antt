@@ -1,5 +1,5 @@
 -- `store_rows` meets its contract. The loop's invariant: storing the words of the rows left behind those stored is storing all words.
-use Rattle.blocks.proofs.Block.{room-left}
+use Rattle.checks.proofs.SheetBlock.{room-left}
 use Rattle.sheet.proofs.RowsFrom.{no-words}
 use Rattle.lists.proofs.Kit.{arith, _≡_, refl, sym, ap, _∙_, List, [], ℕ, _+_, _-_, _*_, _≤_, length, drop, sets, length-sets, needs}
 use Rattle.text.specs.Meaning.{rowLines}

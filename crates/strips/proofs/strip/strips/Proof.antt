@@ -1,6 +1,6 @@
 -- `strip::strips` meets its contract. The loop's invariant: the first t blocks are turned; the measure is how many are left.
 use Rattle.lists.proofs.Kit.{_≡_, refl, _∙_, _+_, _*_, _-_, _≤_, arith, length, needs}
-use Rattle.halves.proofs.Blocks.{TurnedTo, turned-none, all-turned}
+use Rattle.strips.proofs.Blocks.{TurnedTo, turned-none, all-turned}
 use Rattle.strips.proofs.Tiles.{block-inside, block-more}
 use Rattle.strips.proofs.Bounds.{narrow-places, one-narrow}
 use Rattle.strips.proofs.strip.strips.Statement.{statement}

@@ -1,4 +1,0 @@
--- the checks of a sheet's block
-pub mod Checks
--- for private functions only: a block that a sheet may have
-pub mod Private

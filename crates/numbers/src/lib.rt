@@ -1,1 +1,0 @@
-// Divisors and remainders: definitions and laws, no function.
