@@ -38,9 +38,6 @@ strips-turn-back-once t = let (x, y, z) = passes.OneOutcome.turn-back-once (t .f
 pub swap-once : Once strips.swap.Kinds.ps strips.swap.Kinds.r strips.swap.Reads.Post
 swap-once t = let (x, y, z) = refusals.Swap.swap-once (t .first) (t .second) in (x, λ i. (y i, (z i, _)))
 
-pub clear-once : Once passes.clear.Kinds.ps passes.clear.Kinds.r passes.clear.Reads.Post
-clear-once t = let (x, y) = passes.OneOutcome.clear-once (t .first) (t .second) in (x, λ i. (y i, _))
-
 pub lines-once : Once passes.lines.Kinds.ps passes.lines.Kinds.r passes.lines.Reads.Post
 lines-once t = (passes.OneTick.lines-once (t .first) (t .second), refl)
 

@@ -5,7 +5,7 @@ use Rattle.flat.specs.Turn.{sides}
 use Rattle.flat.proofs.Turn.{one-turn}
 use Rattle.refusals.specs.Scratch.{need}
 use Rattle.refusals.proofs.Calls.{block-good, room-passed}
-use Rattle.passes.specs.Promises.{TurnPromise, TurnBackPromise}
+use Rattle.flat.specs.Promises.{TurnPromise, TurnBackPromise}
 use Rattle.passes.proofs.ThereAndBack as passes
 use Rattle.halves.specs.Promise as halves
 use Rattle.outcomes.specs.Calls.{TurnCall, TurnBackCall, RecursionCall}

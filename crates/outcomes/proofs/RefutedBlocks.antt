@@ -1,4 +1,4 @@
--- Wrong versions of the calls that lay a block out afresh, as tables: the turns, the swap, the chains and the requests; and of clearing scratch. Of the request,
+-- Wrong versions of the calls that lay a block out afresh, as tables: the turns, the swap, the chains and the requests. Of the request,
 -- that it cannot be seen whether 4 or 7 comes first: 4 never holds beside 7.
 use Rattle.lists.proofs.Kit.{_≡_, refl, ap, _∙_, Bool, true, false, cond, List, [], _∷_, ℕ, _-_, arith, eqb, length, take, replicate, List·getD-eq-default, ltb-true, le-ltb, upto}
 use Rattle.layout.specs.Layout.{volume, at, pick, placeOf, places, coords, laid}
@@ -8,14 +8,13 @@ use Rattle.orders.specs.Releases.{orderBy}
 use Rattle.orders.specs.Plans.{under, falling, relabelled, firstBack, planned, planOf}
 use Rattle.orders.specs.Needs.{swapNeed, chainNeed, planNeed}
 use Rattle.orders.proofs.Distinct.{count-orders, count-pos}
-use Rattle.refusals.specs.FirstOf.{check}
 use Rattle.refusals.specs.Conditions.{longest, shortScratch, noOrder, firstPlace}
 use Rattle.refusals.specs.Calls.{swapBlock, passesChecks, recursionChecks, swapChecks, chainChecks, requestChecks}
 use Rattle.refusals.specs.Scratch.{need, cleared}
 use Rattle.refusals.specs.Promise.{middle, SwapPromise}
 use Rattle.flat.specs.Turn.{sides, across}
 use Rattle.halves.specs.Promise as halves
-use Rattle.passes.specs.Promises.{TurnPromise, TurnBackPromise, ClearPromise}
+use Rattle.flat.specs.Promises.{TurnPromise, TurnBackPromise}
 use Rattle.axes.specs.declared.Answer.{Answer}
 use Rattle.axes.specs.Answers.{accepted, refused, refusedPlace}
 use Rattle.axes.specs.Promises.{ChainPromise, RequestPromise}
@@ -42,11 +41,6 @@ abbrev pub turn-halves : ℕ → ℕ → List ℕ → Case (Slice ℕ)
 turn-halves m n b =
     replacing {checks = recursionChecks (sides m n) b} (laid-out (sides m n) across (0 ∷ []) b) b (halves.TurnPromise m n b)
     (λ o p. record { number-is = p .number; words = p .words; kept = p .kept })
-
-abbrev pub clear : ℕ → List ℕ → Case (Slice ℕ)
-clear n s =
-    replacing {checks = check 4 (shortScratch n s) ∷ []} (exactly (λ _. cleared n s)) s (ClearPromise n s)
-    (λ o p. record { number-is = p .number-is; words = p .zeroed; kept = p .kept })
 
 -- the calls on axes, with their answers
 abbrev pub chain : ℕ → List ℕ → List ℕ → List ℕ → List ℕ → Case (Block Answer)
@@ -188,10 +182,6 @@ slices =
     ∷ late "turn_halves/two-before-one" (turn-halves 4097 4096 []) 2 1
     ∷ late "turn_halves/three-before-two" (turn-halves 4096 257 []) 3 2
     ∷ late "turn_halves/thirteen-before-one" (turn-halves 0 3 (7 ∷ [])) 13 1
-    ∷ refuses "clear/refuses-always" (clear 3 (replicate 3 9))
-    ∷ wrong "clear/clears-nothing" (clear 2 (replicate 3 9)) words (replicate 3 9)
-    ∷ wrong "clear/clears-too-far" (clear 2 (replicate 3 9)) words (replicate 3 0)
-    ∷ wrong "clear/clears-what-there-is" (clear 4 (replicate 3 9)) words (replicate 3 0)
     ∷ []
 
 pub slices-refuted : Refuted slices

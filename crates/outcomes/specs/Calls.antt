@@ -4,7 +4,7 @@ use mathlib.Core.Path.{_≡_}
 use mathlib.Core.List.{List}
 use Prim.Native.Nat.{ℕ}
 use lib.ListN.{length}
-use Rattle.passes.specs.Promises.{TurnPromise, TurnBackPromise}
+use Rattle.flat.specs.Promises.{TurnPromise, TurnBackPromise}
 use Rattle.halves.specs.Promise as halves
 use Rattle.axes.specs.declared.Answer.{Answer}
 use Rattle.axes.specs.Promises.{ChainPromise, RequestPromise}

@@ -5,7 +5,7 @@ use Rattle.refusals.proofs.Promise.{one-outcome}
 use Rattle.flat.proofs.Turn.{one-turn}
 use Rattle.stages.specs.Stages.{Memory}
 use Rattle.passes.specs.Restart.{ResumePromise}
-use Rattle.passes.specs.Promises.{TurnPromise, TurnBackPromise, ClearPromise}
+use Rattle.flat.specs.Promises.{TurnPromise, TurnBackPromise}
 
 -- number, buffer and scratch are the same
 abbrev pub Same : ℕ → ℕ → List ℕ → List ℕ → List ℕ → List ℕ → Type 0
@@ -28,9 +28,6 @@ one-answer {r = r} e e′ z z′ k k′ =
     (λ (h : r ≡ 0). (same, z h ∙ sym (z′ (sym same ∙ h))))
     (λ (h : r ≡ 0 → ⊥). (same, k h ∙ sym (k′ (λ q. h (same ∙ q)))))
     (eq-or-ne r 0)
-
-pub clear-once : {n r r′ : ℕ} {s₀ s s′ : List ℕ} → ClearPromise n s₀ r s → ClearPromise n s₀ r′ s′ → (r ≡ r′) × (s ≡ s′)
-clear-once p q = one-answer (p .number-is) (q .number-is) (p .zeroed) (q .zeroed) (p .kept) (q .kept)
 
 pub resume-once : {m n budget r r′ : ℕ} {x y y′ : Memory} → ResumePromise m n budget x r y → ResumePromise m n budget x r′ y′ → (r ≡ r′) × (y ≡ y′)
 resume-once p q = one-answer (p .number-is) (q .number-is) (p .stored) (q .stored) (p .kept) (q .kept)

@@ -20,7 +20,7 @@ use Rattle.stages.proofs.Stops.{restart-from, stops-within, stops-long, call-st
 use Rattle.stages.proofs.Moves as moves
 use Rattle.passes.specs.Lines.{Moved, lineCount, lineOf, skipped, posOn, received, LineMoved}
 use Rattle.passes.specs.PrivateScratch.{Fits}
-use Rattle.passes.specs.Promises.{TurnPromise}
+use Rattle.flat.specs.Promises.{TurnPromise}
 use Rattle.passes.specs.Restart.{memory, turnLines, turnStages, resumeChecks, ResumePromise, Finished, Restarts}
 use Rattle.passes.specs.Restart.Restarts.{none, more}
 use Rattle.passes.proofs.Accepted.{Accepted, flat-accepted, flat-lies}

@@ -7,7 +7,7 @@ use Rattle.refusals.specs.Promise.{Rearranged}
 use Rattle.refusals.proofs.Calls.{block-good, room-passed}
 use Rattle.flat.specs.Turn.{sides, Turn}
 use Rattle.flat.proofs.Turn.{one-turn, turn-home}
-use Rattle.passes.specs.Promises.{TurnPromise, TurnBackPromise}
+use Rattle.flat.specs.Promises.{TurnPromise, TurnBackPromise}
 
 -- an accepted turn of k by l, then one of l by k, under the checks of m by n: accepted, every word home
 restored : (m n k l : ℕ) {r : ℕ} {b₀ s₀ b₁ s₁ t₁ b₂ t₂ : List ℕ} → need (sides m n) ≤ length t₁

@@ -12,7 +12,7 @@ ghost use Prim.Native.Nat.{_≤_};
 ghost use lib.ListN.{length};
 ghost use Rattle.refusals.specs.Scratch.{need, cleared};
 ghost use Rattle.flat.specs.Turn.{sides};
-ghost use Rattle.passes.specs.Promises.{TurnPromise, TurnBackPromise, ClearPromise};
+ghost use Rattle.flat.specs.Promises.{TurnPromise, TurnBackPromise};
 ghost use Rattle.passes.specs.PrivateScratch.{TurnsPromise};
 ghost use Rattle.passes.specs.Ticks.{LinesPromise, TickPromise};
 ghost use Rattle.passes.specs.Steps.{StepPromise};
@@ -141,17 +141,6 @@ pub fn resume(
         return 23;
     }
     restart::go_on(buf, scratch, progress, s, budget);
-    0
-}
-
-// Zeroes the first n words of scratch and answers 0; answers 4 where there are fewer.
-pub fn clear(scratch: &mut [u32], n: usize) -> u32
-    ensures { λ r. ⌜ ClearPromise n (now (scratch .entry)) r (now (scratch .exit)) ⌝ }
-{
-    if scratch.len() < n {
-        return 4;
-    }
-    moves::zero(scratch, 0, n);
     0
 }
 

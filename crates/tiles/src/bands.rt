@@ -30,16 +30,6 @@ struct Rows {
     pub step: usize,
 }
 
-// The smaller of a tile's side and what is left of the block's.
-fn smaller(side: usize, left: usize) -> usize
-    ensures { λ r. ⌜ r ≡ min side left ⌝ }
-{
-    if side < left {
-        return side;
-    }
-    left
-}
-
 // The rows from column j on of the tile that it lies in, in a band of so many rows and columns.
 fn rows_from(rows: usize, columns: usize, width: usize, j: usize) -> Rows
     requires { ⌜ (j < columns) × Aligned columns width j × (rows * columns ≤ 1048576) ⌝ }
@@ -51,7 +41,7 @@ fn rows_from(rows: usize, columns: usize, width: usize, j: usize) -> Rows
             step: columns,
         };
     }
-    let step = smaller(width, columns - j);
+    let step = moves::smaller(width, columns - j);
     Rows { at: rows * j, step }
 }
 
@@ -89,10 +79,10 @@ fn lay(buf: &mut [u32], scratch: &[u32], b: Band)
     requires { ⌜ BandFits b (now buf) (now scratch) ⌝ }
     ensures { λ _. ⌜ LaidTo b (b .columns) (λ p. getD (now (scratch .entry)) p 0) (now (buf .entry)) (now (buf .exit)) ⌝ }
 {
-    let step = smaller(b.from, b.to);
+    let step = moves::smaller(b.from, b.to);
     let mut j = 0;
     while j < b.columns {
-        let wide = smaller(step, b.columns - j);
+        let wide = moves::smaller(step, b.columns - j);
         lay_piece(buf, scratch, b, j, wide);
         j += step;
     }
@@ -114,7 +104,7 @@ fn move_bands(buf: &mut [u32], scratch: &mut [u32], t: Tiling)
 {
     let mut i = 0;
     while i < t.rows {
-        let rows = smaller(t.height, t.rows - i);
+        let rows = moves::smaller(t.height, t.rows - i);
         let b = Band {
             first: i * t.columns,
             rows,
