@@ -1,14 +1,11 @@
 -- These definitions serve only the contracts of private functions: a reader of the promises can pass over them.
 use mathlib.Core.Path.{_≡_}
-use mathlib.Core.Bool.{cond}
 use mathlib.Core.List.{List}
 use Prim.Native.Nat.{ℕ, _+_, _<_, _≤_}
-use lib.Dec.{eqb}
 use lib.ListN.{length}
 use Rattle.orders.specs.Needs.{swapNeed}
 use Rattle.refusals.specs.FirstOf.{firstOf}
 use Rattle.refusals.specs.Calls.{blockChecks}
-use Rattle.axes.specs.declared.Answer.{Answer}
 
 -- a number of axes that has tables
 abbrev pub FourOrFive : ℕ → Type 0

@@ -1,6 +1,6 @@
 -- Merge by halves: where the first h runs of each kind and the last g runs of each kind are merged by themselves, all are.
 -- Each offset lies in one of the two halves and is read there.
-use Rattle.lists.proofs.Kit.{_≡_, refl, sym, ap, _∙_, subst, List, _++_, ⊎-elim, ℕ, _+_, _-_, _*_, _≤_, _<_, arith, add-mul, mul-add, one-mul, zero-mul, length, getD, List·getD-append, length-append, getD-append-add, digits-lt, lt-or-ge}
+use Rattle.lists.proofs.Kit.{_≡_, refl, sym, ap, _∙_, subst, List, _++_, ⊎-elim, ℕ, _+_, _-_, _*_, _≤_, _<_, arith, add-mul, mul-add, one-mul, zero-mul, length, getD, length-append, digits-lt, lt-or-ge}
 use Rattle.lists.proofs.Parts.{in-front, behind}
 use Rattle.halves.specs.Merge.{Merged}
 

@@ -1,6 +1,6 @@
 -- The join desk: one outcome each, because those of the promises are one. Choosing hands back a reference, whose ghost name no promise can fix: of it the
 -- statement is that both point to one place and have the same readings there.
-use Rattle.lists.proofs.Kit.{_≡_, refl, sym, _∙_, List}
+use Rattle.lists.proofs.Kit.{_≡_, refl, List}
 use denote.Ref.{RefT}
 use lib.IntN.{ℤ}
 use Rattle.desk.specs.Parts.{SamePart}

@@ -10,7 +10,7 @@ use Rattle.orders.specs.Needs.{swapNeed, chainNeed, planNeed}
 use Rattle.orders.proofs.Distinct.{count-orders, count-pos}
 use Rattle.refusals.specs.Conditions.{longest, shortScratch, noOrder, firstPlace}
 use Rattle.refusals.specs.Calls.{swapBlock, passesChecks, recursionChecks, swapChecks, chainChecks, requestChecks}
-use Rattle.refusals.specs.Scratch.{need, cleared}
+use Rattle.refusals.specs.Scratch.{need}
 use Rattle.refusals.specs.Promise.{middle, SwapPromise}
 use Rattle.flat.specs.Turn.{sides, across}
 use Rattle.halves.specs.Promise as halves
@@ -21,7 +21,7 @@ use Rattle.axes.specs.Promises.{ChainPromise, RequestPromise}
 use Rattle.outcomes.specs.Wrong.{Case, Row, Refuted}
 use Rattle.outcomes.proofs.Wrong.{refuted}
 use Rattle.outcomes.specs.Wrong.Row.{wrong, gives, late, refuses}
-use Rattle.outcomes.proofs.Shapes.{Block, buffer, scratch, Slice, words, exactly, laid-out, moving, rearranging, replacing}
+use Rattle.outcomes.proofs.Shapes.{Block, buffer, scratch, Slice, words, laid-out, moving, rearranging, replacing}
 
 -- the calls on a flat block and the swap, which answer a number
 module _ (m n : ℕ) (b s : List ℕ) where

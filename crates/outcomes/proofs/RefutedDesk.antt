@@ -1,7 +1,7 @@
 -- Wrong versions of the join desk, as tables: rounding around zero, a delay of zero, the ends of the common frames, the order of checks; and of choosing, ties
 -- between and within the paths, and parts that hold the right readings elsewhere. A signed number stands in a table as a natural one. Of a part that is handed
 -- back the ghost name is left open; the exchange that is chosen stands in the entry, and the test sees that it wins.
-use Rattle.lists.proofs.Kit.{_≡_, refl, sym, _∙_, Bool, true, cond, List, [], _∷_, _++_, ℕ, zero, suc, _+_, _*_, _^_, arith, T, length}
+use Rattle.lists.proofs.Kit.{_≡_, refl, sym, _∙_, Bool, true, List, [], _∷_, _++_, ℕ, zero, suc, _+_, _*_, _^_, arith, T, length}
 use base.Fml.{GName}
 use denote.Ref.{RefT}
 use lib.IntN.{ℤ, pos, negsuc}
@@ -10,7 +10,7 @@ use Rattle.refusals.specs.FirstOf.{firstOf}
 use Rattle.desk.specs.declared.Measured.{Measured}
 use Rattle.desk.specs.declared.Frames.{Frames}
 use Rattle.desk.specs.declared.Joined.{Joined}
-use Rattle.desk.specs.Conditions.{farReading, measureChecks, framesChecks, joinChecks}
+use Rattle.desk.specs.Conditions.{measureChecks, framesChecks, joinChecks}
 use Rattle.desk.specs.Exchange.{offsetOf, delayOf}
 use Rattle.desk.specs.Frames.{nearestFrame}
 use Rattle.desk.specs.Shifts.{through, largest, endOf}
@@ -24,7 +24,7 @@ use Rattle.outcomes.specs.Wrong.{Case, Row, Refuted}
 use Rattle.outcomes.proofs.Wrong.{refuted}
 use Rattle.outcomes.specs.Wrong.Row.{wrong, gives, late, refuses}
 use Rattle.outcomes.proofs.Tested.{Tested, less, holds, also, hence, where-true, at-each}
-use Rattle.outcomes.proofs.Shapes.{value, numbered, answering, by-number}
+use Rattle.outcomes.proofs.Shapes.{numbered, answering, by-number}
 
 -- twice a number, and one more than twice for those below zero
 abbrev code : ℤ → ℕ

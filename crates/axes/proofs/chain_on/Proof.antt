@@ -28,17 +28,12 @@ module _ (x : tie.Start) where
 
 returns : tie.Need-returns
 returns c =
-    let f : tie.After-first-above = search in
-    let n : tie.After-chain-number = search in
-    let x : tie.Start = search in
+    let f : tie.After-first-above = search in let n : tie.After-chain-number = search in let x : tie.Start = search in
     chain-refused (x .args .axes) (c .refusal .ensures) (λ e. omega arith) (via (search) (answered x (n .chain-number .ensures))) (f .first-above .ensures)
 
 returns-2 : tie.Need-returns-2
 returns-2 c =
-    let t : tie.Then2 = search in
-    let l : tie.Else1 = search in
-    let n : tie.After-chain-number = search in
-    let x : tie.Start = search in
+    let t : tie.Then2 = search in let l : tie.Else1 = search in let n : tie.After-chain-number = search in let x : tie.Start = search in
     let number = n .chain-number .result in
     let nowhere : 0 ≡ refusedPlace (x .args .axes) number (x .args .swaps .now) = rw (ne-eqb number 6 (l .if1 .left)) in
     chain-refused (x .args .axes) (c .refusal2 .ensures) (t .if2 .taken) (answered x (n .chain-number .ensures)) nowhere

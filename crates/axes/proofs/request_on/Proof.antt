@@ -51,9 +51,7 @@ unnamed m =
 
 returns : tie.Need-returns
 returns c =
-    let t : tie.Then1 = search in
-    let n : tie.After-block-number = search in
-    let x : tie.Start = search in
+    let t : tie.Then1 = search in let n : tie.After-block-number = search in let x : tie.Start = search in
     request-refused (x .args .axes) (c .refusal .ensures) (t .if1 .taken)
     (by-block (lengths x) (x .args .buf .now) (last x) (n .block-number .ensures) (t .if1 .taken))
     refl
@@ -61,9 +59,7 @@ returns c =
 returns-2 : tie.Need-returns-2
 unfolding entry
 returns-2 c =
-    let t : tie.Then2 = search in
-    let m : tie.After-named-number = search in
-    let n : tie.After-block-number = search in
+    let t : tie.Then2 = search in let m : tie.After-named-number = search in let n : tie.After-block-number = search in
     let x = entry m in
     request-refused (x .args .axes) (c .refusal2 .ensures) (t .if2 .taken)
     (refused-by (namedChecks (x .args .axes) (x .args .release) (x .args .order)) (room x) (unnamed m) (t .if2 .taken)
@@ -96,9 +92,7 @@ slice-aggregate-chain-on c = let p : tie.After-plan-of = search in plan-count (f
 returns-3 : tie.Need-returns-3
 unfolding start entry
 returns-3 c =
-    let r : tie.After-chain-on = search in
-    let p : tie.After-plan-of = search in
-    let n : tie.After-number-by = search in
+    let r : tie.After-chain-on = search in let p : tie.After-plan-of = search in let n : tie.After-number-by = search in
     let x = start p in
     request-named (x .args .axes) (x .args .release) (x .args .order) (named p) (few (x .pre)) (n .number-by .ensures) (p .plan-of .ensures) (given p)
     (r .chain-on .ensures) (c .asked .ensures)

@@ -19,8 +19,7 @@ mul-zero c =
 
 returns-2 : tie.Need-returns-2
 returns-2 c =
-    let z : tie.After-zero = search in
-    let r : tie.After-close = search in
+    let z : tie.After-zero = search in let r : tie.After-close = search in
     let h = checked (search) (search via) in
     accepted (search via) (removed (r .close .ensures) (z .zero .ensures .inside (omega (arith, h, r .close .ensures .same))))
 

@@ -13,20 +13,17 @@ abbrev μ-loop : tie.MeasureT-loop
 
 returns : tie.Need-returns Inv-loop μ-loop
 returns c =
-    let l : tie.At-loop Inv-loop μ-loop = search in
-    let s : tie.Start Inv-loop μ-loop = search in
+    let l : tie.At-loop Inv-loop μ-loop = search in let s : tie.Start Inv-loop μ-loop = search in
     sym (l .loop .inv .1 ∙ some-here outOfRange (s .args .lens .now) (l .loop .k) (omega arith) (search via))
 
 loop-again : tie.Need-loop-again Inv-loop μ-loop
 loop-again c =
-    let l : tie.At-loop Inv-loop μ-loop = search in
-    let s : tie.Start Inv-loop μ-loop = search in
+    let l : tie.At-loop Inv-loop μ-loop = search in let s : tie.Start Inv-loop μ-loop = search in
     (omega arith, l .loop .inv .1 ∙ some-past outOfRange (s .args .lens .now) (l .loop .k) (omega arith) (search via))
 
 returns-2 : tie.Need-returns-2 Inv-loop μ-loop
 returns-2 c =
-    let l : tie.At-loop Inv-loop μ-loop = search in
-    let s : tie.Start Inv-loop μ-loop = search in
+    let l : tie.At-loop Inv-loop μ-loop = search in let s : tie.Start Inv-loop μ-loop = search in
     sym (l .loop .inv .1 ∙ some-end outOfRange (s .args .lens .now) (l .loop .k) (omega arith))
 
 pub bad-length-spec : {M : Type 1} → statement M

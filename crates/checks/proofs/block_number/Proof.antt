@@ -21,8 +21,7 @@ module _ (s : tie.Start) (e : firstOf (sizeChecks (s .args .lens .now)) ≡ 0) w
 
 returns : tie.Need-returns
 returns c =
-    let n : tie.After-size-number = search in
-    let s : tie.Start = search in
+    let n : tie.After-size-number = search in let s : tie.Start = search in
     let lens = s .args .lens .now in
     refused-by (sizeChecks lens) (exactChecks lens (s .args .buf .now)) (n .size-number .ensures) (c .if1 .taken)
 

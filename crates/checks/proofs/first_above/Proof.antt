@@ -16,22 +16,19 @@ loop-holds c = (omega arith, omega arith)
 
 returns : tie.Need-returns Inv-loop μ-loop
 returns c =
-    let l : tie.At-loop Inv-loop μ-loop = search in
-    let s : tie.Start Inv-loop μ-loop = search in
+    let l : tie.At-loop Inv-loop μ-loop = search in let s : tie.Start Inv-loop μ-loop = search in
     let xs = s .args .numbers .now in
     omega (arith, first-here (ltb (s .args .last)) xs (l .loop .k) (omega arith) (lt-ltb (s .args .last) (getD xs (l .loop .k) 0) (search)))
 
 loop-again : tie.Need-loop-again Inv-loop μ-loop
 loop-again c =
-    let l : tie.At-loop Inv-loop μ-loop = search in
-    let s : tie.Start Inv-loop μ-loop = search in
+    let l : tie.At-loop Inv-loop μ-loop = search in let s : tie.Start Inv-loop μ-loop = search in
     let xs = s .args .numbers .now in
     (omega arith, omega (arith, first-past (ltb (s .args .last)) xs (l .loop .k) (omega arith) (le-ltb (s .args .last) (getD xs (l .loop .k) 0) (search))))
 
 returns-2 : tie.Need-returns-2 Inv-loop μ-loop
 returns-2 c =
-    let l : tie.At-loop Inv-loop μ-loop = search in
-    let s : tie.Start Inv-loop μ-loop = search in
+    let l : tie.At-loop Inv-loop μ-loop = search in let s : tie.Start Inv-loop μ-loop = search in
     omega (arith, first-end (ltb (s .args .last)) (s .args .numbers .now) (l .loop .k) (omega arith))
 
 pub first-above-spec : {M : Type 1} → statement M

@@ -22,14 +22,12 @@ entry-none ds c i h = rw (drop-end c i h)
 
 loop-again : tie.Need-loop-again Inv-loop μ-loop
 loop-again c =
-    let l : tie.At-loop Inv-loop μ-loop = search in
-    let s : tie.Start Inv-loop μ-loop = search in
+    let l : tie.At-loop Inv-loop μ-loop = search in let s : tie.Start Inv-loop μ-loop = search in
     (omega arith, omega (arith, entry-next (s .args .lens .now) (s .args .swaps .now) (l .loop .i) (omega arith)))
 
 returns : tie.Need-returns Inv-loop μ-loop
 returns c =
-    let l : tie.At-loop Inv-loop μ-loop = search in
-    let s : tie.Start Inv-loop μ-loop = search in
+    let l : tie.At-loop Inv-loop μ-loop = search in let s : tie.Start Inv-loop μ-loop = search in
     let lens = s .args .lens .now in
     let swaps = s .args .swaps .now in
     omega (arith, entry-none lens swaps (l .loop .i) (omega arith), need-at-entry lens swaps)

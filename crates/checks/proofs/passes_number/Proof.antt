@@ -6,8 +6,7 @@ use Rattle.checks.proofs.passes_number.Tie as tie
 
 returns : tie.Need-returns
 returns c =
-    let b : tie.After-block-number = search in
-    let x : tie.Start = search in
+    let b : tie.After-block-number = search in let x : tie.Start = search in
     block-refused (x .args .lens .now) (x .args .buf .now) (x .args .scratch .now) (b .block-number .ensures) (c .if1 .taken)
 
 returns-2 : tie.Need-returns-2

@@ -14,8 +14,7 @@ returns c =
 
 returns-2 : tie.Need-returns-2
 returns-2 c =
-    let w : tie.After-words-of = search in
-    let s : tie.Start = search in
+    let w : tie.After-words-of = search in let s : tie.Start = search in
     let v = volume (s .args .lens .now) in
     let good : badLength (s .args .lens .now) ≡ false = search via in
     let e = w .words-of .ensures in
@@ -23,8 +22,7 @@ returns-2 c =
 
 returns-3 : tie.Need-returns-3
 returns-3 c =
-    let w : tie.After-words-of = search in
-    let s : tie.Start = search in
+    let w : tie.After-words-of = search in let s : tie.Start = search in
     let v = volume (s .args .lens .now) in
     let good : badLength (s .args .lens .now) ≡ false = search via in
     let e = w .words-of .ensures ∙ cut v .few (omega (arith, w .words-of .ensures)) in

@@ -25,8 +25,7 @@ loop-holds c = (omega arith, omega arith, rw one-mul)
 
 loop-again : tie.Need-loop-again Inv-loop μ-loop
 loop-again c =
-    let a : tie.After-times Inv-loop μ-loop = search in
-    let l : tie.At-loop Inv-loop μ-loop = search in
+    let a : tie.After-times Inv-loop μ-loop = search in let l : tie.At-loop Inv-loop μ-loop = search in
     let s : tie.Start Inv-loop μ-loop = search in
     let lens = s .args .lens .now in
     let k = l .loop .k in
@@ -43,8 +42,7 @@ loop-again c =
 
 returns : tie.Need-returns Inv-loop μ-loop
 returns c =
-    let l : tie.At-loop Inv-loop μ-loop = search in
-    let s : tie.Start Inv-loop μ-loop = search in
+    let l : tie.At-loop Inv-loop μ-loop = search in let s : tie.Start Inv-loop μ-loop = search in
     let w = l .loop .words in
     let none : volume (drop (l .loop .k) (s .args .lens .now)) ≡ 1 = volume-none (s .args .lens .now) (l .loop .k) (omega arith) in
     sym (sym (l .loop .inv .2) ∙ rw (none, mul-one w) (capped-low w (l .loop .inv .1)))

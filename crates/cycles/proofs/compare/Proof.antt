@@ -19,8 +19,7 @@ length-of-requires c κs = let i : tie.After-inverse-of Inv-loop μ-loop = searc
 
 loop-again : tie.Need-loop-again Inv-loop μ-loop
 loop-again c =
-    let l : tie.At-loop Inv-loop μ-loop = search in
-    let s : tie.Start Inv-loop μ-loop = search in
+    let l : tie.At-loop Inv-loop μ-loop = search in let s : tie.Start Inv-loop μ-loop = search in
     passed-over (s .args .m) (s .args .n) (s .args .list .now) (l .loop .inv) (search) (search via)
 
 pair-is-requires : tie.Need-pair-is-requires Inv-loop μ-loop
@@ -28,10 +27,8 @@ pair-is-requires c κs = let l : tie.At-loop Inv-loop μ-loop = search in omega 
 
 returns : tie.Need-returns Inv-loop μ-loop
 returns c =
-    let p : tie.After-pair-is Inv-loop μ-loop = search in
-    let k : tie.After-length-of Inv-loop μ-loop = search in
-    let l : tie.At-loop Inv-loop μ-loop = search in
-    let s : tie.Start Inv-loop μ-loop = search in
+    let p : tie.After-pair-is Inv-loop μ-loop = search in let k : tie.After-length-of Inv-loop μ-loop = search in
+    let l : tie.At-loop Inv-loop μ-loop = search in let s : tie.Start Inv-loop μ-loop = search in
     another (s .args .m) (s .args .n) (s .args .list .now) (l .loop .inv) (search) _ (k .length-of .ensures) (search) (via (not-true _ (c .if2 .taken)) (p .pair-is .ensures))
 
 add-place : tie.Need-add-place Inv-loop μ-loop
@@ -39,10 +36,8 @@ add-place c = let l : tie.At-loop Inv-loop μ-loop = search in omega (arith, l .
 
 loop-again-2 : tie.Need-loop-again-2 Inv-loop μ-loop
 loop-again-2 c =
-    let p : tie.After-pair-is Inv-loop μ-loop = search in
-    let k : tie.After-length-of Inv-loop μ-loop = search in
-    let l : tie.At-loop Inv-loop μ-loop = search in
-    let s : tie.Start Inv-loop μ-loop = search in
+    let p : tie.After-pair-is Inv-loop μ-loop = search in let k : tie.After-length-of Inv-loop μ-loop = search in
+    let l : tie.At-loop Inv-loop μ-loop = search in let s : tie.Start Inv-loop μ-loop = search in
     found (s .args .m) (s .args .n) (s .args .list .now) (l .loop .inv) (search) _ (k .length-of .ensures) (search) (via (not-false _ (c .if2 .left)) (p .pair-is .ensures))
 
 mul-if3 : tie.Need-mul-if3 Inv-loop μ-loop
@@ -50,14 +45,12 @@ mul-if3 c = let l : tie.At-loop Inv-loop μ-loop = search in record { fits = ome
 
 returns-2 : tie.Need-returns-2 Inv-loop μ-loop
 returns-2 c =
-    let l : tie.At-loop Inv-loop μ-loop = search in
-    let s : tie.Start Inv-loop μ-loop = search in
+    let l : tie.At-loop Inv-loop μ-loop = search in let s : tie.Start Inv-loop μ-loop = search in
     surplus (s .args .m) (s .args .n) (s .args .list .now) (l .loop .inv) (search) (search)
 
 returns-3 : tie.Need-returns-3 Inv-loop μ-loop
 returns-3 c =
-    let l : tie.At-loop Inv-loop μ-loop = search in
-    let s : tie.Start Inv-loop μ-loop = search in
+    let l : tie.At-loop Inv-loop μ-loop = search in let s : tie.Start Inv-loop μ-loop = search in
     whole (s .args .m) (s .args .n) (s .args .list .now) (l .loop .inv) (search) (search)
 
 pub compare-spec : {M : Type 1} → statement M

@@ -31,38 +31,32 @@ loop-holds c = let s : tie.Start Inv-loop μ-loop = search in starts (takes-perm
 
 step-requires-2 : tie.Need-step-requires-2 Inv-loop μ-loop
 step-requires-2 c κs =
-    let l : tie.At-loop Inv-loop μ-loop = search in
-    let s : tie.Start Inv-loop μ-loop = search in
+    let l : tie.At-loop Inv-loop μ-loop = search in let s : tie.Start Inv-loop μ-loop = search in
     (s .pre .0, s .pre .1, low (takes-permutes (s .args .m) (s .args .n)) (s .args .x) (s .pre .2) (l .loop .inv))
 
 add-count : tie.Need-add-count Inv-loop μ-loop
 add-count c =
-    let l : tie.At-loop Inv-loop μ-loop = search in
-    let s : tie.Start Inv-loop μ-loop = search in
+    let l : tie.At-loop Inv-loop μ-loop = search in let s : tie.Start Inv-loop μ-loop = search in
     omega (arith, l .loop .inv .before, most (takes-permutes (s .args .m) (s .args .n)) (s .args .x) (s .pre .2))
 
 loop-less : tie.Need-loop-less Inv-loop μ-loop
 loop-less c =
-    let l : tie.At-loop Inv-loop μ-loop = search in
-    let s : tie.Start Inv-loop μ-loop = search in
+    let l : tie.At-loop Inv-loop μ-loop = search in let s : tie.Start Inv-loop μ-loop = search in
     omega (arith, goes-on (takes-permutes (s .args .m) (s .args .n)) (s .args .x) (s .pre .2) (l .loop .inv) (search) refl .before)
 
 loop-again : tie.Need-loop-again Inv-loop μ-loop
 loop-again c =
-    let l : tie.At-loop Inv-loop μ-loop = search in
-    let s : tie.Start Inv-loop μ-loop = search in
+    let l : tie.At-loop Inv-loop μ-loop = search in let s : tie.Start Inv-loop μ-loop = search in
     goes-on (takes-permutes (s .args .m) (s .args .n)) (s .args .x) (s .pre .2) (l .loop .inv) (search) (c .step2 .ensures)
 
 returns : tie.Need-returns Inv-loop μ-loop
 returns c =
-    let l : tie.At-loop Inv-loop μ-loop = search in
-    let s : tie.Start Inv-loop μ-loop = search in
+    let l : tie.At-loop Inv-loop μ-loop = search in let s : tie.Start Inv-loop μ-loop = search in
     not-least-length (s .args .m) (s .args .n) (s .args .x) (below-not-least (takes-permutes (s .args .m) (s .args .n)) (s .args .x) (s .pre .2) (l .loop .inv) (search))
 
 returns-2 : tie.Need-returns-2 Inv-loop μ-loop
 returns-2 c =
-    let l : tie.At-loop Inv-loop μ-loop = search in
-    let s : tie.Start Inv-loop μ-loop = search in
+    let l : tie.At-loop Inv-loop μ-loop = search in let s : tie.Start Inv-loop μ-loop = search in
     let p = takes-permutes (s .args .m) (s .args .n) in
     least-length (s .args .m) (s .args .n) (s .args .x) (home-least p (s .args .x) (s .pre .2) (l .loop .inv) (omega arith)) (home-whole p (s .args .x) (s .pre .2) (l .loop .inv) (omega arith))
 

@@ -9,14 +9,12 @@ returns c = let s : tie.Start = search in sym (pair-short (s .args .place) (s .a
 
 returns-2 : tie.Need-returns-2
 returns-2 c =
-    let w : tie.After-as-count = search in
-    let s : tie.Start = search in
+    let w : tie.After-as-count = search in let s : tie.Start = search in
     sym (other-start (s .args .place) (s .args .start) (s .args .count) (s .args .list .now) (omega arith) (λ e. omega (arith, w .as-count .ensures)))
 
 returns-3 : tie.Need-returns-3
 returns-3 c =
-    let w : tie.After-as-count = search in
-    let s : tie.Start = search in
+    let w : tie.After-as-count = search in let s : tie.Start = search in
     ap (λ (z : ℕ). eqb z (s .args .count)) (c .as-count2 .ensures)
     ∙ sym (same-start (s .args .place) (s .args .start) (s .args .count) (s .args .list .now) (omega arith) (omega (arith, w .as-count .ensures)))
 

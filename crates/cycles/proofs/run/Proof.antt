@@ -19,15 +19,13 @@ returns-2 c =
 
 follow-all-requires : tie.Need-follow-all-requires
 follow-all-requires c κs =
-    let k : tie.After-compare = search in
-    let s : tie.Start = search in
+    let k : tie.After-compare = search in let s : tie.Start = search in
     let b = block-small (s .args .m) (s .args .n) (s .args .buf .now) (search via) in
     (b .0, k .compare .ensures .right (search) .0, b .1)
 
 returns-3 : tie.Need-returns-3
 returns-3 c =
-    let a : tie.After-follow-all = search in
-    let k : tie.After-compare = search in
+    let a : tie.After-follow-all = search in let k : tie.After-compare = search in
     run-right _ _ _ _ (search via) (k .compare .ensures) (search) (a .follow-all .ensures)
 
 pub run-spec : {M : Type 1} → statement M

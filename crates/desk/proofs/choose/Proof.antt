@@ -33,15 +33,12 @@ returns c =
 
 exchange-of-requires : tie.Need-exchange-of-requires
 exchange-of-requires c κs =
-    let e : tie.Else1 = search in
-    let p : tie.After-chosen-at = search in
+    let e : tie.Else1 = search in let p : tie.After-chosen-at = search in
     on-first (p .chosen-at .ensures) (e .if1 .left) (c .if2 .taken) .best .within
 
 returns-2 : tie.Need-returns-2
 returns-2 c =
-    let x : tie.After-exchange-of = search in
-    let t : tie.Then2 = search in
-    let e : tie.Else1 = search in
+    let x : tie.After-exchange-of = search in let t : tie.Then2 = search in let e : tie.Else1 = search in
     let p : tie.After-chosen-at = search in
     record {
       given = λ _. of-first (p .chosen-at .result .exchange) (on-first (p .chosen-at .ensures) (e .if1 .left) (t .if2 .taken)) (x .exchange-of .ensures);
@@ -50,15 +47,12 @@ returns-2 c =
 
 exchange-of-requires-2 : tie.Need-exchange-of-requires-2
 exchange-of-requires-2 c κs =
-    let e : tie.Else1 = search in
-    let p : tie.After-chosen-at = search in
+    let e : tie.Else1 = search in let p : tie.After-chosen-at = search in
     on-second (p .chosen-at .ensures) (e .if1 .left) (c .if2 .left) .best .within
 
 returns-3 : tie.Need-returns-3
 returns-3 c =
-    let x : tie.After-exchange-of2 = search in
-    let t : tie.Else2 = search in
-    let e : tie.Else1 = search in
+    let x : tie.After-exchange-of2 = search in let t : tie.Else2 = search in let e : tie.Else1 = search in
     let p : tie.After-chosen-at = search in
     record {
       given = λ _. of-second (p .chosen-at .result .exchange) (on-second (p .chosen-at .ensures) (e .if1 .left) (t .if2 .left)) (x .exchange-of2 .ensures);

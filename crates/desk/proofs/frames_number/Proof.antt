@@ -14,19 +14,13 @@ returns-2 c =
 
 returns-3 : tie.Need-returns-3
 returns-3 c =
-    let b : tie.After-beyond = search in
-    let e2 : tie.Else2 = search in
-    let e1 : tie.Else1 = search in
-    let s : tie.Start = search in
+    let b : tie.After-beyond = search in let e2 : tie.Else2 = search in let e1 : tie.Else1 = search in let s : tie.Start = search in
     let found = rw (toZ-ofZ (s .fits .offset)) at (b .beyond .ensures) in
     rw (ne-eqb _ _ (e1 .if1 .left), le-ltb _ _ (e2 .if2 .left), sym found ∙ c .if3 .taken)
 
 returns-4 : tie.Need-returns-4
 returns-4 c =
-    let b : tie.After-beyond = search in
-    let e2 : tie.Else2 = search in
-    let e1 : tie.Else1 = search in
-    let s : tie.Start = search in
+    let b : tie.After-beyond = search in let e2 : tie.Else2 = search in let e1 : tie.Else1 = search in let s : tie.Start = search in
     let found = rw (toZ-ofZ (s .fits .offset)) at (b .beyond .ensures) in
     rw (ne-eqb _ _ (e1 .if1 .left), le-ltb _ _ (e2 .if2 .left), sym found ∙ c .if3 .left)
 

@@ -74,8 +74,7 @@ module _ (shifts : List ℤ) (frames : ℕ) (good : ShiftsNear shifts frames) wh
 
 returns : tie.Need-returns
 returns c =
-    let n : tie.After-shifts-number = search in
-    let s : tie.Start = search in
+    let n : tie.After-shifts-number = search in let s : tie.Start = search in
     let last = check 20 (noCommon (s .args .shifts .now) (s .args .frames)) ∷ [] in
     refused (refused-by (shiftChecks (s .args .shifts .now) (s .args .frames)) last (n .shifts-number .ensures) (c .if1 .taken)) (c .if1 .taken)
 
@@ -92,23 +91,20 @@ cast-end c =
 
 add-end : tie.Need-add-end
 add-end c =
-    let p : tie.After-span-of = search in
-    let s : tie.Start = search in
+    let p : tie.After-span-of = search in let s : tie.Start = search in
     let e = p .span-of .ensures in
     sum-fits _ _ (shifted (s .args .shifts .now) (s .args .frames) (search via)) _ _ (e .0) (e .1)
 
 returns-2 : tie.Need-returns-2
 returns-2 c =
-    let p : tie.After-span-of = search in
-    let s : tie.Start = search in
+    let p : tie.After-span-of = search in let s : tie.Start = search in
     let e = p .span-of .ensures in
     let g = shifted (s .args .shifts .now) (s .args .frames) (search via) in
     refused (sym (number _ _ g true (tested _ _ g _ _ (e .0) (e .1) true (c .if2 .taken)))) (λ z. omega arith)
 
 returns-3 : tie.Need-returns-3
 returns-3 c =
-    let p : tie.After-span-of = search in
-    let s : tie.Start = search in
+    let p : tie.After-span-of = search in let s : tie.Start = search in
     let e = p .span-of .ensures in
     let g = shifted (s .args .shifts .now) (s .args .frames) (search via) in
     accepted (number _ _ g false (tested _ _ g _ _ (e .0) (e .1) false (c .if2 .left))) (ends-kept _ _ g _ _ (e .0) (e .1))

@@ -9,15 +9,13 @@ returns c = rw (ne-eqb _ _ (c .if1 .taken))
 
 returns-2 : tie.Need-returns-2
 returns-2 c =
-    let f : tie.Else1 = search in
-    let s : tie.Start = search in
+    let f : tie.Else1 = search in let s : tie.Start = search in
     let far : farReading (s .args .run .now) ≡ true = search via in
     rw (eq-eqb _ _ (f .if1 .left), far)
 
 returns-3 : tie.Need-returns-3
 returns-3 c =
-    let f : tie.Else1 = search in
-    let s : tie.Start = search in
+    let f : tie.Else1 = search in let s : tie.Start = search in
     let near : farReading (s .args .run .now) ≡ false = search via in
     rw (eq-eqb _ _ (f .if1 .left), near)
 

@@ -49,8 +49,7 @@ module _ (c : tie.Else1) where
 
 returns : tie.Need-returns
 returns c =
-    let n : tie.After-frames-number = search in
-    let s : tie.Start = search in
+    let n : tie.After-frames-number = search in let s : tie.Start = search in
     refused (rw (toZ-ofZ (s .fits .offset)) at (n .frames-number .ensures)) (c .if1 .taken)
 
 cast-t : tie.Need-cast-t

@@ -17,8 +17,7 @@ module _ (room chunk places : ℕ) (h : 0 < places) where
 
 mul-places : tie.Need-mul-places
 mul-places c =
-    let b : tie.After-bad-side2 = search in
-    let a : tie.After-bad-side = search in
+    let b : tie.After-bad-side2 = search in let a : tie.After-bad-side = search in
     record { fits = omega (arith, mul-le-mul (a .bad-side .ensures .0 (search) .1) (b .bad-side2 .ensures .0 (search) .1)) }
 
 returns-5 : tie.Need-returns-5
@@ -27,8 +26,7 @@ returns-5 c =
 
 returns-7 : tie.Need-returns-7
 returns-7 c =
-    let b : tie.After-bad-side2 = search in
-    let a : tie.After-bad-side = search in
+    let b : tie.After-bad-side2 = search in let a : tie.After-bad-side = search in
     let rows = a .bad-side .ensures .0 (search) in
     let columns = b .bad-side2 .ensures .0 (search) in (
       λ e. record {

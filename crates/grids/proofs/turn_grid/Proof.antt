@@ -11,9 +11,7 @@ returns c =
 
 returns-2 : tie.Need-returns-2
 returns-2 c =
-    let z : tie.After-zero = search in
-    let d : tie.After-turned = search in
-    let t : tie.After-refused = search in
+    let z : tie.After-zero = search in let d : tie.After-turned = search in let t : tie.After-refused = search in
     record {
       turned = λ f. (refl, d .turned .ensures .0, all-zero (z .zero .ensures .inside (omega arith)) ∙ ap (λ (k : ℕ). replicate k 0) (d .turned .ensures .1));
       kept = λ never. absurd (never (t .refused .ensures .0 (search)));

@@ -16,8 +16,7 @@ loop-holds c = starts _ _ (omega arith)
 
 mul-power : tie.Need-mul-power Inv-loop μ-loop
 mul-power c =
-    let l : tie.At-loop Inv-loop μ-loop = search in
-    let s : tie.Start Inv-loop μ-loop = search in
+    let l : tie.At-loop Inv-loop μ-loop = search in let s : tie.Start Inv-loop μ-loop = search in
     let low = within (s .args .m) (s .args .n) (omega arith) (l .loop .inv) in
     let few : l .loop .power ≤ 1048576 = omega (arith, low .0) in
     let side : s .args .m ≤ 4096 = omega arith in
@@ -25,26 +24,22 @@ mul-power c =
 
 add-count : tie.Need-add-count Inv-loop μ-loop
 add-count c =
-    let l : tie.At-loop Inv-loop μ-loop = search in
-    let s : tie.Start Inv-loop μ-loop = search in
+    let l : tie.At-loop Inv-loop μ-loop = search in let s : tie.Start Inv-loop μ-loop = search in
     omega (arith, within (s .args .m) (s .args .n) (omega arith) (l .loop .inv) .1)
 
 loop-less : tie.Need-loop-less Inv-loop μ-loop
 loop-less c =
-    let l : tie.At-loop Inv-loop μ-loop = search in
-    let s : tie.Start Inv-loop μ-loop = search in
+    let l : tie.At-loop Inv-loop μ-loop = search in let s : tie.Start Inv-loop μ-loop = search in
     omega (arith, goes-on (s .args .m) (s .args .n) (omega arith) (l .loop .inv) (search) .before)
 
 loop-again : tie.Need-loop-again Inv-loop μ-loop
 loop-again c =
-    let l : tie.At-loop Inv-loop μ-loop = search in
-    let s : tie.Start Inv-loop μ-loop = search in
+    let l : tie.At-loop Inv-loop μ-loop = search in let s : tie.Start Inv-loop μ-loop = search in
     goes-on (s .args .m) (s .args .n) (omega arith) (l .loop .inv) (search)
 
 returns-2 : tie.Need-returns-2 Inv-loop μ-loop
 returns-2 c =
-    let l : tie.At-loop Inv-loop μ-loop = search in
-    let s : tie.Start Inv-loop μ-loop = search in
+    let l : tie.At-loop Inv-loop μ-loop = search in let s : tie.Start Inv-loop μ-loop = search in
     let one : l .loop .power ≡ 1 = search in
     record { large = λ big. ends-at (s .args .m) (s .args .n) big (rw one at (l .loop .inv)); small = λ few. absurd (omega arith) }
 

@@ -12,8 +12,7 @@ count-of-requires c κs = sized-two _ _ (search via)
 
 returns-2 : tie.Need-returns-2
 returns-2 c =
-    let k : tie.After-count-of = search in
-    let s : tie.Start = search in
+    let k : tie.After-count-of = search in let s : tie.Start = search in
     let accepted : firstOf (sizeChecks (sides (s .args .m) (s .args .n))) ≡ 0 = search via in
     record { number-is = sym accepted; counted = λ _. k .count-of .ensures; refused = λ n. absurd (n refl) }
 

@@ -30,9 +30,7 @@ five a = search needs
 
 returns-2 : tie.Need-returns-2
 returns-2 c =
-    let a : tie.After-run = search in
-    let e : tie.Else1 = search in
-    let r : tie.After-read = search in
+    let a : tie.After-run = search in let e : tie.Else1 = search in let r : tie.After-read = search in
     met-accepted (omega arith) (omega arith) (omega arith) (taken (r .read .ensures) (e .if1 .left) .1) (a .run .ensures)
     (first-four (a .run .result .lengths) (omega (arith, five a)))
     (c .write-result .ensures)

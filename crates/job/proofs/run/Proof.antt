@@ -9,21 +9,17 @@ four x = search needs
 
 slice-relend-prefix-chain : tie.Need-slice-relend-prefix-chain
 slice-relend-prefix-chain c =
-    let w : tie.After-words-of = search in
-    let x : tie.Start = search in
+    let w : tie.After-words-of = search in let x : tie.Start = search in
     inside _ (x .args .words .now) (x .pre .0) (x .pre .1) (w .words-of .ensures)
 
 slice-aggregate-chain : tie.Need-slice-aggregate-chain
 slice-aggregate-chain c =
-    let w : tie.After-words-of = search in
-    let x : tie.Start = search in
+    let w : tie.After-words-of = search in let x : tie.Start = search in
     as-long _ _ (x .pre .0) (x .pre .1) (w .words-of .ensures)
 
 returns : tie.Need-returns
 returns c =
-    let r : tie.After-chain = search in
-    let w : tie.After-words-of = search in
-    let x : tie.Start = search in
+    let r : tie.After-chain = search in let w : tie.After-words-of = search in let x : tie.Start = search in
     ran-on _ _ (x .pre .0) (x .pre .1) (w .words-of .ensures) (of-four (x .args .t3) (four x)) (r .chain .ensures)
 
 pub run-spec : {M : Type 1} → statement M

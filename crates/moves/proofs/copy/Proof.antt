@@ -6,9 +6,7 @@ use Rattle.moves.proofs.copy.Tie as tie
 
 returns-3 : tie.Need-returns-3
 returns-3 c =
-    let m : tie.After-copied = search in
-    let q : tie.After-past2 = search in
-    let p : tie.After-past = search in
+    let m : tie.After-copied = search in let q : tie.After-past2 = search in let p : tie.After-past = search in
     made (p .past .ensures .0 (search), q .past2 .ensures .0 (search)) (m .copied .ensures)
 
 pub copy-spec : {M : Type 1} → statement M

@@ -5,8 +5,7 @@ use Rattle.moves.proofs.overlap.Tie as tie
 
 returns : tie.Need-returns
 returns c =
-    let d : tie.After-distance = search in
-    let s : tie.Start = search in
+    let d : tie.After-distance = search in let s : tie.Start = search in
     let x = s .args .x in
     let y = s .args .y in
     let way = d .distance .result in

@@ -6,16 +6,13 @@ use Rattle.moves.proofs.trade.Tie as tie
 
 trade-words-requires : tie.Need-trade-words-requires
 trade-words-requires c κs =
-    let t : tie.After-overlap = search in
-    let o : tie.After-outside = search in
+    let t : tie.After-overlap = search in let o : tie.After-outside = search in
     let inside = o .outside .ensures .0 (search) in
     (inside .0, inside .1, t .overlap .ensures .0 (search))
 
 returns-3 : tie.Need-returns-3
 returns-3 c =
-    let m : tie.After-trade-words = search in
-    let t : tie.After-overlap = search in
-    let o : tie.After-outside = search in
+    let m : tie.After-trade-words = search in let t : tie.After-overlap = search in let o : tie.After-outside = search in
     let inside = o .outside .ensures .0 (search) in
     made (inside .0, inside .1, t .overlap .ensures .0 (search)) (m .trade-words .ensures)
 

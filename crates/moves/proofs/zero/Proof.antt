@@ -16,8 +16,7 @@ zero-words-requires c κs =
 
 returns-2 : tie.Need-returns-2
 returns-2 c =
-    let z : tie.After-zero-words = search in
-    let p : tie.After-past = search in
+    let z : tie.After-zero-words = search in let p : tie.After-past = search in
     made (p .past .ensures .0 (search)) (z .zero-words .ensures)
 
 pub zero-spec : {M : Type 1} → statement M

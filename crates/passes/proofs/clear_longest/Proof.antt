@@ -6,9 +6,7 @@ use Rattle.passes.proofs.clear_longest.Tie as tie
 
 returns : tie.Need-returns
 returns c =
-    let z : tie.After-zero = search in
-    let l : tie.After-longest-of = search in
-    let x : tie.Start = search in
+    let z : tie.After-zero = search in let l : tie.After-longest-of = search in let x : tie.Start = search in
     zero-cleared (x .pre) (rw (l .longest-of .ensures) at (z .zero .ensures))
 
 pub clear-longest-spec : {M : Type 1} → statement M

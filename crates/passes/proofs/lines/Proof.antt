@@ -14,8 +14,7 @@ group-sides-requires c κs = let x : tie.Start = search in sized-sides (x .args 
 
 returns-2 : tie.Need-returns-2
 returns-2 c =
-    let s : tie.After-group-sides = search in
-    let l : tie.After-line-count = search in
+    let s : tie.After-group-sides = search in let l : tie.After-line-count = search in
     record { number-is = sym (search via); given = λ _. counted (s .group-sides .ensures) (l .line-count .ensures); refusal = λ k. absurd (k refl) }
 
 pub lines-spec : {M : Type 1} → statement M

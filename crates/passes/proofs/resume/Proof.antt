@@ -13,8 +13,7 @@ entry x = memory (x .args .buf .now) (x .args .scratch .now) (x .args .progress 
 
 returns : tie.Need-returns
 returns c =
-    let n : tie.After-passes-number = search in
-    let x : tie.Start = search in
+    let n : tie.After-passes-number = search in let x : tie.Start = search in
     let a = x .args in
     resume-refused (by-flat (a .m) (a .n) (entry x) (n .passes-number .ensures) (search)) (search)
 
@@ -23,25 +22,19 @@ group-sides-requires c κs = let x : tie.Start = search in let a = x .args in om
 
 returns-2 : tie.Need-returns-2
 returns-2 c =
-    let t : tie.After-stage-count = search in
-    let s : tie.After-group-sides = search in
-    let x : tie.Start = search in
+    let t : tie.After-stage-count = search in let s : tie.After-group-sides = search in let x : tie.Start = search in
     let a = x .args in
     resume-refused (past-end (a .m) (a .n) (entry x) (search via) (omega (arith, stages-of (s .group-sides .ensures) (t .stage-count .ensures)))) (λ z. omega arith)
 
 go-on-requires : tie.Need-go-on-requires
 go-on-requires c κs =
-    let t : tie.After-stage-count = search in
-    let s : tie.After-group-sides = search in
-    let x : tie.Start = search in
+    let t : tie.After-stage-count = search in let s : tie.After-group-sides = search in let x : tie.Start = search in
     let a = x .args in
     (mapped (s .group-sides .ensures) (flat-accepted (a .m) (a .n) (a .buf .now) (a .scratch .now) (search via)), omega (arith, t .stage-count .ensures))
 
 returns-3 : tie.Need-returns-3
 returns-3 c =
-    let g : tie.After-go-on = search in
-    let t : tie.After-stage-count = search in
-    let s : tie.After-group-sides = search in
+    let g : tie.After-go-on = search in let t : tie.After-stage-count = search in let s : tie.After-group-sides = search in
     let x : tie.Start = search in
     let a = x .args in
     resumed (s .group-sides .ensures) (search via) (omega (arith, t .stage-count .ensures)) (g .go-on .ensures)

@@ -15,9 +15,7 @@ checked x = flat-accepted _ _ _ _
 
 returns-2 : tie.Need-returns-2
 returns-2 c =
-    let z : tie.After-clear-longest = search in
-    let t : tie.After-turn-at = search in
-    let s : tie.After-group-sides = search in
+    let z : tie.After-clear-longest = search in let t : tie.After-turn-at = search in let s : tie.After-group-sides = search in
     let x : tie.Start = search in
     turned-outcome (s .group-sides .ensures) (x .args .home) (search via) (z .clear-longest .ensures) (t .turn-at .ensures)
 

@@ -6,8 +6,7 @@ use Rattle.plans.proofs.plan_of.Tie as tie
 
 returns : tie.Need-returns
 returns c =
-    let p : tie.After-planned-swaps = search in
-    let f : tie.After-falling-pairs = search in
+    let p : tie.After-planned-swaps = search in let f : tie.After-falling-pairs = search in
     as-planned _ (f .falling-pairs .ensures) (p .planned-swaps .ensures)
 
 pub plan-of-spec : {M : Type 1} → statement M

@@ -37,9 +37,7 @@ three c = let x : tie.Start = search in first-three (x .args .t1) (four x)
 
 result-requires : tie.Need-result-requires
 result-requires c κs =
-    let w : tie.After-words-of = search in
-    let l : tie.After-order-line = search in
-    let s : tie.After-shape-line = search in
+    let w : tie.After-words-of = search in let l : tie.After-order-line = search in let s : tie.After-shape-line = search in
     let x : tie.Start = search in
     let rows = w .words-of .ensures ∙ known x .rows in
     page-ready (x .args .t1) (x .args .release) (x .args .order) (x .args .words .now) (four x) (s .shape-line .ensures) (l .order-line .ensures) rows
@@ -50,11 +48,8 @@ same-length c = let r : tie.After-result = search in put-length (r .result .ensu
 
 returns-2 : tie.Need-returns-2
 returns-2 c =
-    let r : tie.After-result = search in
-    let w : tie.After-words-of = search in
-    let l : tie.After-order-line = search in
-    let s : tie.After-shape-line = search in
-    let x : tie.Start = search in
+    let r : tie.After-result = search in let w : tie.After-words-of = search in let l : tie.After-order-line = search in
+    let s : tie.After-shape-line = search in let x : tie.Start = search in
     text-put (text x) (x .args .out .now) (omega arith)
     (page-put (x .args .t1) (x .args .release) (x .args .order) (x .args .words .now) (four x) (s .shape-line .ensures) (l .order-line .ensures)
     (w .words-of .ensures ∙ known x .rows) (r .result .ensures))

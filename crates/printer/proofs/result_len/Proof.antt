@@ -31,8 +31,7 @@ order-line-requires c κs = let x : tie.Start = search in (x .pre .1, x .pre .2)
 
 head-len-requires-2 : tie.Need-head-len-requires-2
 head-len-requires-2 c κs =
-    let o : tie.After-order-line = search in
-    let x : tie.Start = search in
+    let o : tie.After-order-line = search in let x : tie.Start = search in
     rw (o .order-line .ensures) (order-count (x .args .release) (x .args .order))
 
 -- as many words as the block has
@@ -43,21 +42,17 @@ part-long x {size} e =
 
 part : tie.Need-slice-aggregate-words-len
 part c =
-    let s : tie.After-words-of = search in
-    let x : tie.Start = search in
+    let s : tie.After-words-of = search in let x : tie.Start = search in
     sym (part-long x (s .words-of .ensures) .0)
 
 words-len-requires : tie.Need-words-len-requires
 words-len-requires c κs =
-    let s : tie.After-words-of = search in
-    let x : tie.Start = search in
+    let s : tie.After-words-of = search in let x : tie.Start = search in
     omega (arith, part-long x (s .words-of .ensures))
 
 returns : tie.Need-returns
 returns c =
-    let o : tie.After-order-line = search in
-    let s : tie.After-shape-line = search in
-    let w : tie.After-words-of = search in
+    let o : tie.After-order-line = search in let s : tie.After-shape-line = search in let w : tie.After-words-of = search in
     let x : tie.Start = search in
     let first = ap (λ (k : Line). length (textOf k)) (s .shape-line .ensures) in
     let second = ap (λ (k : Line). length (textOf k)) (o .order-line .ensures) in

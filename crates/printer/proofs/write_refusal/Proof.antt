@@ -22,8 +22,7 @@ same-length c = let p : tie.After-put-line = search in put-length (p .put-line .
 
 returns-2 : tie.Need-returns-2
 returns-2 c =
-    let p : tie.After-put-line = search in
-    let x : tie.Start = search in
+    let p : tie.After-put-line = search in let x : tie.Start = search in
     refusal-fits (x .args .number) (x .args .place) (x .args .out .now) (omega (arith, length-refusal (x .args .number) (x .args .place)))
     (rw refusal-line (p .put-line .ensures))
 

@@ -10,16 +10,12 @@ chain-at-requires c κs = c .shape-at .ensures .inside
 
 rows-into-requires : tie.Need-rows-into-requires
 rows-into-requires c κs =
-    let s : tie.After-chain-at = search in
-    let f : tie.After-shape-at = search in
-    let x : tie.Start = search in
+    let s : tie.After-chain-at = search in let f : tie.After-shape-at = search in let x : tie.Start = search in
     rows-next chainLine (x .args .words .now) (x .args .bytes .now) (f .shape-at .ensures) (s .chain-at .ensures)
 
 returns : tie.Need-returns
 returns c =
-    let r : tie.After-rows-into = search in
-    let s : tie.After-chain-at = search in
-    let f : tie.After-shape-at = search in
+    let r : tie.After-rows-into = search in let s : tie.After-chain-at = search in let f : tie.After-shape-at = search in
     let x : tie.Start = search in
     as-sheet (page-read chainLine (x .args .words .now) (x .args .bytes .now) (f .shape-at .ensures) (s .chain-at .ensures) (r .rows-into .ensures))
 

@@ -10,24 +10,18 @@ order-at-requires c κs = c .shape-at .ensures .inside
 
 rows-into-requires : tie.Need-rows-into-requires
 rows-into-requires c κs =
-    let s : tie.After-order-at = search in
-    let f : tie.After-shape-at = search in
-    let x : tie.Start = search in
+    let s : tie.After-order-at = search in let f : tie.After-shape-at = search in let x : tie.Start = search in
     rows-next orderLine (x .args .words .now) (x .args .bytes .now) (f .shape-at .ensures) (s .order-at .ensures)
 
 returns : tie.Need-returns
 returns c =
-    let r : tie.After-rows-into = search in
-    let s : tie.After-order-at = search in
-    let f : tie.After-shape-at = search in
+    let r : tie.After-rows-into = search in let s : tie.After-order-at = search in let f : tie.After-shape-at = search in
     let x : tie.Start = search in
     as-result (page-read orderLine (x .args .words .now) (x .args .bytes .now) (f .shape-at .ensures) (s .order-at .ensures) (r .rows-into .ensures)) (lt-ltb 1 (r .rows-into .result .count) (search))
 
 returns-2 : tie.Need-returns-2
 returns-2 c =
-    let r : tie.After-rows-into = search in
-    let s : tie.After-order-at = search in
-    let f : tie.After-shape-at = search in
+    let r : tie.After-rows-into = search in let s : tie.After-order-at = search in let f : tie.After-shape-at = search in
     let x : tie.Start = search in
     as-result (page-read orderLine (x .args .words .now) (x .args .bytes .now) (f .shape-at .ensures) (s .order-at .ensures) (r .rows-into .ensures)) (le-ltb 1 (r .rows-into .result .count) (search))
 

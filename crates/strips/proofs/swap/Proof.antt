@@ -15,9 +15,7 @@ checked x = swappable _ _ _ _ _ _
 
 returns-2 : tie.Need-returns-2
 returns-2 c =
-    let z : tie.After-zero = search in
-    let n : tie.After-longest-of = search in
-    let t : tie.After-blocks2 = search in
+    let z : tie.After-zero = search in let n : tie.After-longest-of = search in let t : tie.After-blocks2 = search in
     let k = checked (search) (search via) in
     accepted (search via) (t .blocks2 .ensures .0) (cleared-words (n .longest-of .ensures) (k .room) (z .zero .ensures))
 

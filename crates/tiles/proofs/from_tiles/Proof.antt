@@ -7,8 +7,7 @@ use Rattle.tiles.proofs.from_tiles.Tie as tie
 
 returns-2 : tie.Need-returns-2
 returns-2 c =
-    let v : tie.After-convert = search in
-    let x : tie.Start = search in
+    let v : tie.After-convert = search in let x : tie.Start = search in
     from-outcome (x .args .m) (x .args .n) (x .args .r) (x .args .s) (search via) (v .convert .ensures)
 
 pub from-tiles-spec : {M : Type 1} → statement M

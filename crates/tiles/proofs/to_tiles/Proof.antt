@@ -7,8 +7,7 @@ use Rattle.tiles.proofs.to_tiles.Tie as tie
 
 returns-2 : tie.Need-returns-2
 returns-2 c =
-    let v : tie.After-convert = search in
-    let x : tie.Start = search in
+    let v : tie.After-convert = search in let x : tie.Start = search in
     to-outcome (x .args .m) (x .args .n) (x .args .r) (x .args .s) (search via) (v .convert .ensures)
 
 pub to-tiles-spec : {M : Type 1} → statement M

@@ -12,21 +12,17 @@ still-five f = search needs
 
 returns : tie.Need-returns
 returns c =
-    let f : tie.After-first = search in
-    let x : tie.Start = search in
+    let f : tie.After-first = search in let x : tie.Start = search in
     none-exchanged (x .args .axes) (x .args .k) (x .args .self .lengths) (five x) (f .first .ensures) (inr (omega arith))
 
 returns-2 : tie.Need-returns-2
 returns-2 c =
-    let f : tie.After-first = search in
-    let x : tie.Start = search in
+    let f : tie.After-first = search in let x : tie.Start = search in
     none-exchanged (x .args .axes) (x .args .k) (x .args .self .lengths) (five x) (f .first .ensures) (inl (omega arith))
 
 returns-3 : tie.Need-returns-3
 returns-3 c =
-    let e : tie.After-exchange-at = search in
-    let f : tie.After-first = search in
-    let x : tie.Start = search in
+    let e : tie.After-exchange-at = search in let f : tie.After-first = search in let x : tie.Start = search in
     two-exchanged (x .args .axes) (x .args .k) (x .args .self .lengths) (five x) (f .first .ensures) (omega arith) (omega arith) (e .exchange-at .ensures)
 
 pub swapped-spec : {M : Type 1} → statement M

@@ -45,14 +45,12 @@ module _ (x : tie.Start) where
 
 returns : tie.Need-returns
 returns c =
-    let n : tie.After-block-number = search in
-    let x : tie.Start = search in
+    let n : tie.After-block-number = search in let x : tie.Start = search in
     by-block (lengths x) (x .args .buf .now) (last x) (n .block-number .ensures) (search)
 
 bad-swap : tie.Need-returns-3
 bad-swap c =
-    let f : tie.After-first-above = search in
-    let x : tie.Start = search in
+    let f : tie.After-first-above = search in let x : tie.Start = search in
     bad x (search via) (omega arith) (omega (arith, f .first-above .ensures))
 
 returns-4 : tie.Need-returns-4

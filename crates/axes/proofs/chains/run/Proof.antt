@@ -31,8 +31,7 @@ loop-holds c = let x : tie.Start Inv-loop μ-loop = search in (refl, omega arith
 
 swap-at-requires : tie.Need-swap-at-requires Inv-loop μ-loop
 swap-at-requires c κs =
-    let l : tie.At-loop Inv-loop μ-loop = search in
-    let x : tie.Start Inv-loop μ-loop = search in
+    let l : tie.At-loop Inv-loop μ-loop = search in let x : tie.Start Inv-loop μ-loop = search in
     record {
       place = rw (as-many _ (axes x) _ _ _ (l .loop .inv .2)) (good x (l .loop .i) (omega arith));
       block = still-accepted _ (axes x) _ _ _ (l .loop .inv .2) (accepts x);
@@ -41,10 +40,8 @@ swap-at-requires c κs =
 
 loop-again : tie.Need-loop-again Inv-loop μ-loop
 loop-again c =
-    let n : tie.After-swapped Inv-loop μ-loop = search in
-    let s : tie.After-swap-at Inv-loop μ-loop = search in
-    let b : tie.In-loop Inv-loop μ-loop = search in
-    let l : tie.At-loop Inv-loop μ-loop = search in
+    let n : tie.After-swapped Inv-loop μ-loop = search in let s : tie.After-swap-at Inv-loop μ-loop = search in
+    let b : tie.In-loop Inv-loop μ-loop = search in let l : tie.At-loop Inv-loop μ-loop = search in
     let x : tie.Start Inv-loop μ-loop = search in
     let made = s .swap-at .ensures in (
       refl,
@@ -57,8 +54,7 @@ same-length c = let l : tie.At-loop Inv-loop μ-loop = search in l .loop .inv .2
 
 returns : tie.Need-returns Inv-loop μ-loop
 returns c =
-    let f : tie.After-first Inv-loop μ-loop = search in
-    let l : tie.At-loop Inv-loop μ-loop = search in
+    let f : tie.After-first Inv-loop μ-loop = search in let l : tie.At-loop Inv-loop μ-loop = search in
     let x : tie.Start Inv-loop μ-loop = search in
     finished _ (axes x) _ _ _ (l .loop .inv .2) (omega arith) (accepts x) (f .first .ensures)
 

@@ -12,9 +12,7 @@ slice-aggregate-words-of c = let x : tie.Start = search in sym (length-take-le (
 
 returns : tie.Need-returns
 returns c =
-    let w : tie.After-swap = search in
-    let after : tie.After-words-of2 = search in
-    let before : tie.After-words-of = search in
+    let w : tie.After-swap = search in let after : tie.After-words-of2 = search in let before : tie.After-words-of = search in
     let x : tie.Start = search in
     let l = x .args .lengths .now in
     let k = x .args .k in

@@ -9,8 +9,7 @@ ends s = last-row _ _ (omega arith)
 
 returns : tie.Need-returns
 returns c =
-    let d : tie.After-fall = search in
-    let r : tie.After-close-runs = search in
+    let d : tie.After-fall = search in let r : tie.After-close-runs = search in
     all-closed (omega arith) (r .close-runs .ensures _ (none-closed (omega arith))) (omega arith) (omega arith) (d .fall .ensures .inside (omega (arith, ends (search)), omega (arith, ends (search)), inl (omega arith)))
 
 pub close-spec : {M : Type 1} → statement M

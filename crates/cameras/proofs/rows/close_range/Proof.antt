@@ -15,8 +15,7 @@ abbrev μ-loop : tie.MeasureT-loop
 reach : (i : tie.In-loop Inv-loop μ-loop) → let l = i .before in let t = l .before .before .args .t in let r = l .loop .r in
     (suc r * suc (t .n) + t .k ≤ length (l .loop .buf)) × (t .wide ≤ t .n + r + 1) × (r * suc (t .n) + t .k + 1 + t .wide ≤ length (l .loop .buf))
 reach i =
-    let l : tie.At-loop Inv-loop μ-loop = search in
-    let s : tie.Start Inv-loop μ-loop = search in
+    let l : tie.At-loop Inv-loop μ-loop = search in let s : tie.Start Inv-loop μ-loop = search in
     let next : suc (l .loop .r) ≤ s .args .t .high = omega arith in
     let rows = mul-le-mul-right (suc (s .args .t .n)) next in
     let room = s .pre .room (omega arith) in
@@ -24,10 +23,8 @@ reach i =
 
 loop-again : tie.Need-loop-again Inv-loop μ-loop
 loop-again c =
-    let m : tie.After-fall Inv-loop μ-loop = search in
-    let i : tie.In-loop Inv-loop μ-loop = search in
-    let l : tie.At-loop Inv-loop μ-loop = search in
-    let s : tie.Start Inv-loop μ-loop = search in
+    let m : tie.After-fall Inv-loop μ-loop = search in let i : tie.In-loop Inv-loop μ-loop = search in
+    let l : tie.At-loop Inv-loop μ-loop = search in let s : tie.Start Inv-loop μ-loop = search in
     closing-more (s .pre .low) (omega arith) (l .loop .inv)
     (run-closed (s .pre .all) (omega (arith, reach i)) (m .fall .ensures .inside (omega (arith, reach i), omega (arith, reach i), inl (omega arith))))
 

@@ -7,16 +7,13 @@ use Rattle.cameras.proofs.rows.close_runs.Tie as tie
 
 close-range-requires : tie.Need-close-range-requires
 close-range-requires c κs =
-    let l : tie.After-smaller = search in
-    let s : tie.Start = search in
+    let l : tie.After-smaller = search in let s : tie.Start = search in
     let rows = mul-le-mul-right (suc (s .args .n)) (l .smaller .ensures .1) in
     record { order = omega arith; low = omega arith; all = omega arith; inside = omega (arith, rows); room = λ some. (omega arith, omega (arith, rows)) }
 
 close-range-requires-2 : tie.Need-close-range-requires-2
 close-range-requires-2 c κs =
-    let h : tie.After-smaller2 = search in
-    let e : tie.After-ending-runs = search in
-    let l : tie.After-smaller = search in
+    let h : tie.After-smaller2 = search in let e : tie.After-ending-runs = search in let l : tie.After-smaller = search in
     let s : tie.Start = search in
     let n = s .args .n in
     let high = s .args .last - h .smaller2 .result in
@@ -35,15 +32,12 @@ close-range-requires-2 c κs =
 
 returns-2 : tie.Need-returns-2
 returns-2 c =
-    let z : tie.After-close-range3 = search in
-    let y : tie.After-close-range2 = search in
-    let x : tie.After-close-range = search in
+    let z : tie.After-close-range3 = search in let y : tie.After-close-range2 = search in let x : tie.After-close-range = search in
     λ xs none. z .close-range3 .ensures xs (y .close-range2 .ensures xs (x .close-range .ensures xs none))
 
 returns-3 : tie.Need-returns-3
 returns-3 c =
-    let y : tie.After-close-range2 = search in
-    let x : tie.After-close-range = search in
+    let y : tie.After-close-range2 = search in let x : tie.After-close-range = search in
     λ xs none. closed-also (omega arith) (y .close-range2 .ensures xs (x .close-range .ensures xs none))
 
 pub close-runs-spec : {M : Type 1} → statement M

@@ -16,8 +16,7 @@ open-runs-requires c κs =
 
 returns : tie.Need-returns
 returns c =
-    let r : tie.After-open-runs = search in
-    let u : tie.After-rise = search in
+    let r : tie.After-open-runs = search in let u : tie.After-rise = search in
     let last = last-opened (omega arith) (omega arith) (omega arith) (u .rise .ensures .inside (omega arith, omega (arith, ends (search)))) in
     all-opened (omega arith) (r .open-runs .ensures _ _ (omega arith) last) (omega arith)
 

@@ -15,8 +15,7 @@ abbrev μ-loop : tie.MeasureT-loop
 reach : (i : tie.Then1 Inv-loop μ-loop) → let l = i .before .before in let t = l .before .before .before .args .t in let r = l .loop .r - 1 in
     (suc r * suc (t .n) + t .k ≤ length (l .loop .buf)) × (t .wide ≤ t .n + r + 1) × (t .wide ≤ r * t .n + t .k + t .n)
 reach i =
-    let l : tie.At-loop Inv-loop μ-loop = search in
-    let s : tie.Start Inv-loop μ-loop = search in
+    let l : tie.At-loop Inv-loop μ-loop = search in let s : tie.Start Inv-loop μ-loop = search in
     let this : suc (l .loop .r - 1) ≤ s .args .t .high = omega arith in
     let room = s .pre .room (omega arith) in
     let some : 1 ≤ s .args .t .n = s .pre .some in
@@ -24,10 +23,8 @@ reach i =
 
 loop-again : tie.Need-loop-again Inv-loop μ-loop
 loop-again c =
-    let m : tie.After-rise Inv-loop μ-loop = search in
-    let i : tie.Then1 Inv-loop μ-loop = search in
-    let l : tie.At-loop Inv-loop μ-loop = search in
-    let s : tie.Start Inv-loop μ-loop = search in
+    let m : tie.After-rise Inv-loop μ-loop = search in let i : tie.Then1 Inv-loop μ-loop = search in
+    let l : tie.At-loop Inv-loop μ-loop = search in let s : tie.Start Inv-loop μ-loop = search in
     opening-more (s .pre .low) (omega arith) (omega arith) (l .loop .inv)
     (run-opened (s .pre .all) (omega (arith, reach i)) _ _ (omega (arith, reach i)) (omega (arith, reach i)) (omega (arith, reach i)) (m .rise .ensures .inside (omega arith, omega (arith, reach i))))
 

@@ -19,8 +19,7 @@ open-range-requires c κs =
 
 open-range-requires-2 : tie.Need-open-range-requires-2
 open-range-requires-2 c κs =
-    let l : tie.After-smaller2 = search in
-    let s : tie.Start = search in
+    let l : tie.After-smaller2 = search in let s : tie.Start = search in
     let rows = mul-le-mul-right (suc (s .args .n)) (l .smaller2 .ensures .1) in record {
       order = omega arith;
       some = omega arith;
@@ -33,9 +32,7 @@ open-range-requires-2 c κs =
 
 returns-2 : tie.Need-returns-2
 returns-2 c =
-    let y : tie.After-open-range2 = search in
-    let x : tie.After-open-range = search in
-    let l : tie.After-smaller2 = search in
+    let y : tie.After-open-range2 = search in let x : tie.After-open-range = search in let l : tie.After-smaller2 = search in
     λ frames xs f o. y .open-range2 .ensures frames xs (omega (arith, l .smaller2 .ensures .1)) (x .open-range .ensures frames xs f o)
 
 pub open-runs-spec : {M : Type 1} → statement M

@@ -22,14 +22,12 @@ loop-holds c = let s : tie.Start Inv-loop μ-loop = search in carries-none (s .a
 
 step-requires : tie.Need-step-requires Inv-loop μ-loop
 step-requires c κs =
-    let l : tie.At-loop Inv-loop μ-loop = search in
-    let s : tie.Start Inv-loop μ-loop = search in
+    let l : tie.At-loop Inv-loop μ-loop = search in let s : tie.Start Inv-loop μ-loop = search in
     (s .pre .0, s .pre .1, l .loop .inv .low)
 
 mul-next : tie.Need-mul-next Inv-loop μ-loop
 mul-next c =
-    let t : tie.After-step Inv-loop μ-loop = search in
-    let l : tie.At-loop Inv-loop μ-loop = search in
+    let t : tie.After-step Inv-loop μ-loop = search in let l : tie.At-loop Inv-loop μ-loop = search in
     let s : tie.Start Inv-loop μ-loop = search in
     record { fits = omega (arith, next-low (l .loop .inv) (t .step .ensures), l .loop .inv .long, s .pre .0 .few) }
 
@@ -38,8 +36,7 @@ slice-read-next c = search next-low
 
 mul-buf : tie.Need-mul-buf Inv-loop μ-loop
 mul-buf c =
-    let t : tie.After-step Inv-loop μ-loop = search in
-    let l : tie.At-loop Inv-loop μ-loop = search in
+    let t : tie.After-step Inv-loop μ-loop = search in let l : tie.At-loop Inv-loop μ-loop = search in
     let s : tie.Start Inv-loop μ-loop = search in
     record { fits = omega (arith, next-low (l .loop .inv) (t .step .ensures), l .loop .inv .long, s .pre .0 .few) }
 
@@ -48,21 +45,18 @@ slice-write-buf c = search next-low
 
 loop-again : tie.Need-loop-again Inv-loop μ-loop
 loop-again c =
-    let t : tie.After-step Inv-loop μ-loop = search in
-    let l : tie.At-loop Inv-loop μ-loop = search in
+    let t : tie.After-step Inv-loop μ-loop = search in let l : tie.At-loop Inv-loop μ-loop = search in
     let s : tie.Start Inv-loop μ-loop = search in
     carries-more (s .args .m) (s .args .n) (s .args .count) (s .args .start) (s .args .buf .now) (l .loop .inv) (search) (t .step .ensures)
 
 same-length : tie.Need-same-length Inv-loop μ-loop
 same-length c =
-    let l : tie.At-loop Inv-loop μ-loop = search in
-    let s : tie.Start Inv-loop μ-loop = search in
+    let l : tie.At-loop Inv-loop μ-loop = search in let s : tie.Start Inv-loop μ-loop = search in
     l .loop .inv .long ∙ sym (s .pre .3)
 
 returns : tie.Need-returns Inv-loop μ-loop
 returns c =
-    let l : tie.At-loop Inv-loop μ-loop = search in
-    let s : tie.Start Inv-loop μ-loop = search in
+    let l : tie.At-loop Inv-loop μ-loop = search in let s : tie.Start Inv-loop μ-loop = search in
     carries-all (s .args .m) (s .args .n) (s .args .count) (s .args .start) (s .args .buf .now) (l .loop .inv) (search)
 
 pub follow-spec : {M : Type 1} → statement M

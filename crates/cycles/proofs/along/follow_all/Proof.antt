@@ -17,32 +17,26 @@ loop-holds c = let s : tie.Start Inv-loop μ-loop = search in runs-none (s .args
 
 follow-requires : tie.Need-follow-requires Inv-loop μ-loop
 follow-requires c κs =
-    let a : tie.After-as-count Inv-loop μ-loop = search in
-    let l : tie.At-loop Inv-loop μ-loop = search in
-    let i : tie.After-inverse-of Inv-loop μ-loop = search in
-    let s : tie.Start Inv-loop μ-loop = search in
+    let a : tie.After-as-count Inv-loop μ-loop = search in let l : tie.At-loop Inv-loop μ-loop = search in
+    let i : tie.After-inverse-of Inv-loop μ-loop = search in let s : tie.Start Inv-loop μ-loop = search in
     let low = start-low (s .args .m) (s .args .n) (s .args .list .now) (s .pre .1) (s .args .buf .now) (l .loop .k) (omega arith) in
     (s .pre .0, i .inverse-of .ensures, omega (arith, a .as-count .ensures, low), l .loop .inv .long)
 
 loop-again : tie.Need-loop-again Inv-loop μ-loop
 loop-again c =
-    let o : tie.After-follow Inv-loop μ-loop = search in
-    let b : tie.After-as-count2 Inv-loop μ-loop = search in
-    let a : tie.After-as-count Inv-loop μ-loop = search in
-    let l : tie.At-loop Inv-loop μ-loop = search in
+    let o : tie.After-follow Inv-loop μ-loop = search in let b : tie.After-as-count2 Inv-loop μ-loop = search in
+    let a : tie.After-as-count Inv-loop μ-loop = search in let l : tie.At-loop Inv-loop μ-loop = search in
     let s : tie.Start Inv-loop μ-loop = search in
     runs-more (s .args .m) (s .args .n) (s .args .list .now) (s .pre .1) (s .args .buf .now) (l .loop .inv) (omega arith) (a .as-count .ensures) (b .as-count2 .ensures) (o .follow .ensures)
 
 same-length : tie.Need-same-length Inv-loop μ-loop
 same-length c =
-    let l : tie.At-loop Inv-loop μ-loop = search in
-    let s : tie.Start Inv-loop μ-loop = search in
+    let l : tie.At-loop Inv-loop μ-loop = search in let s : tie.Start Inv-loop μ-loop = search in
     l .loop .inv .long ∙ sym (s .pre .2)
 
 returns : tie.Need-returns Inv-loop μ-loop
 returns c =
-    let l : tie.At-loop Inv-loop μ-loop = search in
-    let s : tie.Start Inv-loop μ-loop = search in
+    let l : tie.At-loop Inv-loop μ-loop = search in let s : tie.Start Inv-loop μ-loop = search in
     runs-all (s .args .m) (s .args .n) (s .args .list .now) (s .pre .1) (s .args .buf .now) (l .loop .inv) (omega arith)
 
 pub follow-all-spec : {M : Type 1} → statement M

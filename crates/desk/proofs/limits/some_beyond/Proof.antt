@@ -26,10 +26,8 @@ entry n xs i t h inv e = inv ∙ rw (drop-next-or (pos 0) xs i h, e)
 
 returns : tie.Need-returns Inv-loop μ-loop
 returns c =
-    let b : tie.After-beyond Inv-loop μ-loop = search in
-    let a : tie.After-beyond-arg Inv-loop μ-loop = search in
-    let l : tie.At-loop Inv-loop μ-loop = search in
-    let s : tie.Start Inv-loop μ-loop = search in
+    let b : tie.After-beyond Inv-loop μ-loop = search in let a : tie.After-beyond-arg Inv-loop μ-loop = search in
+    let l : tie.At-loop Inv-loop μ-loop = search in let s : tie.Start Inv-loop μ-loop = search in
     let xs = s .args .run .now in
     let found = rw (toZ-ofZ (s .fits .limit), back {z = getD xs (l .loop .i) (pos 0)} (a .beyond-arg .given)) at (b .beyond .ensures) in
     let inv : some (far (natAbs (s .args .limit))) xs ≡ some (far (natAbs (s .args .limit))) (drop (l .loop .i) xs) = rw (toZ-ofZ (s .fits .limit)) at (l .loop .inv .1) in
@@ -37,18 +35,15 @@ returns c =
 
 loop-again : tie.Need-loop-again Inv-loop μ-loop
 loop-again c =
-    let b : tie.After-beyond Inv-loop μ-loop = search in
-    let a : tie.After-beyond-arg Inv-loop μ-loop = search in
-    let l : tie.At-loop Inv-loop μ-loop = search in
-    let s : tie.Start Inv-loop μ-loop = search in
+    let b : tie.After-beyond Inv-loop μ-loop = search in let a : tie.After-beyond-arg Inv-loop μ-loop = search in
+    let l : tie.At-loop Inv-loop μ-loop = search in let s : tie.Start Inv-loop μ-loop = search in
     let xs = s .args .run .now in
     let found = rw (back {z = getD xs (l .loop .i) (pos 0)} (a .beyond-arg .given)) at (b .beyond .ensures) in
     (omega arith, entry _ xs (l .loop .i) false (omega arith) (l .loop .inv .1) (sym found ∙ c .if1 .left))
 
 returns-2 : tie.Need-returns-2 Inv-loop μ-loop
 returns-2 c =
-    let l : tie.At-loop Inv-loop μ-loop = search in
-    let s : tie.Start Inv-loop μ-loop = search in
+    let l : tie.At-loop Inv-loop μ-loop = search in let s : tie.Start Inv-loop μ-loop = search in
     let xs = s .args .run .now in
     let inv : some (far (natAbs (s .args .limit))) xs ≡ some (far (natAbs (s .args .limit))) (drop (l .loop .i) xs) = rw (toZ-ofZ (s .fits .limit)) at (l .loop .inv .1) in
     sym (inv ∙ rw (drop-end xs (l .loop .i) (omega arith)))

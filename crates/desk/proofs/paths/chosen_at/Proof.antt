@@ -46,8 +46,7 @@ module _ (first second : List ℤ) (e : firstOf (pathChecks first second) ≡ 0)
 
 returns : tie.Need-returns
 returns c =
-    let n : tie.After-runs-number = search in
-    let s : tie.Start = search in
+    let n : tie.After-runs-number = search in let s : tie.Start = search in
     let first = s .args .first .now in
     let second = s .args .second .now in
     refusal (refused-by (pathChecks first second) (check 19 (noUsable first second) ∷ []) (n .runs-number .ensures) (c .if1 .taken)) (c .if1 .taken)
@@ -60,12 +59,8 @@ best-requires-2 c κs = let s : tie.Start = search in runs-pass (s .args .first 
 
 returns-2 : tie.Need-returns-2
 returns-2 c =
-    let b : tie.After-beats = search in
-    let h′ : tie.After-struct-told2 = search in
-    let h : tie.After-struct-told = search in
-    let q : tie.After-best2 = search in
-    let p : tie.After-best = search in
-    let s : tie.Start = search in
+    let b : tie.After-beats = search in let h′ : tie.After-struct-told2 = search in let h : tie.After-struct-told = search in
+    let q : tie.After-best2 = search in let p : tie.After-best = search in let s : tie.Start = search in
     let before = back {z = p .best .result .least} (h .struct-told .given .1 .0 .1) in
     let after = back {z = q .best2 .result .least} (h′ .struct-told2 .given .1 .0 .1) in
     let told = b .beats .ensures ∙ ap₂ taken after before in
@@ -73,12 +68,8 @@ returns-2 c =
 
 returns-3 : tie.Need-returns-3
 returns-3 c =
-    let b : tie.After-beats = search in
-    let h′ : tie.After-struct-told2 = search in
-    let h : tie.After-struct-told = search in
-    let q : tie.After-best2 = search in
-    let p : tie.After-best = search in
-    let s : tie.Start = search in
+    let b : tie.After-beats = search in let h′ : tie.After-struct-told2 = search in let h : tie.After-struct-told = search in
+    let q : tie.After-best2 = search in let p : tie.After-best = search in let s : tie.Start = search in
     let before = back {z = p .best .result .least} (h .struct-told .given .1 .0 .1) in
     let after = back {z = q .best2 .result .least} (h′ .struct-told2 .given .1 .0 .1) in
     let told = b .beats .ensures ∙ ap₂ taken after before in
@@ -88,12 +79,8 @@ returns-3 c =
 
 returns-4 : tie.Need-returns-4
 returns-4 c =
-    let b : tie.After-beats = search in
-    let h′ : tie.After-struct-told2 = search in
-    let h : tie.After-struct-told = search in
-    let q : tie.After-best2 = search in
-    let p : tie.After-best = search in
-    let s : tie.Start = search in
+    let b : tie.After-beats = search in let h′ : tie.After-struct-told2 = search in let h : tie.After-struct-told = search in
+    let q : tie.After-best2 = search in let p : tie.After-best = search in let s : tie.Start = search in
     let before = back {z = p .best .result .least} (h .struct-told .given .1 .0 .1) in
     let after = back {z = q .best2 .result .least} (h′ .struct-told2 .given .1 .0 .1) in
     let told = b .beats .ensures ∙ ap₂ taken after before in

@@ -14,26 +14,20 @@ returns-2 c =
 
 returns-3 : tie.Need-returns-3
 returns-3 c =
-    let f : tie.Else2 = search in
-    let e : tie.Else1 = search in
-    let s : tie.Start = search in
+    let f : tie.Else2 = search in let e : tie.Else1 = search in let s : tie.Start = search in
     let far : farReading (s .args .first .now) ≡ true = search via in
     rw (eq-eqb _ _ (e .if1 .left), eq-eqb _ _ (f .if2 .left), far)
 
 returns-4 : tie.Need-returns-4
 returns-4 c =
-    let f : tie.Else2 = search in
-    let e : tie.Else1 = search in
-    let s : tie.Start = search in
+    let f : tie.Else2 = search in let e : tie.Else1 = search in let s : tie.Start = search in
     let near : farReading (s .args .first .now) ≡ false = search via in
     let far : farReading (s .args .second .now) ≡ true = search via in
     rw (eq-eqb _ _ (e .if1 .left), eq-eqb _ _ (f .if2 .left), near, far)
 
 returns-5 : tie.Need-returns-5
 returns-5 c =
-    let f : tie.Else2 = search in
-    let e : tie.Else1 = search in
-    let s : tie.Start = search in
+    let f : tie.Else2 = search in let e : tie.Else1 = search in let s : tie.Start = search in
     let near : farReading (s .args .first .now) ≡ false = search via in
     let near′ : farReading (s .args .second .now) ≡ false = search via in
     rw (eq-eqb _ _ (e .if1 .left), eq-eqb _ _ (f .if2 .left), near, near′)

@@ -31,12 +31,9 @@ delay-is run j m none h p = ap (λ (both : ℤ × ℤ). both .1) (p .given (p .n
 
 loop-again : tie.Need-loop-again Inv-loop μ-loop
 loop-again c =
-    let b : tie.After-beats Inv-loop μ-loop = search in
-    let d-told : tie.After-struct-told Inv-loop μ-loop = search in
-    let m : tie.After-offset-delay Inv-loop μ-loop = search in
-    let x : tie.After-exchange-of Inv-loop μ-loop = search in
-    let at : tie.At-loop Inv-loop μ-loop = search in
-    let s : tie.Start Inv-loop μ-loop = search in
+    let b : tie.After-beats Inv-loop μ-loop = search in let d-told : tie.After-struct-told Inv-loop μ-loop = search in
+    let m : tie.After-offset-delay Inv-loop μ-loop = search in let x : tie.After-exchange-of Inv-loop μ-loop = search in
+    let at : tie.At-loop Inv-loop μ-loop = search in let s : tie.Start Inv-loop μ-loop = search in
     let run = s .args .run .now in
     let l = at .loop in
     let d = m .offset-delay .result .delay in
@@ -53,8 +50,7 @@ loop-again c =
 
 returns : tie.Need-returns Inv-loop μ-loop
 returns c =
-    let at : tie.At-loop Inv-loop μ-loop = search in
-    let s : tie.Start Inv-loop μ-loop = search in
+    let at : tie.At-loop Inv-loop μ-loop = search in let s : tie.Start Inv-loop μ-loop = search in
     let l = at .loop in
     subst (λ (m : ℕ). HeldAs (s .args .run .now) m (l .found) (toZ w64 (l .least))) (le-antisymm (l .inv .0) (c .loop-test .left)) (l .inv .1)
 

@@ -5,8 +5,7 @@ use Rattle.grids.proofs.chunks.advance.Tie as tie
 
 returns : tie.Need-returns
 returns c =
-    let k : tie.After-mark-pair = search in
-    let y : tie.After-carry-both = search in
+    let k : tie.After-mark-pair = search in let y : tie.After-carry-both = search in
     (y .carry-both .ensures, k .mark-pair .ensures)
 
 pub advance-spec : {M : Type 1} → statement M

@@ -6,11 +6,8 @@ use Rattle.grids.proofs.chunks.carry_both.Tie as tie
 
 returns : tie.Need-returns
 returns c =
-    let d : tie.After-carry2 = search in
-    let y : tie.After-mirrored2 = search in
-    let q : tie.After-mirrored = search in
-    let b : tie.After-carry = search in
-    let s : tie.Start = search in
+    let d : tie.After-carry2 = search in let y : tie.After-mirrored2 = search in let q : tie.After-mirrored = search in
+    let b : tie.After-carry = search in let s : tie.Start = search in
     let g = s .args .g in
     both-hold _ _ _ (s .pre .0 .1) (s .pre .1 .1) (q .mirrored .ensures) (b .carry .ensures) (d .carry2 .ensures) (λ u k.
     other-chunk (g .n) (g .m) _ (b .carry .ensures) (y .mirrored2 .result) u k (λ e. s .pre .1 .2 (sym (y .mirrored2 .ensures) ∙ e))

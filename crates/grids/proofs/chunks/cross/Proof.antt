@@ -6,10 +6,7 @@ use Rattle.grids.proofs.chunks.cross.Tie as tie
 
 returns-2 : tie.Need-returns-2
 returns-2 c =
-    let t : tie.After-trade = search in
-    let q : tie.After-mirrored = search in
-    let e : tie.Else1 = search in
-    let s : tie.Start = search in
+    let t : tie.After-trade = search in let q : tie.After-mirrored = search in let e : tie.Else1 = search in let s : tie.Start = search in
     record {
       straight = λ z. absurd (e .if1 .left z);
       across = λ ne. hold-crossed _ _ _ (s .pre .1) (s .pre .2) (q .mirrored .ensures) (t .trade .ensures);

@@ -21,8 +21,7 @@ abbrev μ-loop : tie.MeasureT-loop
 
 loop-holds : tie.Need-loop-holds Inv-loop μ-loop
 loop-holds c =
-    let z : tie.After-zero Inv-loop μ-loop = search in
-    let s : tie.Start Inv-loop μ-loop = search in
+    let z : tie.After-zero Inv-loop μ-loop = search in let s : tie.Start Inv-loop μ-loop = search in
     let free = none-marked (s .args .g .n) (s .args .g .m) (z .zero .ensures .inside (omega (arith, s .pre .1))) in
     (settled-none _ _ free, level-none _ _ _ free, refl, refl, omega arith, λ k a b. absurd (omega arith))
 
@@ -34,25 +33,21 @@ loop-again c =
 
 cycle-requires : tie.Need-cycle-requires Inv-loop μ-loop
 cycle-requires c κs =
-    let e : tie.Else1 Inv-loop μ-loop = search in
-    let k : tie.After-marked Inv-loop μ-loop = search in
-    let l : tie.At-loop Inv-loop μ-loop = search in
-    let s : tie.Start Inv-loop μ-loop = search in
+    let e : tie.Else1 Inv-loop μ-loop = search in let k : tie.After-marked Inv-loop μ-loop = search in
+    let l : tie.At-loop Inv-loop μ-loop = search in let s : tie.Start Inv-loop μ-loop = search in
     let i = l .loop .inv in
     ((fits-also (s .pre .0) (i .0 .same), omega (arith, i .2, s .pre .1), i .3 ∙ s .pre .2), (i .1, omega (arith, i .4), sym (k .marked .ensures) ∙ e .if1 .left))
 
 loop-again-2 : tie.Need-loop-again-2 Inv-loop μ-loop
 loop-again-2 c =
-    let f : tie.After-cycle Inv-loop μ-loop = search in
-    let l : tie.At-loop Inv-loop μ-loop = search in
+    let f : tie.After-cycle Inv-loop μ-loop = search in let l : tie.At-loop Inv-loop μ-loop = search in
     let i = l .loop .inv in
     let t = f .cycle .ensures in
     (t .settled _ (i .0), t .level, t .same-marks ∙ i .2, omega (arith, i .3), omega arith, asked-more _ _ (λ k a b. t .kept k (i .5 k a b)) (t .here))
 
 returns : tie.Need-returns Inv-loop μ-loop
 returns c =
-    let l : tie.At-loop Inv-loop μ-loop = search in
-    let s : tie.Start Inv-loop μ-loop = search in
+    let l : tie.At-loop Inv-loop μ-loop = search in let s : tie.Start Inv-loop μ-loop = search in
     let i = l .loop .inv in
     settled-all _ _ (s .pre .0 .follows .small) (omega arith) (i .5) (i .0)
 

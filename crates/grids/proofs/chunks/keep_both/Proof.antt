@@ -5,9 +5,7 @@ use Rattle.grids.proofs.chunks.keep_both.Tie as tie
 
 returns : tie.Need-returns
 returns c =
-    let b : tie.After-keep2 = search in
-    let q : tie.After-mirrored = search in
-    let a : tie.After-keep = search in
+    let b : tie.After-keep2 = search in let q : tie.After-mirrored = search in let a : tie.After-keep = search in
     let s : tie.Start = search in
     let g = s .args .g in
     record {

@@ -5,8 +5,7 @@ use Rattle.grids.proofs.chunks.mark_pair.Tie as tie
 
 returns : tie.Need-returns
 returns c =
-    let k : tie.After-mark = search in
-    let f : tie.After-folded = search in
+    let k : tie.After-mark = search in let f : tie.After-folded = search in
     rw (← f .folded .ensures) (k .mark .ensures)
 
 pub mark-pair-spec : {M : Type 1} → statement M

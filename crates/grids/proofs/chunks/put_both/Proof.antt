@@ -6,9 +6,7 @@ use Rattle.grids.proofs.chunks.put_both.Tie as tie
 
 returns : tie.Need-returns
 returns c =
-    let d : tie.After-put2 = search in
-    let q : tie.After-mirrored = search in
-    let b : tie.After-put = search in
+    let d : tie.After-put2 = search in let q : tie.After-mirrored = search in let b : tie.After-put = search in
     let s : tie.Start = search in
     both-hold _ _ _ (s .pre .1) (s .pre .4) (q .mirrored .ensures) (b .put .ensures) (d .put2 .ensures) (λ u k. refl)
 

@@ -16,8 +16,7 @@ abbrev μ-loop : tie.MeasureT-loop
 
 loop-holds : tie.Need-loop-holds Inv-loop μ-loop
 loop-holds c =
-    let k : tie.After-mark Inv-loop μ-loop = search in
-    let f : tie.After-source Inv-loop μ-loop = search in
+    let k : tie.After-mark Inv-loop μ-loop = search in let f : tie.After-source Inv-loop μ-loop = search in
     let s : tie.Start Inv-loop μ-loop = search in
     record {
       follow = following (s .pre .0 .0) (omega (arith, k .mark .ensures .same, s .pre .0 .1)) (s .pre .1 .0) (s .pre .1 .1) (s .pre .1 .2) (k .mark .ensures) (f .source .ensures);
@@ -27,39 +26,32 @@ loop-holds c =
 
 trade-on-requires : tie.Need-trade-on-requires Inv-loop μ-loop
 trade-on-requires c κs =
-    let f : tie.After-folded Inv-loop μ-loop = search in
-    let l : tie.At-loop Inv-loop μ-loop = search in
+    let f : tie.After-folded Inv-loop μ-loop = search in let l : tie.At-loop Inv-loop μ-loop = search in
     let i = l .loop .inv .follow in
     ((i .fits, i .low, next-low i, next-twin i (f .folded .ensures) (search), i .bits), next-apart i (f .folded .ensures) (search))
 
 loop-less : tie.Need-loop-less Inv-loop μ-loop
 loop-less c =
-    let y : tie.After-trade-on Inv-loop μ-loop = search in
-    let f : tie.After-folded Inv-loop μ-loop = search in
+    let y : tie.After-trade-on Inv-loop μ-loop = search in let f : tie.After-folded Inv-loop μ-loop = search in
     let l : tie.At-loop Inv-loop μ-loop = search in
     fewer (l .loop .inv .follow) (f .folded .ensures) (search) (y .trade-on .ensures .1)
 
 loop-again : tie.Need-loop-again Inv-loop μ-loop
 loop-again c =
-    let g : tie.After-source2 Inv-loop μ-loop = search in
-    let y : tie.After-trade-on Inv-loop μ-loop = search in
-    let f : tie.After-folded Inv-loop μ-loop = search in
-    let l : tie.At-loop Inv-loop μ-loop = search in
+    let g : tie.After-source2 Inv-loop μ-loop = search in let y : tie.After-trade-on Inv-loop μ-loop = search in
+    let f : tie.After-folded Inv-loop μ-loop = search in let l : tie.At-loop Inv-loop μ-loop = search in
     trading-on (l .loop .inv) (f .folded .ensures) (search) (y .trade-on .ensures .1) (y .trade-on .ensures .0) (g .source2 .ensures)
 
 cross-requires : tie.Need-cross-requires Inv-loop μ-loop
 cross-requires c κs =
-    let f : tie.After-folded Inv-loop μ-loop = search in
-    let l : tie.At-loop Inv-loop μ-loop = search in
+    let f : tie.After-folded Inv-loop μ-loop = search in let l : tie.At-loop Inv-loop μ-loop = search in
     let i = l .loop .inv .follow in
     (i .fits, i .low, last-apart i (f .folded .ensures) (search))
 
 returns : tie.Need-returns Inv-loop μ-loop
 returns c =
-    let o : tie.After-cross Inv-loop μ-loop = search in
-    let f : tie.After-folded Inv-loop μ-loop = search in
-    let l : tie.At-loop Inv-loop μ-loop = search in
-    let k : tie.After-mark Inv-loop μ-loop = search in
+    let o : tie.After-cross Inv-loop μ-loop = search in let f : tie.After-folded Inv-loop μ-loop = search in
+    let l : tie.At-loop Inv-loop μ-loop = search in let k : tie.After-mark Inv-loop μ-loop = search in
     let s : tie.Start Inv-loop μ-loop = search in
     traded (l .loop .inv) (f .folded .ensures) (search) (s .pre .1 .2) (k .mark .ensures) (o .cross .ensures)
 

@@ -5,8 +5,7 @@ use Rattle.grids.proofs.chunks.trade_on.Tie as tie
 
 returns : tie.Need-returns
 returns c =
-    let k : tie.After-mark-pair = search in
-    let y : tie.After-trade-both = search in
+    let k : tie.After-mark-pair = search in let y : tie.After-trade-both = search in
     (y .trade-both .ensures, k .mark-pair .ensures)
 
 pub trade-on-spec : {M : Type 1} → statement M

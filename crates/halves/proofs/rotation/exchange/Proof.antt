@@ -16,14 +16,12 @@ loop-holds c = (omega arith, refl, exchange-none (c .args .k) (c .args .s .now))
 
 loop-again : tie.Need-loop-again Inv-loop μ-loop
 loop-again c =
-    let l : tie.At-loop Inv-loop μ-loop = search in
-    let x : tie.Start Inv-loop μ-loop = search in
+    let l : tie.At-loop Inv-loop μ-loop = search in let x : tie.Start Inv-loop μ-loop = search in
     (omega arith, simp length-set (omega arith), rw (l .loop .inv .2) (exchange-more (x .args .k) (l .loop .i) (x .args .s .now) (omega arith) (omega arith)))
 
 returns : tie.Need-returns Inv-loop μ-loop
 returns c =
-    let l : tie.At-loop Inv-loop μ-loop = search in
-    let x : tie.Start Inv-loop μ-loop = search in
+    let l : tie.At-loop Inv-loop μ-loop = search in let x : tie.Start Inv-loop μ-loop = search in
     l .loop .inv .2 ∙ ap (λ (w : ℕ). traded (x .args .k) w (x .args .s .now)) (omega arith)
 
 pub exchange-spec : {M : Type 1} → statement M

@@ -38,8 +38,7 @@ loop-again-2 c = (
   omega arith,
   omega arith,
   let e : tie.After-exchange2 Inv-loop μ-loop = search in
-      let l : tie.At-loop Inv-loop μ-loop = search in
-      let x : tie.Start Inv-loop μ-loop = search in
+      let l : tie.At-loop Inv-loop μ-loop = search in let x : tie.Start Inv-loop μ-loop = search in
       step _ _ _ _ _ (l .loop .s) _ (omega arith) (l .loop .inv .4) (e .exchange2 .ensures)
       (short-right (l .loop .left) (length (x .args .s .now) - l .loop .at - l .loop .left) (drop (l .loop .at) (l .loop .s)) (omega arith) (rw length-drop (omega arith))),
 )

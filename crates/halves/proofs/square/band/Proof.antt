@@ -14,10 +14,8 @@ abbrev μ-loop : tie.MeasureT-loop
 
 trade-requires : tie.Need-trade-requires Inv-loop μ-loop
 trade-requires c κs =
-    let w : tie.After-span Inv-loop μ-loop = search in
-    let l : tie.At-loop Inv-loop μ-loop = search in
-    let o : tie.After-own Inv-loop μ-loop = search in
-    let s : tie.Start Inv-loop μ-loop = search in
+    let w : tie.After-span Inv-loop μ-loop = search in let l : tie.At-loop Inv-loop μ-loop = search in
+    let o : tie.After-own Inv-loop μ-loop = search in let s : tie.Start Inv-loop μ-loop = search in
     let t = s .pre .0 in
     let k = w .span .ensures in (
       record { fill = l .loop .inv .2 .same ∙ o .own .ensures .0 .same ∙ t .fill; rows = t .rows; columns = k .inside; high = t .high; broad = k .few },
@@ -28,8 +26,7 @@ trade-requires c κs =
 
 loop-again : tie.Need-loop-again Inv-loop μ-loop
 loop-again c =
-    let t : tie.After-trade Inv-loop μ-loop = search in
-    let w : tie.After-span Inv-loop μ-loop = search in
+    let t : tie.After-trade Inv-loop μ-loop = search in let w : tie.After-span Inv-loop μ-loop = search in
     let l : tie.At-loop Inv-loop μ-loop = search in
     let k = w .span .ensures in (
       omega (arith, l .loop .inv .0),
@@ -41,8 +38,7 @@ loop-again c =
 
 returns : tie.Need-returns Inv-loop μ-loop
 returns c =
-    let l : tie.At-loop Inv-loop μ-loop = search in
-    let o : tie.After-own Inv-loop μ-loop = search in
+    let l : tie.At-loop Inv-loop μ-loop = search in let o : tie.After-own Inv-loop μ-loop = search in
     let s : tie.Start Inv-loop μ-loop = search in
     let e : l .loop .j ≡ s .args .n = omega (arith, l .loop .inv .1) in (
       columns-more (omega arith) (s .pre .0 .rows) (omega arith) (o .own .ensures .0) (rw e at (l .loop .inv .2)),
@@ -55,13 +51,11 @@ band-spec = tie.close (tie.spec
     Inv-loop μ-loop (search needs)
     (λ c. let s : tie.Start Inv-loop μ-loop = search in record { fits = omega (arith, s .pre .0, side-few (s .args .n)) })
     (λ c.
-    let o : tie.After-own Inv-loop μ-loop = search in
-    let s : tie.Start Inv-loop μ-loop = search in
+    let o : tie.After-own Inv-loop μ-loop = search in let s : tie.Start Inv-loop μ-loop = search in
     (omega arith, s .pre .0 .rows, across-none (λ a b p q x y. omega arith), o .own .ensures .1, s .pre .2))
     (search needs) trade-requires
     (λ c.
-    let w : tie.After-span Inv-loop μ-loop = search in
-    let s : tie.Start Inv-loop μ-loop = search in
+    let w : tie.After-span Inv-loop μ-loop = search in let s : tie.Start Inv-loop μ-loop = search in
     record { fits = omega (arith, w .span .ensures, s .pre .0, side-few (s .args .n)) })
     (λ c. let w : tie.After-span Inv-loop μ-loop = search in omega (arith, w .span .ensures))
     loop-again (search needs) (search needs) (search needs) returns)

@@ -13,8 +13,7 @@ abbrev μ-loop : tie.MeasureT-loop
 
 band-requires : tie.Need-band-requires Inv-loop μ-loop
 band-requires c κs =
-    let w : tie.After-span Inv-loop μ-loop = search in
-    let l : tie.At-loop Inv-loop μ-loop = search in
+    let w : tie.After-span Inv-loop μ-loop = search in let l : tie.At-loop Inv-loop μ-loop = search in
     let s : tie.Start Inv-loop μ-loop = search in
     let k = w .span .ensures in (
       record { fill = l .loop .inv .1 .same ∙ s .pre; rows = k .inside; columns = k .inside; high = k .few; broad = k .few },
@@ -24,15 +23,13 @@ band-requires c κs =
 
 loop-again : tie.Need-loop-again Inv-loop μ-loop
 loop-again c =
-    let b : tie.After-band Inv-loop μ-loop = search in
-    let w : tie.After-span Inv-loop μ-loop = search in
+    let b : tie.After-band Inv-loop μ-loop = search in let w : tie.After-span Inv-loop μ-loop = search in
     let l : tie.At-loop Inv-loop μ-loop = search in
     (w .span .ensures .inside, rows-more (omega arith) (l .loop .inv .1) (b .band .ensures .0), b .band .ensures .1, b .band .ensures .2)
 
 returns : tie.Need-returns Inv-loop μ-loop
 returns c =
-    let l : tie.At-loop Inv-loop μ-loop = search in
-    let s : tie.Start Inv-loop μ-loop = search in
+    let l : tie.At-loop Inv-loop μ-loop = search in let s : tie.Start Inv-loop μ-loop = search in
     all-across (s .pre) (omega arith) (l .loop .inv .1)
 
 pub by-tiles-spec : {M : Type 1} → statement M

@@ -13,14 +13,12 @@ abbrev μ-loop : tie.MeasureT-loop
 
 loop-again : tie.Need-loop-again Inv-loop μ-loop
 loop-again c =
-    let x : tie.After-cross Inv-loop μ-loop = search in
-    let l : tie.At-loop Inv-loop μ-loop = search in
+    let x : tie.After-cross Inv-loop μ-loop = search in let l : tie.At-loop Inv-loop μ-loop = search in
     (omega arith, rows-more (omega arith) (l .loop .inv .1) (x .cross .ensures))
 
 returns : tie.Need-returns Inv-loop μ-loop
 returns c =
-    let l : tie.At-loop Inv-loop μ-loop = search in
-    let s : tie.Start Inv-loop μ-loop = search in
+    let l : tie.At-loop Inv-loop μ-loop = search in let s : tie.Start Inv-loop μ-loop = search in
     all-across (s .pre) (omega arith) (l .loop .inv .1)
 
 pub by-words-spec : {M : Type 1} → statement M

@@ -16,8 +16,7 @@ abbrev μ-loop : tie.MeasureT-loop
 inside : (c : tie.In-loop Inv-loop μ-loop)
     → let l = c .before .loop in let a = c .before .before .args in (a .i * a .n + l .j < length (l .s)) × (l .j * a .n + a .i < length (l .s))
 inside c =
-    let l : tie.At-loop Inv-loop μ-loop = search in
-    let x : tie.Start Inv-loop μ-loop = search in
+    let l : tie.At-loop Inv-loop μ-loop = search in let x : tie.Start Inv-loop μ-loop = search in
     let e = l .loop .inv .2 .same ∙ x .pre .0 in
     (above-within (l .loop .s) e (l .loop .inv .0) (omega arith), below-within (l .loop .s) e (l .loop .inv .0) (omega arith))
 
@@ -32,8 +31,7 @@ loop-again c =
 
 returns : tie.Need-returns Inv-loop μ-loop
 returns c =
-    let l : tie.At-loop Inv-loop μ-loop = search in
-    let x : tie.Start Inv-loop μ-loop = search in
+    let l : tie.At-loop Inv-loop μ-loop = search in let x : tie.Start Inv-loop μ-loop = search in
     let end : l .loop .j ≡ x .args .n = omega arith in
     rw end at (l .loop .inv .2)
 

@@ -6,9 +6,7 @@ use Rattle.halves.proofs.square.own.Tie as tie
 
 returns : tie.Need-returns
 returns c =
-    let d : tie.After-store = search in
-    let l : tie.After-lift = search in
-    let s : tie.Start = search in
+    let d : tie.After-store = search in let l : tie.After-lift = search in let s : tie.Start = search in
     (own-across (s .pre .0 .rows) (l .lift .ensures) (d .store .ensures), l .lift .ensures .size)
 
 pub own-spec : {M : Type 1} → statement M

@@ -6,16 +6,12 @@ use Rattle.halves.proofs.square.trade.Tie as tie
 
 store-requires-2 : tie.Need-store-requires-2
 store-requires-2 c κs =
-    let d : tie.After-store = search in
-    let l : tie.After-lift = search in
-    let s : tie.Start = search in
+    let d : tie.After-store = search in let l : tie.After-lift = search in let s : tie.Start = search in
     (still-tile (d .store .ensures .same) (mirrored (s .pre .0)), l .lift .ensures .size)
 
 returns : tie.Need-returns
 returns c =
-    let e : tie.After-store2 = search in
-    let d : tie.After-store = search in
-    let m : tie.After-lift2 = search in
+    let e : tie.After-store2 = search in let d : tie.After-store = search in let m : tie.After-lift2 = search in
     let l : tie.After-lift = search in
     let s : tie.Start = search in (
       trade-across (s .pre .1) (s .pre .0 .columns) (l .lift .ensures) (m .lift2 .ensures) (d .store .ensures) (e .store2 .ensures),

@@ -12,18 +12,14 @@ abbrev μ-loop : tie.MeasureT-loop
 
 loop-again : tie.Need-loop-again Inv-loop μ-loop
 loop-again c =
-    let w : tie.After-store Inv-loop μ-loop = search in
-    let h : tie.After-held Inv-loop μ-loop = search in
-    let l : tie.At-loop Inv-loop μ-loop = search in
-    let s : tie.Start Inv-loop μ-loop = search in
+    let w : tie.After-store Inv-loop μ-loop = search in let h : tie.After-held Inv-loop μ-loop = search in
+    let l : tie.At-loop Inv-loop μ-loop = search in let s : tie.Start Inv-loop μ-loop = search in
     (omega arith, piece-up _ (l .loop .inv .1) (w .store .ensures) (λ p k. h .held .ensures p k ∙ at (s .args .other .now) (omega arith)) (omega arith) (omega arith) (omega arith) (omega arith))
 
 returns : tie.Need-returns Inv-loop μ-loop
 returns c =
-    let w : tie.After-store2 Inv-loop μ-loop = search in
-    let h : tie.After-held2 Inv-loop μ-loop = search in
-    let l : tie.At-loop Inv-loop μ-loop = search in
-    let s : tie.Start Inv-loop μ-loop = search in
+    let w : tie.After-store2 Inv-loop μ-loop = search in let h : tie.After-held2 Inv-loop μ-loop = search in
+    let l : tie.At-loop Inv-loop μ-loop = search in let s : tie.Start Inv-loop μ-loop = search in
     all-filled
     (piece-up _ (l .loop .inv .1) (w .store2 .ensures) (λ p k. h .held2 .ensures p k ∙ at (s .args .other .now) (omega arith)) (omega arith) (omega arith) (omega arith) refl)
     refl

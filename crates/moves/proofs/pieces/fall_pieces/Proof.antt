@@ -13,10 +13,8 @@ abbrev μ-loop : tie.MeasureT-loop
 
 loop-again : tie.Need-loop-again Inv-loop μ-loop
 loop-again c =
-    let w : tie.After-store Inv-loop μ-loop = search in
-    let h : tie.After-held Inv-loop μ-loop = search in
-    let l : tie.At-loop Inv-loop μ-loop = search in
-    let s : tie.Start Inv-loop μ-loop = search in
+    let w : tie.After-store Inv-loop μ-loop = search in let h : tie.After-held Inv-loop μ-loop = search in
+    let l : tie.At-loop Inv-loop μ-loop = search in let s : tie.Start Inv-loop μ-loop = search in
     let f = l .loop .inv .1 in (
       omega arith,
       piece-up
@@ -32,8 +30,7 @@ loop-again c =
 
 returns : tie.Need-returns Inv-loop μ-loop
 returns c =
-    let w : tie.After-two-pieces Inv-loop μ-loop = search in
-    let l : tie.At-loop Inv-loop μ-loop = search in
+    let w : tie.After-two-pieces Inv-loop μ-loop = search in let l : tie.At-loop Inv-loop μ-loop = search in
     let s : tie.Start Inv-loop μ-loop = search in
     let f = l .loop .inv .1 in
     all-filled

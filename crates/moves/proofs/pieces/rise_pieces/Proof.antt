@@ -1,6 +1,6 @@
 -- `rise_pieces` meets its contract: the stretch is filled from the back, eight words at a time; the words that are read lie before what is
 -- filled, so they are those of the entry, and so are those of the first two pieces.
-use Rattle.lists.proofs.Kit.{refl, _∙_, _+_, _-_, _<_, _≤_, unary-clauses, arith, getD, needs}
+use Rattle.lists.proofs.Kit.{refl, _∙_, _+_, _-_, _≤_, unary-clauses, arith, getD, needs}
 use Rattle.moves.proofs.Filling.{Filled, nothing-filled, all-filled, piece-down, at}
 use Rattle.moves.proofs.pieces.rise_pieces.Statement.{statement}
 use Rattle.moves.proofs.pieces.rise_pieces.Tie as tie
@@ -13,10 +13,8 @@ abbrev μ-loop : tie.MeasureT-loop
 
 loop-again : tie.Need-loop-again Inv-loop μ-loop
 loop-again c =
-    let w : tie.After-store Inv-loop μ-loop = search in
-    let h : tie.After-held Inv-loop μ-loop = search in
-    let l : tie.At-loop Inv-loop μ-loop = search in
-    let s : tie.Start Inv-loop μ-loop = search in
+    let w : tie.After-store Inv-loop μ-loop = search in let h : tie.After-held Inv-loop μ-loop = search in
+    let l : tie.At-loop Inv-loop μ-loop = search in let s : tie.Start Inv-loop μ-loop = search in
     let f = l .loop .inv .2 in
     let from = s .args .from + (l .loop .u - 8) in (
       omega arith,
@@ -26,8 +24,7 @@ loop-again c =
 
 returns : tie.Need-returns Inv-loop μ-loop
 returns c =
-    let w : tie.After-two-pieces Inv-loop μ-loop = search in
-    let l : tie.At-loop Inv-loop μ-loop = search in
+    let w : tie.After-two-pieces Inv-loop μ-loop = search in let l : tie.At-loop Inv-loop μ-loop = search in
     let s : tie.Start Inv-loop μ-loop = search in
     let f = l .loop .inv .2 in
     all-filled

@@ -13,8 +13,7 @@ abbrev μ-loop : tie.MeasureT-loop
 
 loop-again : tie.Need-loop-again Inv-loop μ-loop
 loop-again c =
-    let l : tie.At-loop Inv-loop μ-loop = search in
-    let s : tie.Start Inv-loop μ-loop = search in
+    let l : tie.At-loop Inv-loop μ-loop = search in let s : tie.Start Inv-loop μ-loop = search in
     (omega arith, traded-more (l .loop .inv .1) (s .pre .2) (omega arith) (s .pre .0) (s .pre .1))
 
 pub trade-words-spec : {M : Type 1} → statement M

@@ -9,15 +9,12 @@ returns c = let t : tie.Then1 = search in let x : tie.Start = search in below-gr
 
 returns-2 : tie.Need-returns-2
 returns-2 c =
-    let l : tie.After-step-on = search in
-    let x : tie.Start = search in
+    let l : tie.After-step-on = search in let x : tie.Start = search in
     below-short (x .pre .0) (x .pre .1) (x .pre .3) (omega arith) (x .pre .2) (l .step-on .ensures) (omega arith)
 
 returns-3 : tie.Need-returns-3
 returns-3 c =
-    let n : tie.After-step-on2 = search in
-    let l : tie.After-step-on = search in
-    let x : tie.Start = search in
+    let n : tie.After-step-on2 = search in let l : tie.After-step-on = search in let x : tie.Start = search in
     rw (n .step-on2 .ensures) (below-past (x .pre .0) (x .pre .1) (x .pre .3) (omega arith) (x .pre .2) (l .step-on .ensures) (omega arith))
 
 -- a group before this one has b places

@@ -7,16 +7,13 @@ use Rattle.passes.proofs.first.first_of.Tie as tie
 
 source-requires : tie.Need-source-requires
 source-requires c κs =
-    let t : tie.After-enum-told2 = search in
-    let x : tie.Start = search in
+    let t : tie.After-enum-told2 = search in let x : tie.Start = search in
     let e = t .enum-told2 .given .1 in
     (x .pre .0, rw e at (x .pre .2), x .pre .1 e)
 
 returns : tie.Need-returns
 returns c =
-    let r : tie.After-rise = search in
-    let t : tie.After-enum-told = search in
-    let x : tie.Start = search in
+    let r : tie.After-rise = search in let t : tie.After-enum-told = search in let x : tie.Start = search in
     rw (t .enum-told .given .1) (r .rise .ensures ∙ ap (λ (z : ℕ). risen (x .args .t / z)) (x .pre .0 .b-is))
 
 returns-2 : tie.Need-returns-2

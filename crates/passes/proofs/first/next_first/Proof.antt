@@ -9,8 +9,7 @@ use Rattle.passes.proofs.first.next_first.Tie as tie
 
 quotient-on-requires : tie.Need-quotient-on-requires
 quotient-on-requires c κs =
-    let t : tie.After-enum-told = search in
-    let x : tie.Start = search in
+    let t : tie.After-enum-told = search in let x : tie.Start = search in
     let g = x .pre .0 in
     let e = t .enum-told .given .1 in
     let index = rw e at (x .pre .1) in
@@ -25,17 +24,14 @@ quotient-on-requires c κs =
 
 returns : tie.Need-returns
 returns c =
-    let r : tie.After-rise = search in
-    let q : tie.After-quotient-on = search in
-    let t : tie.After-enum-told = search in
+    let r : tie.After-rise = search in let q : tie.After-quotient-on = search in let t : tie.After-enum-told = search in
     let x : tie.Start = search in
     rw (t .enum-told .given .1)
     (r .rise .ensures ∙ ap risen (q .quotient-on .ensures ∙ ap (λ (z : ℕ). (x .args .t + 1) / z) (x .pre .0 .b-is)))
 
 below-requires : tie.Need-below-requires
 below-requires c κs =
-    let t : tie.After-enum-told2 = search in
-    let x : tie.Start = search in
+    let t : tie.After-enum-told2 = search in let x : tie.Start = search in
     let e = t .enum-told2 .given .1 in
     (x .pre .0, rw e at (x .pre .2), rw e at (x .pre .1), rw e at (x .pre .3))
 
@@ -45,9 +41,7 @@ row t = let x : tie.Start = search in let begins = rw (t .enum-told3 .given .1) 
 
 returns-3 : tie.Need-returns-3
 returns-3 c =
-    let r : tie.After-begin = search in
-    let o : tie.After-step-on = search in
-    let t : tie.After-enum-told3 = search in
+    let r : tie.After-begin = search in let o : tie.After-step-on = search in let t : tie.After-enum-told3 = search in
     let x : tie.Start = search in
     rw (t .enum-told3 .given .1)
     (r .begin .ensures ∙ ap begun (o .step-on .ensures ∙ ap (λ (z : ℕ). (z + 1) % x .args .s .m) (row t) ∙ mod-add-mod (x .args .t) (x .args .s .m) 1))

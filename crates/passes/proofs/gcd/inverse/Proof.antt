@@ -36,8 +36,7 @@ small l =
 
 loop-again : tie.Need-loop-again Inv-loop μ-loop
 loop-again c =
-    let l : tie.At-loop Inv-loop μ-loop = search in
-    let x : tie.Start Inv-loop μ-loop = search in
+    let l : tie.At-loop Inv-loop μ-loop = search in let x : tie.Start Inv-loop μ-loop = search in
     let b = x .args .b in
     let v = l .loop .inv in (
       gcd-step (l .loop .y) (l .loop .x) ∙ v .0,
@@ -51,8 +50,7 @@ loop-again c =
 
 returns : tie.Need-returns Inv-loop μ-loop
 returns c =
-    let l : tie.At-loop Inv-loop μ-loop = search in
-    let x : tie.Start Inv-loop μ-loop = search in
+    let l : tie.At-loop Inv-loop μ-loop = search in let x : tie.Start Inv-loop μ-loop = search in
     let v = l .loop .inv in
     let e : l .loop .x ≡ 0 = omega arith in
     let one : l .loop .y ≡ 1 = sym (gcd-end (l .loop .y)) ∙ ap (gcdOf (l .loop .y)) (sym e) ∙ v .0 in

@@ -20,14 +20,12 @@ there c = let x : tie.Start Inv-loop μ-loop = search in x .pre .stores _ (omega
 
 loop-again : tie.Need-loop-again Inv-loop μ-loop
 loop-again c =
-    let l : tie.At-loop Inv-loop μ-loop = search in
-    let x : tie.Start Inv-loop μ-loop = search in
+    let l : tie.At-loop Inv-loop μ-loop = search in let x : tie.Start Inv-loop μ-loop = search in
     (omega arith, filled-more {count = x .args .size} (x .pre .apart) (omega arith) (there (search)) (l .loop .inv .1))
 
 returns : tie.Need-returns Inv-loop μ-loop
 returns c =
-    let l : tie.At-loop Inv-loop μ-loop = search in
-    let x : tie.Start Inv-loop μ-loop = search in
+    let l : tie.At-loop Inv-loop μ-loop = search in let x : tie.Start Inv-loop μ-loop = search in
     let e : l .loop .t ≡ x .args .size = omega arith in
     rw e at (l .loop .inv .1)
 

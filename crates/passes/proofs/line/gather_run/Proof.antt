@@ -7,9 +7,7 @@ use Rattle.passes.proofs.line.gather_run.Tie as tie
 
 copy-requires : tie.Need-copy-requires
 copy-requires c κs =
-    let o : tie.After-offset-of = search in
-    let t : tie.Then1 = search in
-    let x : tie.Start = search in
+    let o : tie.After-offset-of = search in let t : tie.Then1 = search in let x : tie.Start = search in
     let a = x .pre .0 in
     let f = x .pre .1 in
     rw (o .offset-of .ensures) (record {
@@ -20,10 +18,7 @@ copy-requires c κs =
 
 returns : tie.Need-returns
 returns c =
-    let w : tie.After-copy = search in
-    let o : tie.After-offset-of = search in
-    let t : tie.Then1 = search in
-    let x : tie.Start = search in
+    let w : tie.After-copy = search in let o : tie.After-offset-of = search in let t : tie.Then1 = search in let x : tie.Start = search in
     filled-as (λ k h. omega arith)
     (λ k h. ap (λ (z : ℕ). getD (x .args .buf .now) z 0) (plain-at (x .pre .0) (x .pre .1) (t .if1 .taken) k h))
     (rw (o .offset-of .ensures) at (w .copy .ensures))

@@ -29,15 +29,13 @@ entry l = l .before .before .before
 -- where the walk stands in a round
 low : (c : tie.In-loop Inv-loop μ-loop) → let l = c .before in Low (entry l .args .w) (l .loop .p)
 low c =
-    let l : tie.At-loop Inv-loop μ-loop = search in
-    let x : tie.Start Inv-loop μ-loop = search in
+    let l : tie.At-loop Inv-loop μ-loop = search in let x : tie.Start Inv-loop μ-loop = search in
     subst (Low (x .args .w)) (sym (l .loop .inv .1 (omega arith))) (x .pre .1 .low (l .loop .k) (omega (arith, x .pre .2)))
 
 -- a run has words
 some : (c : tie.After-smaller Inv-loop μ-loop) → 0 < c .smaller .result
 some c =
-    let l : tie.At-loop Inv-loop μ-loop = search in
-    let a : tie.After-ahead Inv-loop μ-loop = search in
+    let l : tie.At-loop Inv-loop μ-loop = search in let a : tie.After-ahead Inv-loop μ-loop = search in
     let x : tie.Start Inv-loop μ-loop = search in
     let e = c .smaller .ensures in
     ⊎-elim
@@ -47,10 +45,8 @@ some c =
 
 lift-run-requires : tie.Need-lift-run-requires Inv-loop μ-loop
 lift-run-requires c κs =
-    let z : tie.After-smaller Inv-loop μ-loop = search in
-    let l : tie.At-loop Inv-loop μ-loop = search in
-    let a : tie.After-ahead Inv-loop μ-loop = search in
-    let x : tie.Start Inv-loop μ-loop = search in
+    let z : tie.After-smaller Inv-loop μ-loop = search in let l : tie.At-loop Inv-loop μ-loop = search in
+    let a : tie.After-ahead Inv-loop μ-loop = search in let x : tie.Start Inv-loop μ-loop = search in
     let e = z .smaller .ensures in (
       lain-same (l .loop .inv .2 .same) (x .pre .0),
       run-fits (x .pre .1) (l .loop .inv .1 (omega arith)) (omega (arith, x .pre .2)) (a .ahead .ensures) (z .smaller .result) (e .0) (omega (arith, e .1, x .pre .2)),
@@ -68,10 +64,8 @@ arrive-requires c κs =
 
 loop-again : tie.Need-loop-again Inv-loop μ-loop
 loop-again c =
-    let r : tie.After-lift-run Inv-loop μ-loop = search in
-    let z : tie.After-smaller Inv-loop μ-loop = search in
-    let a : tie.After-ahead Inv-loop μ-loop = search in
-    let l : tie.At-loop Inv-loop μ-loop = search in
+    let r : tie.After-lift-run Inv-loop μ-loop = search in let z : tie.After-smaller Inv-loop μ-loop = search in
+    let a : tie.After-ahead Inv-loop μ-loop = search in let l : tie.At-loop Inv-loop μ-loop = search in
     let x : tie.Start Inv-loop μ-loop = search in
     let e = z .smaller .ensures in
     let y = x .pre .1 in
@@ -96,8 +90,7 @@ loop-again c =
 
 returns : tie.Need-returns Inv-loop μ-loop
 returns c =
-    let l : tie.At-loop Inv-loop μ-loop = search in
-    let x : tie.Start Inv-loop μ-loop = search in
+    let l : tie.At-loop Inv-loop μ-loop = search in let x : tie.Start Inv-loop μ-loop = search in
     let e : l .loop .k ≡ x .args .until = omega arith in
     rw e at (l .loop .inv .2)
 

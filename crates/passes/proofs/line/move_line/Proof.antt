@@ -6,15 +6,12 @@ use Rattle.passes.proofs.line.move_line.Tie as tie
 
 put-back-requires : tie.Need-put-back-requires
 put-back-requires c κs =
-    let h : tie.After-lift = search in
-    let x : tie.Start = search in
+    let h : tie.After-lift = search in let x : tie.Start = search in
     (x .pre .0 .inside, x .pre .0 .step, omega (arith, h .lift .ensures .same, x .pre .0 .room))
 
 returns : tie.Need-returns
 returns c =
-    let r : tie.After-put-back = search in
-    let h : tie.After-lift = search in
-    let x : tie.Start = search in
+    let r : tie.After-put-back = search in let h : tie.After-lift = search in let x : tie.Start = search in
     (moved-through (x .args .l) (x .pre .1) (x .args .home) (x .args .buf .now) (h .lift .ensures) (r .put-back .ensures), lifted-past (x .args .l) (x .pre .1) (x .args .home) (x .args .buf .now) (h .lift .ensures))
 
 pub move-line-spec : {M : Type 1} → statement M

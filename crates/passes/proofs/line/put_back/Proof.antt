@@ -15,8 +15,7 @@ copy-requires c κs =
 
 returns : tie.Need-returns
 returns c =
-    let w : tie.After-copy = search in
-    let x : tie.Start = search in
+    let w : tie.After-copy = search in let x : tie.Start = search in
     filled-as (λ k h. refl) (λ k h. let e : k ≡ 0 + 1 * k = omega arith in ap (λ (z : ℕ). getD (x .args .scratch .now) z 0) e) (w .copy .ensures)
 
 pub put-back-spec : {M : Type 1} → statement M

@@ -7,9 +7,7 @@ use Rattle.passes.proofs.line.scatter_run.Tie as tie
 
 copy-requires : tie.Need-copy-requires
 copy-requires c κs =
-    let o : tie.After-offset-of = search in
-    let t : tie.Then1 = search in
-    let x : tie.Start = search in
+    let o : tie.After-offset-of = search in let t : tie.Then1 = search in let x : tie.Start = search in
     let a = x .pre .0 in
     let f = x .pre .1 in
     rw (o .offset-of .ensures) (record {
@@ -20,10 +18,7 @@ copy-requires c κs =
 
 returns : tie.Need-returns
 returns c =
-    let w : tie.After-copy = search in
-    let o : tie.After-offset-of = search in
-    let t : tie.Then1 = search in
-    let x : tie.Start = search in
+    let w : tie.After-copy = search in let o : tie.After-offset-of = search in let t : tie.Then1 = search in let x : tie.Start = search in
     let a = x .pre .0 in
     let f = x .pre .1 in
     filled-as (λ k h. plain-place a f (t .if1 .taken) k h)

@@ -23,26 +23,21 @@ abbrev μ-loop : tie.MeasureT-loop
 
 loop-holds : tie.Need-loop-holds Inv-loop μ-loop
 loop-holds c =
-    let t : tie.After-stage-count Inv-loop μ-loop = search in
-    let x : tie.Start Inv-loop μ-loop = search in
+    let t : tie.After-stage-count Inv-loop μ-loop = search in let x : tie.Start Inv-loop μ-loop = search in
     (refl, t .stage-count .ensures, omega (arith, x .pre .1, t .stage-count .ensures), refl, refl, refl)
 
 store-requires : tie.Need-store-requires Inv-loop μ-loop
 store-requires c κs =
-    let z : tie.After-smaller Inv-loop μ-loop = search in
-    let w : tie.After-stage-words Inv-loop μ-loop = search in
-    let l : tie.At-loop Inv-loop μ-loop = search in
-    let i : tie.After-inverse-for Inv-loop μ-loop = search in
+    let z : tie.After-smaller Inv-loop μ-loop = search in let w : tie.After-stage-words Inv-loop μ-loop = search in
+    let l : tie.At-loop Inv-loop μ-loop = search in let i : tie.After-inverse-for Inv-loop μ-loop = search in
     let x : tie.Start Inv-loop μ-loop = search in
     (mapped-in (l .loop .inv .3) (l .loop .inv .4) (x .pre .0), i .inverse-for .ensures, omega (arith, z .smaller .ensures .0, w .stage-words .ensures))
 
 loop-again : tie.Need-loop-again Inv-loop μ-loop
 unfolding stagesOf
 loop-again c =
-    let t : tie.After-store Inv-loop μ-loop = search in
-    let z : tie.After-smaller Inv-loop μ-loop = search in
-    let w : tie.After-stage-words Inv-loop μ-loop = search in
-    let l : tie.At-loop Inv-loop μ-loop = search in
+    let t : tie.After-store Inv-loop μ-loop = search in let z : tie.After-smaller Inv-loop μ-loop = search in
+    let w : tie.After-stage-words Inv-loop μ-loop = search in let l : tie.At-loop Inv-loop μ-loop = search in
     let x : tie.Start Inv-loop μ-loop = search in
     let m = memory (l .loop .buf) (l .loop .scratch) (l .loop .p) in
     let s = turnStages (x .args .s .m) (x .args .s .n) in (
@@ -58,10 +53,8 @@ loop-again c =
 loop-again-2 : tie.Need-loop-again-2 Inv-loop μ-loop
 unfolding stagesOf
 loop-again-2 c =
-    let t : tie.After-store Inv-loop μ-loop = search in
-    let z : tie.After-smaller Inv-loop μ-loop = search in
-    let w : tie.After-stage-words Inv-loop μ-loop = search in
-    let l : tie.At-loop Inv-loop μ-loop = search in
+    let t : tie.After-store Inv-loop μ-loop = search in let z : tie.After-smaller Inv-loop μ-loop = search in
+    let w : tie.After-stage-words Inv-loop μ-loop = search in let l : tie.At-loop Inv-loop μ-loop = search in
     let x : tie.Start Inv-loop μ-loop = search in
     let m = memory (l .loop .buf) (l .loop .scratch) (l .loop .p) in
     let s = turnStages (x .args .s .m) (x .args .s .n) in
@@ -78,8 +71,7 @@ loop-again-2 c =
 returns : tie.Need-returns Inv-loop μ-loop
 unfolding stagesOf
 returns c =
-    let l : tie.At-loop Inv-loop μ-loop = search in
-    let x : tie.Start Inv-loop μ-loop = search in
+    let l : tie.At-loop Inv-loop μ-loop = search in let x : tie.Start Inv-loop μ-loop = search in
     ap (memory (l .loop .buf) (l .loop .scratch)) (l .loop .inv .0)
     ∙ sym (call-done (turnStages (x .args .s .m) (x .args .s .n)) (l .loop .left) (memory (l .loop .buf) (l .loop .scratch) (l .loop .p)) (omega (arith, ltb-false)))
     ∙ l .loop .inv .5

@@ -6,14 +6,12 @@ use Rattle.passes.proofs.restart.stage_words.Tie as tie
 
 returns : tie.Need-returns
 returns c =
-    let l : tie.After-line-of = search in
-    let x : tie.Start = search in
+    let l : tie.After-line-of = search in let x : tie.Start = search in
     line-words (x .args .s .m) (x .args .s .n) (x .args .p) (omega arith) (l .line-of .ensures)
 
 returns-2 : tie.Need-returns-2
 returns-2 c =
-    let l : tie.After-longest-of = search in
-    let x : tie.Start = search in
+    let l : tie.After-longest-of = search in let x : tie.Start = search in
     l .longest-of .ensures ∙ clear-words (x .args .s .m) (x .args .s .n) (x .args .p) (omega arith)
 
 pub stage-words-spec : {M : Type 1} → statement M

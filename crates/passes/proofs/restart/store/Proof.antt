@@ -12,8 +12,7 @@ use Rattle.passes.proofs.restart.store.Tie as tie
 
 returns : tie.Need-returns
 returns c =
-    let z : tie.After-zero = search in
-    let x : tie.Start = search in
+    let z : tie.After-zero = search in let x : tie.Start = search in
     stored-clear (x .pre .0) (x .args .p) (x .args .until) (x .pre .2) (omega arith) (z .zero .ensures)
 
 -- the line of a stage fits, and has as many words as are asked for
@@ -28,25 +27,18 @@ inverted x = serves (x .args .s .m) (x .args .s .n) (x .args .inverse) (x .pre .
 
 first-of-requires : tie.Need-first-of-requires
 first-of-requires c κs =
-    let l : tie.After-line-of = search in
-    let x : tie.Start = search in
+    let l : tie.After-line-of = search in let x : tie.Start = search in
     (x .pre .0 .grouped, λ e. rw e at (fits l .0 .of-pass .1), inverted x (l .line-of .result .pass))
 
 lift-requires : tie.Need-lift-requires
 lift-requires c κs =
-    let f : tie.After-first-of = search in
-    let w : tie.After-walk-of = search in
-    let l : tie.After-line-of = search in
+    let f : tie.After-first-of = search in let w : tie.After-walk-of = search in let l : tie.After-line-of = search in
     (fits l .0 .lain, rw (fits l .0 .of-pass .0) (w .walk-of .ensures _ (f .first-of .ensures) .walks), fits l .1)
 
 returns-2 : tie.Need-returns-2
 returns-2 c =
-    let h : tie.After-lift = search in
-    let f : tie.After-first-of = search in
-    let w : tie.After-walk-of = search in
-    let t : tie.Then2 = search in
-    let l : tie.After-line-of = search in
-    let x : tie.Start = search in
+    let h : tie.After-lift = search in let f : tie.After-first-of = search in let w : tie.After-walk-of = search in
+    let t : tie.Then2 = search in let l : tie.After-line-of = search in let x : tie.Start = search in
     let y : Follows (w .walk-of .result) (f .first-of .result) (l .line-of .result .count) (received (x .args .s .m) (x .args .s .n) (l .line-of .result .pass) (l .line-of .result .index)) =
     rw (fits l .0 .of-pass .0) (w .walk-of .ensures _ (f .first-of .ensures)) in
     let b = x .args .buf .now in
@@ -63,10 +55,7 @@ put-back-requires c κs =
 
 returns-3 : tie.Need-returns-3
 returns-3 c =
-    let f : tie.After-put-back = search in
-    let t : tie.Else2 = search in
-    let l : tie.After-line-of = search in
-    let x : tie.Start = search in
+    let f : tie.After-put-back = search in let t : tie.Else2 = search in let l : tie.After-line-of = search in let x : tie.Start = search in
     stored-back (x .pre .0) (x .args .p) (x .args .until) (x .pre .2) (omega arith) (λ e. omega arith) (rw (l .line-of .ensures) at (f .put-back .ensures))
 
 pub store-spec : {M : Type 1} → statement M

@@ -14,9 +14,7 @@ inverse-requires c κs =
 
 returns-2 : tie.Need-returns-2
 returns-2 c =
-    let i : tie.After-inverse = search in
-    let t : tie.After-enum-told2 = search in
-    let x : tie.Start = search in
+    let i : tie.After-inverse = search in let t : tie.After-enum-told2 = search in let x : tie.Start = search in
     rw (t .enum-told2 .given .1, ← x .pre .a-is, ← x .pre .b-is) (i .inverse .ensures)
 
 pub inverse-for-spec : {M : Type 1} → statement M

@@ -12,24 +12,19 @@ numbered x e = rw (← x .pre .0 .skipped-is) e
 returns : tie.Need-returns
 unfolding lineAt
 returns c =
-    let i : tie.After-column-in = search in
-    let t : tie.Then1 = search in
+    let i : tie.After-column-in = search in let t : tie.Then1 = search in
     numbered (search) (i .column-in .ensures ∙ rw (lt-ltb _ _ (t .if1 .taken)))
 
 returns-2 : tie.Need-returns-2
 unfolding lineAt
 returns-2 c =
-    let i : tie.After-row-in = search in
-    let t : tie.Then2 = search in
-    let e : tie.Else1 = search in
+    let i : tie.After-row-in = search in let t : tie.Then2 = search in let e : tie.Else1 = search in
     numbered (search) (i .row-in .ensures ∙ rw (le-ltb _ _ (e .if1 .left), lt-ltb _ _ (t .if2 .taken)))
 
 returns-3 : tie.Need-returns-3
 unfolding lineAt
 returns-3 c =
-    let i : tie.After-column-in2 = search in
-    let t : tie.Else2 = search in
-    let e : tie.Else1 = search in
+    let i : tie.After-column-in2 = search in let t : tie.Else2 = search in let e : tie.Else1 = search in
     numbered (search) (i .column-in2 .ensures ∙ rw (le-ltb _ _ (e .if1 .left), le-ltb _ _ (t .if2 .left)))
 
 pub line-of-spec : {M : Type 1} → statement M

@@ -9,16 +9,12 @@ use Rattle.passes.proofs.turning.forth.Tie as tie
 
 move-line-requires : tie.Need-move-line-requires
 move-line-requires c κs =
-    let p : tie.After-first-of = search in
-    let w : tie.After-walk-of = search in
-    let x : tie.Start = search in
+    let p : tie.After-first-of = search in let w : tie.After-walk-of = search in let x : tie.Start = search in
     (x .pre .1 .lain, rw (x .pre .1 .of-pass .0) (w .walk-of .ensures _ (p .first-of .ensures) .walks))
 
 returns : tie.Need-returns
 returns c =
-    let r : tie.After-move-line = search in
-    let p : tie.After-first-of = search in
-    let w : tie.After-walk-of = search in
+    let r : tie.After-move-line = search in let p : tie.After-first-of = search in let w : tie.After-walk-of = search in
     let x : tie.Start = search in
     let s = x .args .s in
     let l = x .args .l in

@@ -31,16 +31,13 @@ module _ (x : tie.Start Inv-loop μ-loop) where
 
 first-of-requires : tie.Need-first-of-requires Inv-loop μ-loop
 first-of-requires c κs =
-    let f : tie.After-moved-from Inv-loop μ-loop = search in
-    let x : tie.Start Inv-loop μ-loop = search in
+    let f : tie.After-moved-from Inv-loop μ-loop = search in let x : tie.Start Inv-loop μ-loop = search in
     (x .pre .0, λ e. rw (f .moved-from .ensures, e) (x .pre .0 .m-pos), x .pre .2)
 
 loop-holds : tie.Need-loop-holds Inv-loop μ-loop
 loop-holds c =
-    let p : tie.After-first-of Inv-loop μ-loop = search in
-    let l : tie.After-lines-in Inv-loop μ-loop = search in
-    let f : tie.After-moved-from Inv-loop μ-loop = search in
-    let x : tie.Start Inv-loop μ-loop = search in
+    let p : tie.After-first-of Inv-loop μ-loop = search in let l : tie.After-lines-in Inv-loop μ-loop = search in
+    let f : tie.After-moved-from Inv-loop μ-loop = search in let x : tie.Start Inv-loop μ-loop = search in
     let g = x .pre .0 in
     let still = gone-still (g .m-pos) (g .n-pos) (x .args .pass) (x .args .home) (x .args .buf .now) in
     (rw (f .moved-from .ensures) (begin-few x), l .lines-in .ensures, p .first-of .ensures, rw (f .moved-from .ensures) still, past-none _ _)
@@ -55,8 +52,7 @@ here c = let l : tie.At-loop Inv-loop μ-loop = search in omega (arith, l .loop 
 
 move-line-requires : tie.Need-move-line-requires Inv-loop μ-loop
 move-line-requires c κs =
-    let w : tie.After-walk-of Inv-loop μ-loop = search in
-    let i : tie.After-line-in Inv-loop μ-loop = search in
+    let w : tie.After-walk-of Inv-loop μ-loop = search in let i : tie.After-line-in Inv-loop μ-loop = search in
     let l : tie.At-loop Inv-loop μ-loop = search in
     let x = entry l in
     let g = x .pre .0 in
@@ -69,10 +65,8 @@ move-line-requires c κs =
 
 loop-again : tie.Need-loop-again Inv-loop μ-loop
 loop-again c =
-    let m : tie.After-move-line Inv-loop μ-loop = search in
-    let w : tie.After-walk-of Inv-loop μ-loop = search in
-    let i : tie.After-line-in Inv-loop μ-loop = search in
-    let l : tie.At-loop Inv-loop μ-loop = search in
+    let m : tie.After-move-line Inv-loop μ-loop = search in let w : tie.After-walk-of Inv-loop μ-loop = search in
+    let i : tie.After-line-in Inv-loop μ-loop = search in let l : tie.At-loop Inv-loop μ-loop = search in
     let x = entry l in
     let g = x .pre .0 in
     let s = x .args .s in

@@ -14,28 +14,20 @@ inverted i = let x : tie.Start = search in serves (x .args .s .m) (x .args .s .n
 
 run-pass-requires-2 : tie.Need-run-pass-requires-2
 run-pass-requires-2 c κs =
-    let p : tie.After-run-pass = search in
-    let i : tie.After-inverse-for = search in
-    let x : tie.Start = search in
+    let p : tie.After-run-pass = search in let i : tie.After-inverse-for = search in let x : tie.Start = search in
     (x .pre .0, lies-in _ _ _ _ (p .run-pass .ensures .0 .same) (p .run-pass .ensures .1 .same) (x .pre .1), i .inverse-for .ensures)
 
 run-pass-requires-3 : tie.Need-run-pass-requires-3
 run-pass-requires-3 c κs =
-    let q : tie.After-run-pass2 = search in
-    let p : tie.After-run-pass = search in
-    let e : tie.After-end-pass2 = search in
+    let q : tie.After-run-pass2 = search in let p : tie.After-run-pass = search in let e : tie.After-end-pass2 = search in
     let x : tie.Start = search in
     let same = q .run-pass2 .ensures .0 .same ∙ p .run-pass .ensures .0 .same in
     (x .pre .0, lies-in _ _ _ _ same (q .run-pass2 .ensures .1 .same ∙ p .run-pass .ensures .1 .same) (x .pre .1), inverted (search) (e .end-pass2 .result))
 
 returns : tie.Need-returns
 returns c =
-    let r : tie.After-run-pass3 = search in
-    let q : tie.After-run-pass2 = search in
-    let p : tie.After-run-pass = search in
-    let e : tie.After-end-pass2 = search in
-    let b : tie.After-end-pass = search in
-    let x : tie.Start = search in
+    let r : tie.After-run-pass3 = search in let q : tie.After-run-pass2 = search in let p : tie.After-run-pass = search in
+    let e : tie.After-end-pass2 = search in let b : tie.After-end-pass = search in let x : tie.Start = search in
     let g = x .pre .0 in (
       gone-turned (g .m-pos) (g .n-pos) (x .args .home) (rw (b .end-pass .ensures) at (p .run-pass .ensures .0)) (q .run-pass2 .ensures .0) (rw (e .end-pass2 .ensures) at (r .run-pass3 .ensures .0)),
       past-more (le-refl _) (past-more (le-refl _) (p .run-pass .ensures .1) (q .run-pass2 .ensures .1)) (r .run-pass3 .ensures .1),

@@ -6,8 +6,7 @@ use Rattle.passes.proofs.walk.walk_of.Tie as tie
 
 returns : tie.Need-returns
 returns c =
-    let t : tie.After-enum-told = search in
-    let x : tie.Start = search in
+    let t : tie.After-enum-told = search in let x : tie.Start = search in
     let e = t .enum-told .given .1 in
     rw e (walk-1 (x .pre .0) (rw e at (x .pre .1)))
 
@@ -17,17 +16,13 @@ row t = let x : tie.Start = search in rw (t .enum-told2 .given .1) at (x .pre .1
 
 returns-2 : tie.Need-returns-2
 returns-2 c =
-    let j : tie.After-joined = search in
-    let t : tie.After-enum-told2 = search in
-    let x : tie.Start = search in
+    let j : tie.After-joined = search in let t : tie.After-enum-told2 = search in let x : tie.Start = search in
     let e = t .enum-told2 .given .1 in
     rw e (walk-2 (x .pre .0) (row t) (rw e at (x .pre .2)) (j .joined .ensures))
 
 returns-3 : tie.Need-returns-3
 returns-3 c =
-    let j : tie.After-joined2 = search in
-    let t : tie.After-enum-told3 = search in
-    let x : tie.Start = search in
+    let j : tie.After-joined2 = search in let t : tie.After-enum-told3 = search in let x : tie.Start = search in
     let e = t .enum-told3 .given .1 in
     rw e (walk-3 (x .pre .0) (rw e at (x .pre .1)) (j .joined2 .ensures))
 

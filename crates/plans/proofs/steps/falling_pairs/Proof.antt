@@ -12,8 +12,7 @@ abbrev μ-loop : tie.MeasureT-loop
 
 add-count : tie.Need-add-count Inv-loop μ-loop
 add-count c =
-    let l : tie.At-loop Inv-loop μ-loop = search in
-    let x : tie.Start Inv-loop μ-loop = search in
+    let l : tie.At-loop Inv-loop μ-loop = search in let x : tie.Start Inv-loop μ-loop = search in
     record { fits = omega (arith, pairs-few (l .loop .inv), mul-le-mul-right (l .loop .k) (x .pre)) }
 
 loop-again : tie.Need-loop-again Inv-loop μ-loop

@@ -13,15 +13,13 @@ abbrev μ-loop : tie.MeasureT-loop
 
 relabel-requires : tie.Need-relabel-requires Inv-loop μ-loop
 relabel-requires c κs =
-    let f : tie.After-first-back Inv-loop μ-loop = search in
-    let l : tie.At-loop Inv-loop μ-loop = search in
+    let f : tie.After-first-back Inv-loop μ-loop = search in let l : tie.At-loop Inv-loop μ-loop = search in
     let x : tie.Start Inv-loop μ-loop = search in
     omega (arith, f .first-back .ensures, back-few (length (l .loop .axes)) 0 (l .loop .axes), l .loop .inv .long, x .pre .0)
 
 loop-again : tie.Need-loop-again Inv-loop μ-loop
 loop-again c =
-    let a : tie.After-relabel Inv-loop μ-loop = search in
-    let f : tie.After-first-back Inv-loop μ-loop = search in
+    let a : tie.After-relabel Inv-loop μ-loop = search in let f : tie.After-first-back Inv-loop μ-loop = search in
     let l : tie.At-loop Inv-loop μ-loop = search in
     plan-next (l .loop .inv) (omega arith) (omega arith) (f .first-back .ensures) (a .relabel .ensures)
 

@@ -14,8 +14,7 @@ returns c = let x : tie.Start = search in sym (no-inverse 5 (x .args .release) (
 returns-2 : tie.Need-returns-2
 unfolding orderOf numberOf orders arrangements rank placeOf places
 returns-2 c =
-    let t : tie.Then2 = search in
-    let x : tie.Start = search in
+    let t : tie.Then2 = search in let x : tie.Start = search in
     rw (t .if2 .taken) (row-at [] 0 (λ o. numberOf 5 (places o)) (orders 5) (x .args .order) (omega arith))
 
 returns-3 : tie.Need-returns-3

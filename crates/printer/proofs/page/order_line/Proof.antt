@@ -10,8 +10,7 @@ returns c =
 
 returns-2 : tie.Need-returns-2
 returns-2 c =
-    let t : tie.Else1 = search in
-    let x : tie.Start = search in
+    let t : tie.Else1 = search in let x : tie.Start = search in
     rw (ne-eqb (x .args .release) 0 (t .if1 .left))
 
 pub order-line-spec : {M : Type 1} → statement M

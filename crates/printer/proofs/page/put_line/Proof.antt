@@ -9,22 +9,17 @@ put-word-requires c κs = let x : tie.Start = search in word-room _ _ (x .pre)
 
 put-words-requires : tie.Need-put-words-requires
 put-words-requires c κs =
-    let w : tie.After-put-word = search in
-    let x : tie.Start = search in
+    let w : tie.After-put-word = search in let x : tie.Start = search in
     fields-room _ _ (x .pre) (w .put-word .ensures)
 
 put-end-requires : tie.Need-put-end-requires
 put-end-requires c κs =
-    let n : tie.After-put-words = search in
-    let w : tie.After-put-word = search in
-    let x : tie.Start = search in
+    let n : tie.After-put-words = search in let w : tie.After-put-word = search in let x : tie.Start = search in
     end-room _ _ (x .pre) (w .put-word .ensures) (n .put-words .ensures)
 
 returns : tie.Need-returns
 returns c =
-    let e : tie.After-put-end = search in
-    let n : tie.After-put-words = search in
-    let w : tie.After-put-word = search in
+    let e : tie.After-put-end = search in let n : tie.After-put-words = search in let w : tie.After-put-word = search in
     let x : tie.Start = search in
     line-put _ _ (x .pre) (w .put-word .ensures) (n .put-words .ensures) (e .put-end .ensures)
 

@@ -34,15 +34,13 @@ module _ (c : tie.In-loop Inv-loop μ-loop) where
 
 put-line-requires : tie.Need-put-line-requires Inv-loop μ-loop
 put-line-requires c κs =
-    let l : tie.At-loop Inv-loop μ-loop = search in
-    let x : tie.Start Inv-loop μ-loop = search in
+    let l : tie.At-loop Inv-loop μ-loop = search in let x : tie.Start Inv-loop μ-loop = search in
     let e : l .loop .from + x .args .n - l .loop .from ≡ x .args .n = omega arith in
     rw e (next-row-room (x .args .count) (x .args .n) (l .loop .i) (l .loop .from) (x .args .words .now) (l .loop .inv .2) (omega arith))
 
 loop-again : tie.Need-loop-again Inv-loop μ-loop
 loop-again c =
-    let r : tie.After-put-line Inv-loop μ-loop = search in
-    let l : tie.At-loop Inv-loop μ-loop = search in
+    let r : tie.After-put-line Inv-loop μ-loop = search in let l : tie.At-loop Inv-loop μ-loop = search in
     let x : tie.Start Inv-loop μ-loop = search in
     let e : l .loop .from + x .args .n - l .loop .from ≡ x .args .n = omega arith in (
       omega arith,
@@ -56,8 +54,7 @@ same-length c = let l : tie.At-loop Inv-loop μ-loop = search in l .loop .inv .2
 
 returns : tie.Need-returns Inv-loop μ-loop
 returns c =
-    let l : tie.At-loop Inv-loop μ-loop = search in
-    let x : tie.Start Inv-loop μ-loop = search in
+    let l : tie.At-loop Inv-loop μ-loop = search in let x : tie.Start Inv-loop μ-loop = search in
     all-rows-put (x .args .count) (x .args .n) (l .loop .i) (l .loop .from) (x .args .words .now) (l .loop .inv .2) (omega arith)
 
 pub put-rows-spec : {M : Type 1} → statement M

@@ -15,8 +15,7 @@ put-number-requires c κs = let x : tie.Start = search in field-room (x .args .v
 
 returns : tie.Need-returns
 returns c =
-    let n : tie.After-put-number = search in
-    let x : tie.Start = search in
+    let n : tie.After-put-number = search in let x : tie.Start = search in
     field-put (x .args .v) (x .pre) (n .put-number .ensures)
 
 pub put-field-spec : {M : Type 1} → statement M

@@ -24,8 +24,7 @@ loop-holds c =
 
 loop-again : tie.Need-loop-again Inv-loop μ-loop
 loop-again c =
-    let at-loop : tie.At-loop Inv-loop μ-loop = search in
-    let x : tie.Start Inv-loop μ-loop = search in
+    let at-loop : tie.At-loop Inv-loop μ-loop = search in let x : tie.Start Inv-loop μ-loop = search in
     let l = at-loop .loop in
     let at = x .args .at in
     let k : l .p - at ≡ suc (l .p - 1 - at) = omega arith in
@@ -39,8 +38,7 @@ same-length c = let l : tie.At-loop Inv-loop μ-loop = search in l .loop .inv .4
 
 returns : tie.Need-returns Inv-loop μ-loop
 returns c =
-    let l : tie.At-loop Inv-loop μ-loop = search in
-    let x : tie.Start Inv-loop μ-loop = search in
+    let l : tie.At-loop Inv-loop μ-loop = search in let x : tie.Start Inv-loop μ-loop = search in
     let z : l .loop .p - x .args .at ≡ 0 = omega arith in
     record { place = l .loop .inv .2; bytes = rw (z, no-digits (l .loop .left)) at (l .loop .inv .5) }
 

@@ -18,14 +18,12 @@ loop-holds c =
 
 loop-again : tie.Need-loop-again Inv-loop μ-loop
 loop-again c =
-    let l : tie.At-loop Inv-loop μ-loop = search in
-    let x : tie.Start Inv-loop μ-loop = search in
+    let l : tie.At-loop Inv-loop μ-loop = search in let x : tie.Start Inv-loop μ-loop = search in
     (omega arith, refl, next-byte (x .args .word .now) (x .args .at) (l .loop .i) (l .loop .inv .2) (omega arith))
 
 returns : tie.Need-returns Inv-loop μ-loop
 returns c =
-    let l : tie.At-loop Inv-loop μ-loop = search in
-    let x : tie.Start Inv-loop μ-loop = search in
+    let l : tie.At-loop Inv-loop μ-loop = search in let x : tie.Start Inv-loop μ-loop = search in
     all-bytes (x .args .word .now) (x .args .at) (l .loop .i) (l .loop .inv .2) (omega arith)
 
 pub put-word-spec : {M : Type 1} → statement M

@@ -19,8 +19,7 @@ put-field-requires c κs = let l : tie.At-loop Inv-loop μ-loop = search in next
 
 loop-again : tie.Need-loop-again Inv-loop μ-loop
 loop-again c =
-    let f : tie.After-put-field Inv-loop μ-loop = search in
-    let l : tie.At-loop Inv-loop μ-loop = search in
+    let f : tie.After-put-field Inv-loop μ-loop = search in let l : tie.At-loop Inv-loop μ-loop = search in
     (omega arith, omega arith, next-put _ (l .loop .i) (l .loop .inv .2) (omega arith) (f .put-field .ensures))
 
 same-length : tie.Need-same-length Inv-loop μ-loop

@@ -22,32 +22,27 @@ cast-b c = let l : tie.At-loop Inv-loop μ-loop = search in omega (arith, c .sha
 
 returns : tie.Need-returns Inv-loop μ-loop
 returns c =
-    let l : tie.At-loop Inv-loop μ-loop = search in
-    let x : tie.Start Inv-loop μ-loop = search in
+    let l : tie.At-loop Inv-loop μ-loop = search in let x : tie.Start Inv-loop μ-loop = search in
     (l .loop .inv .2 ∙ more-below (x .args .bytes .now) (l .loop .p) (search) (l .loop .value) (search), l .loop .inv .0)
 
 returns-2 : tie.Need-returns-2 Inv-loop μ-loop
 returns-2 c =
-    let l : tie.At-loop Inv-loop μ-loop = search in
-    let x : tie.Start Inv-loop μ-loop = search in
+    let l : tie.At-loop Inv-loop μ-loop = search in let x : tie.Start Inv-loop μ-loop = search in
     (l .loop .inv .2 ∙ more-above (x .args .bytes .now) (l .loop .p) (search) (l .loop .value) (search), l .loop .inv .0)
 
 returns-3 : tie.Need-returns-3 Inv-loop μ-loop
 returns-3 c =
-    let l : tie.At-loop Inv-loop μ-loop = search in
-    let x : tie.Start Inv-loop μ-loop = search in
+    let l : tie.At-loop Inv-loop μ-loop = search in let x : tie.Start Inv-loop μ-loop = search in
     l .loop .inv .2 ∙ more-over (x .args .bytes .now) (l .loop .p) (search) (l .loop .value) (search) (search) (search)
 
 loop-again : tie.Need-loop-again Inv-loop μ-loop
 loop-again c =
-    let l : tie.At-loop Inv-loop μ-loop = search in
-    let x : tie.Start Inv-loop μ-loop = search in
+    let l : tie.At-loop Inv-loop μ-loop = search in let x : tie.Start Inv-loop μ-loop = search in
     (omega arith, search, l .loop .inv .2 ∙ more-step (x .args .bytes .now) (l .loop .p) (search) (l .loop .value) (search) (search) (search))
 
 returns-4 : tie.Need-returns-4 Inv-loop μ-loop
 returns-4 c =
-    let l : tie.At-loop Inv-loop μ-loop = search in
-    let x : tie.Start Inv-loop μ-loop = search in
+    let l : tie.At-loop Inv-loop μ-loop = search in let x : tie.Start Inv-loop μ-loop = search in
     (l .loop .inv .2 ∙ more-end (x .args .bytes .now) (l .loop .p) (l .loop .value) (search), l .loop .inv .0)
 
 pub more-at-spec : {M : Type 1} → statement M

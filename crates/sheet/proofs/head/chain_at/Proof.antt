@@ -10,16 +10,12 @@ returns c = let x : tie.Start = search in first-stands chainLine (x .args .first
 
 returns-2 : tie.Need-returns-2
 returns-2 c =
-    let l : tie.After-numbers-at = search in
-    let t : tie.After-tabs-at = search in
-    let x : tie.Start = search in
+    let l : tie.After-numbers-at = search in let t : tie.After-tabs-at = search in let x : tie.Start = search in
     chain-form (x .args .first) (search) (t .tabs-at .ensures) (l .numbers-at .ensures) (search)
 
 swaps-there : tie.Need-array-share-prefix-swaps
 swaps-there c =
-    let l : tie.After-numbers-at = search in
-    let t : tie.After-tabs-at = search in
-    let x : tie.Start = search in
+    let l : tie.After-numbers-at = search in let t : tie.After-tabs-at = search in let x : tie.Start = search in
     swaps-inside (x .args .first) (search) (t .tabs-at .ensures) (l .numbers-at .ensures) (search)
 
 swaps-counted : tie.Need-slice-aggregate-first-above
@@ -27,17 +23,13 @@ swaps-counted c = sym (length-take-le _ _ (swaps-there (search)))
 
 returns-3 : tie.Need-returns-3
 returns-3 c =
-    let b : tie.After-first-above = search in
-    let l : tie.After-numbers-at = search in
-    let t : tie.After-tabs-at = search in
+    let b : tie.After-first-above = search in let l : tie.After-numbers-at = search in let t : tie.After-tabs-at = search in
     let x : tie.Start = search in
     chain-bad (x .args .first) (search) (t .tabs-at .ensures) (l .numbers-at .ensures) (search) (b .first-above .ensures) (search) (search)
 
 returns-4 : tie.Need-returns-4
 returns-4 c =
-    let b : tie.After-first-above = search in
-    let l : tie.After-numbers-at = search in
-    let t : tie.After-tabs-at = search in
+    let b : tie.After-first-above = search in let l : tie.After-numbers-at = search in let t : tie.After-tabs-at = search in
     let x : tie.Start = search in
     chain-go (x .args .first) (search) (t .tabs-at .ensures) (l .numbers-at .ensures) (search) (b .first-above .ensures) (search)
 

@@ -10,24 +10,18 @@ returns c = let x : tie.Start = search in first-stands orderLine (x .args .first
 
 returns-2 : tie.Need-returns-2
 returns-2 c =
-    let l : tie.After-numbers-at = search in
-    let t : tie.After-order-fields = search in
-    let x : tie.Start = search in
+    let l : tie.After-numbers-at = search in let t : tie.After-order-fields = search in let x : tie.Start = search in
     order-form (x .args .first) (search) (t .order-fields .ensures) (l .numbers-at .ensures) (search)
 
 returns-3 : tie.Need-returns-3
 returns-3 c =
-    let n : tie.After-order-number = search in
-    let l : tie.After-numbers-at = search in
-    let t : tie.After-order-fields = search in
+    let n : tie.After-order-number = search in let l : tie.After-numbers-at = search in let t : tie.After-order-fields = search in
     let x : tie.Start = search in
     order-no (x .args .first) (search) (t .order-fields .ensures) (l .numbers-at .ensures) (search) (n .order-number .ensures) (search) (search)
 
 returns-4 : tie.Need-returns-4
 returns-4 c =
-    let n : tie.After-order-number = search in
-    let l : tie.After-numbers-at = search in
-    let t : tie.After-order-fields = search in
+    let n : tie.After-order-number = search in let l : tie.After-numbers-at = search in let t : tie.After-order-fields = search in
     let x : tie.Start = search in
     order-go (x .args .first) (search) (t .order-fields .ensures) (l .numbers-at .ensures) (search) (n .order-number .ensures) (search)
 

@@ -12,8 +12,7 @@ returns c =
 
 returns-2 : tie.Need-returns-2
 returns-2 c =
-    let t : tie.After-tabs-at = search in
-    let x : tie.Start = search in
+    let t : tie.After-tabs-at = search in let x : tie.Start = search in
     let e = t .tabs-at .ensures in
     rw (ne-eqb (tabs (drop (x .args .at) (x .args .bytes .now))) 2 (λ z. c .if1 .left (e ∙ z)))
 

@@ -12,24 +12,18 @@ numbers-at-requires c κs = let s : tie.After-no-page2 = search in rw (s .no-pag
 
 returns-2 : tie.Need-returns-2
 returns-2 c =
-    let l : tie.After-numbers-at = search in
-    let s : tie.After-no-page2 = search in
-    let x : tie.Start = search in
+    let l : tie.After-numbers-at = search in let s : tie.After-no-page2 = search in let x : tie.Start = search in
     shape-form (x .args .words .now) (search) (s .no-page2 .ensures) (l .numbers-at .ensures) (search)
 
 returns-3 : tie.Need-returns-3
 returns-3 c =
-    let n : tie.After-sheet-number = search in
-    let l : tie.After-numbers-at = search in
-    let s : tie.After-no-page2 = search in
+    let n : tie.After-sheet-number = search in let l : tie.After-numbers-at = search in let s : tie.After-no-page2 = search in
     let x : tie.Start = search in
     shape-no (x .args .words .now) (search) (s .no-page2 .ensures) (l .numbers-at .ensures) (search) (n .sheet-number .ensures) (search) (search)
 
 returns-4 : tie.Need-returns-4
 returns-4 c =
-    let n : tie.After-sheet-number = search in
-    let l : tie.After-numbers-at = search in
-    let s : tie.After-no-page2 = search in
+    let n : tie.After-sheet-number = search in let l : tie.After-numbers-at = search in let s : tie.After-no-page2 = search in
     let x : tie.Start = search in
     shape-go (x .args .words .now) (search) (s .no-page2 .ensures) (l .numbers-at .ensures) (search) (n .sheet-number .ensures) (search)
 

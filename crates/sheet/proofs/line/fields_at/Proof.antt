@@ -19,24 +19,20 @@ loop-holds c = let x : tie.Start Inv-loop μ-loop = search in (omega arith, x .p
 
 returns : tie.Need-returns Inv-loop μ-loop
 returns c =
-    let f : tie.After-field-at Inv-loop μ-loop = search in
-    let l : tie.At-loop Inv-loop μ-loop = search in
+    let f : tie.After-field-at Inv-loop μ-loop = search in let l : tie.At-loop Inv-loop μ-loop = search in
     let x : tie.Start Inv-loop μ-loop = search in
     fields-stop (l .loop .i) (x .args .n) (drop (x .args .at) (x .args .bytes .now)) (l .loop .inv .2) (rw (c .enum-told .given .1) at (f .field-at .ensures)) (omega arith)
 
 loop-again : tie.Need-loop-again Inv-loop μ-loop
 loop-again c =
-    let k : tie.After-f Inv-loop μ-loop = search in
-    let f : tie.After-field-at Inv-loop μ-loop = search in
-    let l : tie.At-loop Inv-loop μ-loop = search in
-    let x : tie.Start Inv-loop μ-loop = search in
+    let k : tie.After-f Inv-loop μ-loop = search in let f : tie.After-field-at Inv-loop μ-loop = search in
+    let l : tie.At-loop Inv-loop μ-loop = search in let x : tie.Start Inv-loop μ-loop = search in
     let found = rw (k .f .given .1) at (f .field-at .ensures) in
     (omega arith, found .1, got (fields-more (l .loop .i) (drop (x .args .at) (x .args .bytes .now)) (l .loop .inv .2) (found .0)))
 
 returns-2 : tie.Need-returns-2 Inv-loop μ-loop
 returns-2 c =
-    let l : tie.At-loop Inv-loop μ-loop = search in
-    let x : tie.Start Inv-loop μ-loop = search in
+    let l : tie.At-loop Inv-loop μ-loop = search in let x : tie.Start Inv-loop μ-loop = search in
     let e : l .loop .i ≡ x .args .n = omega arith in
     (rw (← e) (l .loop .inv .2), l .loop .inv .1)
 

@@ -6,35 +6,28 @@ use Rattle.sheet.proofs.line.line_at.Tie as tie
 
 returns : tie.Need-returns
 returns c =
-    let w : tie.After-word-at = search in
-    let x : tie.Start = search in
+    let w : tie.After-word-at = search in let x : tie.Start = search in
     line-no-word (x .args .bytes .now) (x .args .at) (x .args .word .now) (x .args .n) (w .word-at .ensures) (search)
 
 fields-at-requires : tie.Need-fields-at-requires
 fields-at-requires c κs =
-    let w : tie.After-word-at = search in
-    let x : tie.Start = search in
+    let w : tie.After-word-at = search in let x : tie.Start = search in
     line-inside (x .args .bytes .now) (x .args .at) (x .args .word .now) (x .args .n) (w .word-at .ensures) (search) (x .pre)
 
 add-fields-at : tie.Need-add-fields-at
 add-fields-at c =
-    let w : tie.After-word-at = search in
-    let x : tie.Start = search in
+    let w : tie.After-word-at = search in let x : tie.Start = search in
     omega (arith, line-inside (x .args .bytes .now) (x .args .at) (x .args .word .now) (x .args .n) (w .word-at .ensures) (search) (x .pre))
 
 returns-2 : tie.Need-returns-2
 returns-2 c =
-    let f : tie.After-fields-at = search in
-    let w : tie.After-word-at = search in
-    let x : tie.Start = search in
+    let f : tie.After-fields-at = search in let w : tie.After-word-at = search in let x : tie.Start = search in
     line-no-fields (x .args .bytes .now) (x .args .at) (x .args .word .now) (x .args .n) (w .word-at .ensures) (search)
     (rw (c .enum-told .given .1) at (f .fields-at .ensures))
 
 returns-3 : tie.Need-returns-3
 returns-3 c =
-    let k : tie.After-f = search in
-    let f : tie.After-fields-at = search in
-    let w : tie.After-word-at = search in
+    let k : tie.After-f = search in let f : tie.After-fields-at = search in let w : tie.After-word-at = search in
     let x : tie.Start = search in
     let found = rw (k .f .given .1) at (f .fields-at .ensures) in
     line-no-feed (x .args .bytes .now) (x .args .at) (x .args .word .now) (x .args .n) (w .word-at .ensures) (search) (k .f .given .0 .0) (found .0)
@@ -42,15 +35,12 @@ returns-3 c =
 
 add-next : tie.Need-add-t10
 add-next c =
-    let k : tie.After-f = search in
-    let x : tie.Start = search in
+    let k : tie.After-f = search in let x : tie.Start = search in
     omega (arith, byte-inside (x .args .bytes .now) (k .f .given .0 .0) {b = 10} (search via) (omega arith))
 
 returns-4 : tie.Need-returns-4
 returns-4 c =
-    let k : tie.After-f = search in
-    let f : tie.After-fields-at = search in
-    let w : tie.After-word-at = search in
+    let k : tie.After-f = search in let f : tie.After-fields-at = search in let w : tie.After-word-at = search in
     let x : tie.Start = search in
     let found = rw (k .f .given .1) at (f .fields-at .ensures) in
     line-read (x .args .bytes .now) (x .args .at) (x .args .word .now) (x .args .n) (w .word-at .ensures) (search) (k .f .given .0 .0) (found .0)

@@ -14,14 +14,12 @@ abbrev μ-loop : tie.MeasureT-loop
 
 returns : tie.Need-returns Inv-loop μ-loop
 returns c =
-    let l : tie.At-loop Inv-loop μ-loop = search in
-    let x : tie.Start Inv-loop μ-loop = search in
+    let l : tie.At-loop Inv-loop μ-loop = search in let x : tie.Start Inv-loop μ-loop = search in
     omega (arith, tabs-feed (x .args .bytes .now) (l .loop .p) (search) (search))
 
 loop-again : tie.Need-loop-again Inv-loop μ-loop
 loop-again c =
-    let l : tie.At-loop Inv-loop μ-loop = search in
-    let x : tie.Start Inv-loop μ-loop = search in
+    let l : tie.At-loop Inv-loop μ-loop = search in let x : tie.Start Inv-loop μ-loop = search in
     ⊎-elim
     (λ h. (omega arith, omega arith, omega (arith, h, tabs-tab (x .args .bytes .now) (l .loop .p) (search) (h .0 .taken))))
     (λ h. (omega arith, omega arith, omega (arith, h, tabs-other (x .args .bytes .now) (l .loop .p) (search) (search) (h .0 .left))))
@@ -29,8 +27,7 @@ loop-again c =
 
 returns-2 : tie.Need-returns-2 Inv-loop μ-loop
 returns-2 c =
-    let l : tie.At-loop Inv-loop μ-loop = search in
-    let x : tie.Start Inv-loop μ-loop = search in
+    let l : tie.At-loop Inv-loop μ-loop = search in let x : tie.Start Inv-loop μ-loop = search in
     omega (arith, tabs-end (x .args .bytes .now) (l .loop .p) (search))
 
 pub tabs-at-spec : {M : Type 1} → statement M

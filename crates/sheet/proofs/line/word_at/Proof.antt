@@ -20,21 +20,18 @@ loop-holds c = let x : tie.Start Inv-loop μ-loop = search in (omega arith, omeg
 
 returns-2 : tie.Need-returns-2 Inv-loop μ-loop
 returns-2 c =
-    let l : tie.At-loop Inv-loop μ-loop = search in
-    let x : tie.Start Inv-loop μ-loop = search in
+    let l : tie.At-loop Inv-loop μ-loop = search in let x : tie.Start Inv-loop μ-loop = search in
     sym (l .loop .inv .3 ∙ word-other (x .args .bytes .now) (x .args .at) (x .args .word .now) (l .loop .i) (omega arith) (omega arith) (search))
 
 loop-again : tie.Need-loop-again Inv-loop μ-loop
 loop-again c =
-    let l : tie.At-loop Inv-loop μ-loop = search in
-    let x : tie.Start Inv-loop μ-loop = search in
+    let l : tie.At-loop Inv-loop μ-loop = search in let x : tie.Start Inv-loop μ-loop = search in
     let on = word-step (x .args .bytes .now) (x .args .at) (x .args .word .now) (l .loop .i) (omega arith) (omega arith) (search) in
     (omega arith, l .loop .inv .1, l .loop .inv .2, l .loop .inv .3 ∙ on)
 
 returns-3 : tie.Need-returns-3 Inv-loop μ-loop
 returns-3 c =
-    let l : tie.At-loop Inv-loop μ-loop = search in
-    let x : tie.Start Inv-loop μ-loop = search in
+    let l : tie.At-loop Inv-loop μ-loop = search in let x : tie.Start Inv-loop μ-loop = search in
     sym (l .loop .inv .3 ∙ word-end (x .args .bytes .now) (x .args .at) (x .args .word .now) (l .loop .i) (omega arith))
 
 pub word-at-spec : {M : Type 1} → statement M

@@ -15,14 +15,12 @@ loop-holds c = let x : tie.Start Inv-loop μ-loop = search in (omega arith, x .p
 
 returns : tie.Need-returns Inv-loop μ-loop
 returns c =
-    let r : tie.After-line-at Inv-loop μ-loop = search in
-    let l : tie.At-loop Inv-loop μ-loop = search in
+    let r : tie.After-line-at Inv-loop μ-loop = search in let l : tie.At-loop Inv-loop μ-loop = search in
     wrong-row _ _ _ _ (l .loop .p) (l .loop .i) (l .loop .inv .2) (rw (c .enum-told .given .1) at (r .line-at .ensures)) (omega arith)
 
 loop-again : tie.Need-loop-again Inv-loop μ-loop
 loop-again c =
-    let k : tie.After-l Inv-loop μ-loop = search in
-    let r : tie.After-line-at Inv-loop μ-loop = search in
+    let k : tie.After-l Inv-loop μ-loop = search in let r : tie.After-line-at Inv-loop μ-loop = search in
     let l : tie.At-loop Inv-loop μ-loop = search in
     let found = rw (k .l .given .1) at (r .line-at .ensures) in
     (omega arith, found .1, one-passed _ _ _ _ (l .loop .p) (l .loop .i) (l .loop .inv .2) (found .0) (omega arith))

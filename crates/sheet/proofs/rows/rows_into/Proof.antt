@@ -25,17 +25,13 @@ rows-at-requires c κs = let x : tie.Start = search in (x .pre .inside, omega (a
 
 returns-2 : tie.Need-returns-2
 returns-2 c =
-    let r : tie.After-rows-at = search in
-    let w : tie.After-words-of = search in
-    let x : tie.Start = search in
+    let r : tie.After-rows-at = search in let w : tie.After-words-of = search in let x : tie.Start = search in
     let k = known x (search) in
     rows-kept (x .args .bytes .now) (x .args .second) (search) (w .words-of .ensures ∙ k .rows) (k .wide) (r .rows-at .ensures) (search) (search)
 
 store-rows-requires : tie.Need-store-rows-requires
 store-rows-requires c κs =
-    let r : tie.After-rows-at = search in
-    let w : tie.After-words-of = search in
-    let x : tie.Start = search in
+    let r : tie.After-rows-at = search in let w : tie.After-words-of = search in let x : tie.Start = search in
     let k = known x (search) in
     (x .pre .inside, rows-fit k (w .words-of .ensures ∙ k .rows) (k .wide), record { rows = r .rows-at .ensures .right (search) })
 
@@ -44,9 +40,7 @@ same-length c = let s : tie.After-store-rows = search in ap length (s .store-row
 
 returns-3 : tie.Need-returns-3
 returns-3 c =
-    let s : tie.After-store-rows = search in
-    let r : tie.After-rows-at = search in
-    let w : tie.After-words-of = search in
+    let s : tie.After-store-rows = search in let r : tie.After-rows-at = search in let w : tie.After-words-of = search in
     let x : tie.Start = search in
     let k = known x (search) in
     rows-stored (x .args .bytes .now) (x .args .second) (search) (w .words-of .ensures ∙ k .rows) (k .wide) (r .rows-at .ensures) (search) (s .store-rows .ensures)

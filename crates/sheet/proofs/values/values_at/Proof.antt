@@ -23,8 +23,7 @@ loop-holds c =
 
 returns : tie.Need-returns Inv-loop μ-loop
 returns c =
-    let f : tie.After-field-at Inv-loop μ-loop = search in
-    let l : tie.At-loop Inv-loop μ-loop = search in
+    let f : tie.After-field-at Inv-loop μ-loop = search in let l : tie.At-loop Inv-loop μ-loop = search in
     let x : tie.Start Inv-loop μ-loop = search in
     absurd (field-there (l .loop .i) (x .args .n) (drop (x .args .at) (x .args .bytes .now)) (x .pre .1 .found) (omega arith) (l .loop .inv .1)
     (rw (c .enum-told .given .1) at (f .field-at .ensures)))
@@ -34,10 +33,8 @@ array-write-out c = let start : tie.Start Inv-loop μ-loop = search in omega (ar
 
 loop-again : tie.Need-loop-again Inv-loop μ-loop
 loop-again c =
-    let known : tie.After-f Inv-loop μ-loop = search in
-    let f : tie.After-field-at Inv-loop μ-loop = search in
-    let at-loop : tie.At-loop Inv-loop μ-loop = search in
-    let start : tie.Start Inv-loop μ-loop = search in
+    let known : tie.After-f Inv-loop μ-loop = search in let f : tie.After-field-at Inv-loop μ-loop = search in
+    let at-loop : tie.At-loop Inv-loop μ-loop = search in let start : tie.Start Inv-loop μ-loop = search in
     let l = at-loop .loop in
     let bs = drop (start .args .at) (start .args .bytes .now) in
     let vs = numbersOf (readFields (l .i) bs) in
@@ -53,8 +50,7 @@ loop-again c =
 
 returns-2 : tie.Need-returns-2 Inv-loop μ-loop
 returns-2 c =
-    let at-loop : tie.At-loop Inv-loop μ-loop = search in
-    let start : tie.Start Inv-loop μ-loop = search in
+    let at-loop : tie.At-loop Inv-loop μ-loop = search in let start : tie.Start Inv-loop μ-loop = search in
     let e : at-loop .loop .i ≡ start .args .n = omega arith in
     rw (← e) (at-loop .loop .inv .2)
 

@@ -25,27 +25,22 @@ loop-holds c =
 
 returns : tie.Need-returns Inv-loop μ-loop
 returns c =
-    let f : tie.After-field-at Inv-loop μ-loop = search in
-    let l : tie.At-loop Inv-loop μ-loop = search in
+    let f : tie.After-field-at Inv-loop μ-loop = search in let l : tie.At-loop Inv-loop μ-loop = search in
     let x : tie.Start Inv-loop μ-loop = search in
     absurd (field-there (l .loop .i) (x .args .n) (drop (x .args .at) (x .args .bytes .now)) (x .pre .2 .found) (omega arith) (l .loop .inv .1)
     (rw (c .enum-told .given .1) at (f .field-at .ensures)))
 
 cast-words : tie.Need-cast-words Inv-loop μ-loop
 cast-words c =
-    let known : tie.After-f Inv-loop μ-loop = search in
-    let f : tie.After-field-at Inv-loop μ-loop = search in
-    let l : tie.At-loop Inv-loop μ-loop = search in
-    let x : tie.Start Inv-loop μ-loop = search in
+    let known : tie.After-f Inv-loop μ-loop = search in let f : tie.After-field-at Inv-loop μ-loop = search in
+    let l : tie.At-loop Inv-loop μ-loop = search in let x : tie.Start Inv-loop μ-loop = search in
     let found = rw (known .f .given .1) at (f .field-at .ensures) in
     omega (arith, field-text (drop (l .loop .p) (x .args .bytes .now)) (found .0) .1)
 
 loop-again : tie.Need-loop-again Inv-loop μ-loop
 loop-again c =
-    let known : tie.After-f Inv-loop μ-loop = search in
-    let f : tie.After-field-at Inv-loop μ-loop = search in
-    let at-loop : tie.At-loop Inv-loop μ-loop = search in
-    let start : tie.Start Inv-loop μ-loop = search in
+    let known : tie.After-f Inv-loop μ-loop = search in let f : tie.After-field-at Inv-loop μ-loop = search in
+    let at-loop : tie.At-loop Inv-loop μ-loop = search in let start : tie.Start Inv-loop μ-loop = search in
     let l = at-loop .loop in
     let bs = drop (start .args .at) (start .args .bytes .now) in
     let vs = numbersOf (readFields (l .i) bs) in
@@ -63,8 +58,7 @@ loop-again c =
 
 returns-2 : tie.Need-returns-2 Inv-loop μ-loop
 returns-2 c =
-    let at-loop : tie.At-loop Inv-loop μ-loop = search in
-    let start : tie.Start Inv-loop μ-loop = search in
+    let at-loop : tie.At-loop Inv-loop μ-loop = search in let start : tie.Start Inv-loop μ-loop = search in
     let l = at-loop .loop in
     let e : l .i ≡ start .args .n = omega arith in
     rw (← e) (record { read = l .inv .1; inside = l .inv .3; stored = l .inv .4 })

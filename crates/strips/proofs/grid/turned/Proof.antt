@@ -13,8 +13,7 @@ slice-aggregate-turn-grid c = let s : tie.Start = search in sym (length-take-le 
 
 returns : tie.Need-returns
 returns c =
-    let t : tie.After-turn-grid = search in
-    let s : tie.Start = search in
+    let t : tie.After-turn-grid = search in let s : tie.Start = search in
     let w = t .turn-grid .ensures .turned (lent-turnable (s .pre) (omega arith) (enough s)) in
     (w .1, lent-back ((s .args .m * s .args .n + 63) / 64) (s .args .room .now) (w .2) (enough s))
 

@@ -13,8 +13,7 @@ abbrev μ-loop : tie.MeasureT-loop
 
 loop-again-2 : tie.Need-loop-again-2 Inv-loop μ-loop
 loop-again-2 c =
-    let l : tie.At-loop Inv-loop μ-loop = search in
-    let s : tie.Start Inv-loop μ-loop = search in
+    let l : tie.At-loop Inv-loop μ-loop = search in let s : tie.Start Inv-loop μ-loop = search in
     (omega arith, omega arith, cut-next (s .pre .0) (l .loop .inv .0) (omega arith))
 
 pub thin-spec : {M : Type 1} → statement M

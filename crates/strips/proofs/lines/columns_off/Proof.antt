@@ -14,8 +14,7 @@ abbrev μ-loop : tie.MeasureT-loop
 
 narrow-requires : tie.Need-narrow-requires Inv-loop μ-loop
 narrow-requires c κs =
-    let b : tie.After-batch Inv-loop μ-loop = search in
-    let l : tie.At-loop Inv-loop μ-loop = search in
+    let b : tie.After-batch Inv-loop μ-loop = search in let l : tie.At-loop Inv-loop μ-loop = search in
     let s : tie.Start Inv-loop μ-loop = search in
     let i = l .loop .inv in
     let some = b .batch .ensures in
@@ -23,16 +22,14 @@ narrow-requires c κs =
 
 loop-again : tie.Need-loop-again Inv-loop μ-loop
 loop-again c =
-    let w : tie.After-narrow Inv-loop μ-loop = search in
-    let b : tie.After-batch Inv-loop μ-loop = search in
+    let w : tie.After-narrow Inv-loop μ-loop = search in let b : tie.After-batch Inv-loop μ-loop = search in
     let l : tie.At-loop Inv-loop μ-loop = search in
     let i = l .loop .inv in
     (omega (arith, b .batch .ensures .few), omega arith, columns-more (omega (arith, b .batch .ensures .few)) (i .1) (i .2) (w .narrow .ensures .0), w .narrow .ensures .1 ∙ i .3)
 
 returns : tie.Need-returns Inv-loop μ-loop
 returns c =
-    let l : tie.At-loop Inv-loop μ-loop = search in
-    let s : tie.Start Inv-loop μ-loop = search in
+    let l : tie.At-loop Inv-loop μ-loop = search in let s : tie.Start Inv-loop μ-loop = search in
     let i = l .loop .inv in
     let e : l .loop .p ≡ s .args .start = omega arith in
     (rw e at (i .2), i .3)

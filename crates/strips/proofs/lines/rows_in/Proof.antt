@@ -14,8 +14,7 @@ abbrev μ-loop : tie.MeasureT-loop
 
 widen-requires : tie.Need-widen-requires Inv-loop μ-loop
 widen-requires c κs =
-    let b : tie.After-batch Inv-loop μ-loop = search in
-    let l : tie.At-loop Inv-loop μ-loop = search in
+    let b : tie.After-batch Inv-loop μ-loop = search in let l : tie.At-loop Inv-loop μ-loop = search in
     let s : tie.Start Inv-loop μ-loop = search in
     let i = l .loop .inv in
     let some = b .batch .ensures in
@@ -23,16 +22,14 @@ widen-requires c κs =
 
 loop-again : tie.Need-loop-again Inv-loop μ-loop
 loop-again c =
-    let w : tie.After-widen Inv-loop μ-loop = search in
-    let b : tie.After-batch Inv-loop μ-loop = search in
+    let w : tie.After-widen Inv-loop μ-loop = search in let b : tie.After-batch Inv-loop μ-loop = search in
     let l : tie.At-loop Inv-loop μ-loop = search in
     let i = l .loop .inv in
     (omega arith, omega (arith, b .batch .ensures .few), rows-more (i .0) refl (i .2) (w .widen .ensures .0), w .widen .ensures .1 ∙ i .3)
 
 returns : tie.Need-returns Inv-loop μ-loop
 returns c =
-    let l : tie.At-loop Inv-loop μ-loop = search in
-    let s : tie.Start Inv-loop μ-loop = search in
+    let l : tie.At-loop Inv-loop μ-loop = search in let s : tie.Start Inv-loop μ-loop = search in
     let i = l .loop .inv in
     let e : l .loop .p ≡ s .args .end = omega arith in
     (rw e at (i .2), i .3)

@@ -20,10 +20,8 @@ few s = omega (arith, s .pre .0 .few, le-mul-of-pos-right (s .args .n * s .args 
 
 loop-again : tie.Need-loop-again Inv-loop μ-loop
 loop-again c =
-    let t : tie.After-trade Inv-loop μ-loop = search in
-    let k : tie.In-loop Inv-loop μ-loop = search in
-    let l : tie.At-loop Inv-loop μ-loop = search in
-    let s : tie.Start Inv-loop μ-loop = search in
+    let t : tie.After-trade Inv-loop μ-loop = search in let k : tie.In-loop Inv-loop μ-loop = search in
+    let l : tie.At-loop Inv-loop μ-loop = search in let s : tie.Start Inv-loop μ-loop = search in
     let p = ends k in
     let w = s .pre .0 .inside in
     let same = l .loop .inv .1 .same in (
@@ -34,8 +32,7 @@ loop-again c =
 
 returns : tie.Need-returns Inv-loop μ-loop
 returns c =
-    let l : tie.At-loop Inv-loop μ-loop = search in
-    let s : tie.Start Inv-loop μ-loop = search in
+    let l : tie.At-loop Inv-loop μ-loop = search in let s : tie.Start Inv-loop μ-loop = search in
     let e : l .loop .j ≡ s .args .i = omega arith in
     rw e at (l .loop .inv .1)
 

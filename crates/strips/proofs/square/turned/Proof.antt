@@ -12,14 +12,12 @@ abbrev μ-loop : tie.MeasureT-loop
 
 loop-again : tie.Need-loop-again Inv-loop μ-loop
 loop-again c =
-    let k : tie.After-cross Inv-loop μ-loop = search in
-    let l : tie.At-loop Inv-loop μ-loop = search in
+    let k : tie.After-cross Inv-loop μ-loop = search in let l : tie.At-loop Inv-loop μ-loop = search in
     (omega arith, square-more (omega arith) (l .loop .inv .1) (k .cross .ensures))
 
 returns-2 : tie.Need-returns-2 Inv-loop μ-loop
 returns-2 c =
-    let l : tie.At-loop Inv-loop μ-loop = search in
-    let s : tie.Start Inv-loop μ-loop = search in
+    let l : tie.At-loop Inv-loop μ-loop = search in let s : tie.Start Inv-loop μ-loop = search in
     let e : l .loop .i ≡ s .args .n = omega arith in
     square-all (rw e at (l .loop .inv .1))
 

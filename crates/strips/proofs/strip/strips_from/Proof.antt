@@ -7,8 +7,7 @@ use Rattle.strips.proofs.strip.strips_from.Tie as tie
 
 returns : tie.Need-returns
 returns c =
-    let k : tie.After-strips = search in
-    let s : tie.Start = search in
+    let k : tie.After-strips = search in let s : tie.Start = search in
     (part-blocks refl (s .pre .0 .inside) (k .strips .ensures .0), k .strips .ensures .1)
 
 pub strips-from-spec : {M : Type 1} → statement M

@@ -13,29 +13,25 @@ abbrev μ-loop : tie.MeasureT-loop
 
 returns : tie.Need-returns Inv-loop μ-loop
 returns c =
-    let k : tie.After-copy Inv-loop μ-loop = search in
-    let s : tie.Start Inv-loop μ-loop = search in
+    let k : tie.After-copy Inv-loop μ-loop = search in let s : tie.Start Inv-loop μ-loop = search in
     let h = s .pre in
     lifted-words (search) (k .copy .ensures .inside (omega (arith, h .room), omega (arith, h .inside)))
 
 columns-out-requires : tie.Need-columns-out-requires Inv-loop μ-loop
 columns-out-requires c κs =
-    let l : tie.At-loop Inv-loop μ-loop = search in
-    let s : tie.Start Inv-loop μ-loop = search in
+    let l : tie.At-loop Inv-loop μ-loop = search in let s : tie.Start Inv-loop μ-loop = search in
     let h = s .pre in
     let e = next-run (s .args .n * s .args .g) {j = l .loop .i} {k = s .args .m} (omega arith) in
     (h .columns, omega (arith, h .room, l .loop .inv .1 .same, e), omega (arith, h .inside, e))
 
 loop-again : tie.Need-loop-again Inv-loop μ-loop
 loop-again c =
-    let k : tie.After-columns-out Inv-loop μ-loop = search in
-    let l : tie.At-loop Inv-loop μ-loop = search in
+    let k : tie.After-columns-out Inv-loop μ-loop = search in let l : tie.At-loop Inv-loop μ-loop = search in
     (omega arith, lifted-more (l .loop .inv .1) (k .columns-out .ensures))
 
 returns-2 : tie.Need-returns-2 Inv-loop μ-loop
 returns-2 c =
-    let l : tie.At-loop Inv-loop μ-loop = search in
-    let s : tie.Start Inv-loop μ-loop = search in
+    let l : tie.At-loop Inv-loop μ-loop = search in let s : tie.Start Inv-loop μ-loop = search in
     let e : l .loop .i ≡ s .args .m = omega arith in
     rw e at (l .loop .inv .1)
 

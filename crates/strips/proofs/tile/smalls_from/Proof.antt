@@ -7,8 +7,7 @@ use Rattle.strips.proofs.tile.smalls_from.Tie as tie
 
 returns : tie.Need-returns
 returns c =
-    let k : tie.After-smalls = search in
-    let s : tie.Start = search in
+    let k : tie.After-smalls = search in let s : tie.Start = search in
     (part-blocks refl (s .pre .0 .inside) (k .smalls .ensures .0), k .smalls .ensures .1)
 
 pub smalls-from-spec : {M : Type 1} → statement M

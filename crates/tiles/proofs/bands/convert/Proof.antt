@@ -6,9 +6,7 @@ use Rattle.tiles.proofs.bands.convert.Tie as tie
 
 returns : tie.Need-returns
 returns c =
-    let z : tie.After-zero = search in
-    let v : tie.After-move-bands = search in
-    let s : tie.Start = search in
+    let z : tie.After-zero = search in let v : tie.After-move-bands = search in let s : tie.Start = search in
     let moved = v .move-bands .ensures in
     (moved .0, zeroed (s .pre .room) (moved .1) (z .zero .ensures .inside (omega (arith, moved .1, s .pre .room))))
 

@@ -13,16 +13,13 @@ abbrev μ-loop : tie.MeasureT-loop
 
 lay-piece-requires : tie.Need-lay-piece-requires Inv-loop μ-loop
 lay-piece-requires c κs =
-    let w : tie.After-smaller2 Inv-loop μ-loop = search in
-    let l : tie.At-loop Inv-loop μ-loop = search in
-    let n : tie.After-smaller Inv-loop μ-loop = search in
-    let s : tie.Start Inv-loop μ-loop = search in
+    let w : tie.After-smaller2 Inv-loop μ-loop = search in let l : tie.At-loop Inv-loop μ-loop = search in
+    let n : tie.After-smaller Inv-loop μ-loop = search in let s : tie.Start Inv-loop μ-loop = search in
     (fits-on (l .loop .inv .1 .same) (s .pre), piece (s .pre .small) (n .smaller .ensures) (w .smaller2 .ensures) (omega arith) (l .loop .inv .0))
 
 loop-again : tie.Need-loop-again Inv-loop μ-loop
 loop-again c =
-    let p : tie.After-lay-piece Inv-loop μ-loop = search in
-    let w : tie.After-smaller2 Inv-loop μ-loop = search in
+    let p : tie.After-lay-piece Inv-loop μ-loop = search in let w : tie.After-smaller2 Inv-loop μ-loop = search in
     let l : tie.At-loop Inv-loop μ-loop = search in
     let n : tie.After-smaller Inv-loop μ-loop = search in (
       add-mod-right (l .loop .j) (n .smaller .result) ∙ l .loop .inv .0,

@@ -21,8 +21,7 @@ reach : (i : tie.In-loop Inv-loop μ-loop) → let l = i .before in let t = l .b
     let from = f .rows-from .result in let to = t .rows-from2 .result in let words = a .b .rows * a .b .columns in
     (l .loop .x < a .b .rows) × (a .b .first + words ≤ 1048576) × (from .at + l .loop .x * from .step + a .wide ≤ words) × (to .at + l .loop .x * to .step + a .wide ≤ words)
 reach i =
-    let t : tie.After-rows-from2 Inv-loop μ-loop = search in
-    let f : tie.After-rows-from Inv-loop μ-loop = search in
+    let t : tie.After-rows-from2 Inv-loop μ-loop = search in let f : tie.After-rows-from Inv-loop μ-loop = search in
     let s : tie.Start Inv-loop μ-loop = search in
     let b = s .pre .0 .small in
     let p = s .pre .1 in (
@@ -34,12 +33,9 @@ reach i =
 
 loop-again : tie.Need-loop-again Inv-loop μ-loop
 loop-again c =
-    let m : tie.After-copy-run Inv-loop μ-loop = search in
-    let i : tie.In-loop Inv-loop μ-loop = search in
-    let l : tie.At-loop Inv-loop μ-loop = search in
-    let t : tie.After-rows-from2 Inv-loop μ-loop = search in
-    let f : tie.After-rows-from Inv-loop μ-loop = search in
-    let s : tie.Start Inv-loop μ-loop = search in
+    let m : tie.After-copy-run Inv-loop μ-loop = search in let i : tie.In-loop Inv-loop μ-loop = search in
+    let l : tie.At-loop Inv-loop μ-loop = search in let t : tie.After-rows-from2 Inv-loop μ-loop = search in
+    let f : tie.After-rows-from Inv-loop μ-loop = search in let s : tie.Start Inv-loop μ-loop = search in
     let row = reach i .0 in (
       omega (arith, row),
       m .copy-run .ensures .same ∙ l .loop .inv .1,
@@ -61,7 +57,6 @@ lay-piece-spec = tie.close (tie.spec
     (λ c. omega (arith, reach (search))) (λ c. record { fits = omega (arith, reach (search)) })
     (λ c. omega (arith, reach (search)))
     (λ c κs.
-    let l : tie.At-loop Inv-loop μ-loop = search in
-    let s : tie.Start Inv-loop μ-loop = search in
+    let l : tie.At-loop Inv-loop μ-loop = search in let s : tie.Start Inv-loop μ-loop = search in
     (omega (arith, reach (search), s .pre .0, l .loop .inv .1), omega (arith, reach (search), s .pre .0)))
     (search needs) (search needs) loop-again (search needs) returns)

@@ -6,9 +6,7 @@ use Rattle.tiles.proofs.bands.move_band.Tie as tie
 
 returns : tie.Need-returns
 returns c =
-    let l : tie.After-lay = search in
-    let p : tie.After-copy = search in
-    let s : tie.Start = search in
+    let l : tie.After-lay = search in let p : tie.After-copy = search in let s : tie.Start = search in
     band-moved (s .pre .small .before) (p .copy .ensures .inside (omega (arith, s .pre), omega (arith, s .pre))) (l .lay .ensures)
 
 pub move-band-spec : {M : Type 1} → statement M

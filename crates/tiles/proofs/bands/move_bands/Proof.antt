@@ -12,21 +12,18 @@ abbrev μ-loop : tie.MeasureT-loop
 
 mul-t8 : tie.Need-mul-t8 Inv-loop μ-loop
 mul-t8 c =
-    let l : tie.At-loop Inv-loop μ-loop = search in
-    let s : tie.Start Inv-loop μ-loop = search in
+    let l : tie.At-loop Inv-loop μ-loop = search in let s : tie.Start Inv-loop μ-loop = search in
     record { fits = omega (arith, s .pre, mul-le-mul-right {m = l .loop .i} {n = s .args .t .rows} (s .args .t .columns) (omega arith)) }
 
 move-band-requires : tie.Need-move-band-requires Inv-loop μ-loop
 move-band-requires c κs =
-    let w : tie.After-smaller Inv-loop μ-loop = search in
-    let l : tie.At-loop Inv-loop μ-loop = search in
+    let w : tie.After-smaller Inv-loop μ-loop = search in let l : tie.At-loop Inv-loop μ-loop = search in
     let s : tie.Start Inv-loop μ-loop = search in
     band-fits (record { first = l .loop .inv .0; low = omega arith; rows = w .smaller .ensures }) (s .pre) (l .loop .inv .1)
 
 loop-again : tie.Need-loop-again Inv-loop μ-loop
 loop-again c =
-    let v : tie.After-move-band Inv-loop μ-loop = search in
-    let w : tie.After-smaller Inv-loop μ-loop = search in
+    let v : tie.After-move-band Inv-loop μ-loop = search in let w : tie.After-smaller Inv-loop μ-loop = search in
     let l : tie.At-loop Inv-loop μ-loop = search in
     let s : tie.Start Inv-loop μ-loop = search in (
       add-mod-right (l .loop .i) (s .args .t .height) ∙ l .loop .inv .0,

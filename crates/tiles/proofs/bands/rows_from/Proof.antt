@@ -10,8 +10,7 @@ before-few s = mul-le-mul-left (s .args .rows) (omega (arith, s .pre))
 
 returns-2 : tie.Need-returns-2
 returns-2 c =
-    let w : tie.After-smaller = search in
-    let s : tie.Start = search in
+    let w : tie.After-smaller = search in let s : tie.Start = search in
     rows-narrow (omega arith) (s .pre .1) (w .smaller .ensures)
 
 pub rows-from-spec : {M : Type 1} → statement M
