@@ -12,7 +12,7 @@ use Rattle.orbits.specs.Along.{alongCycles}
 use Rattle.orbits.proofs.Along.{along-turns}
 use Rattle.orbits.proofs.Pairs.{none-other}
 use Rattle.cycles.specs.declared.Judged.{Judged}
-use Rattle.cycles.specs.Promise.{wrongCycles, JudgedAfter, JudgedAs, RunAs}
+use Rattle.cycles.specs.Promise.{wrongCycles, JudgedAfter, JudgePromise, RunPromise}
 use Rattle.orbits.specs.Private.{Small}
 use Rattle.cycles.specs.Private.{Compared}
 use Rattle.cycles.proofs.Comparing.{answer}
@@ -87,14 +87,14 @@ block-not-22 m n buffer =
 
 -- what judging and running answer, either way
 module _ (m n : ℕ) (list : List ℕ) where
-  pub judge-refused : {number : ℕ} → number ≡ firstOf (sizeChecks (sides m n)) → (number ≡ 0 → ⊥) → JudgedAs m n list (answer number 0)
+  pub judge-refused : {number : ℕ} → number ≡ firstOf (sizeChecks (sides m n)) → (number ≡ 0 → ⊥) → JudgePromise m n list (answer number 0)
   judge-refused e z = refused (sizeChecks (sides m n)) m n list e z (size-not-22 m n)
 
-  pub judge-accepted : {r : Judged} → firstOf (sizeChecks (sides m n)) ≡ 0 → Compared m n list r → JudgedAs m n list r
+  pub judge-accepted : {r : Judged} → firstOf (sizeChecks (sides m n)) ≡ 0 → Compared m n list r → JudgePromise m n list r
   judge-accepted e c = accepted (sizeChecks (sides m n)) m n list tt e c
 
   module _ (before : List ℕ) where
-    pub run-refused : {number : ℕ} → number ≡ firstOf (blockChecks (sides m n) before) → (number ≡ 0 → ⊥) → RunAs m n list before (answer number 0) before
+    pub run-refused : {number : ℕ} → number ≡ firstOf (blockChecks (sides m n) before) → (number ≡ 0 → ⊥) → RunPromise m n list before (answer number 0) before
     run-refused e z = record {
       answers = refused (blockChecks (sides m n) before) m n list e z (block-not-22 m n before);
       words = λ y. absurd (z y);
@@ -102,14 +102,14 @@ module _ (m n : ℕ) (list : List ℕ) where
     }
 
     module _ {r : Judged} (e : firstOf (blockChecks (sides m n) before) ≡ 0) (c : Compared m n list r) where
-      pub run-other : (r .number ≡ 0 → ⊥) → RunAs m n list before r before
+      pub run-other : (r .number ≡ 0 → ⊥) → RunPromise m n list before r before
       run-other z = record {
         answers = accepted (blockChecks (sides m n) before) m n list tt e c;
         words = λ y. absurd (z y);
         kept = λ _. refl;
       }
 
-      pub run-right : {after : List ℕ} → r .number ≡ 0 → after ≡ alongCycles (takes m n) (cycles m n) before → RunAs m n list before r after
+      pub run-right : {after : List ℕ} → r .number ≡ 0 → after ≡ alongCycles (takes m n) (cycles m n) before → RunPromise m n list before r after
       run-right z t = record {
         answers = accepted (blockChecks (sides m n) before) m n list tt e c;
         words = λ _. rw t (along-turns m n before (omega (arith, block-small m n before e .1)));

@@ -12,7 +12,7 @@ use Rattle.orbits.specs.Cycles.{cycles, takes, EveryCycleOnce}
 use Rattle.orbits.proofs.RightList.{every-cycle-once}
 use Rattle.orbits.proofs.Pairs.{one-other, none-other}
 use Rattle.cycles.specs.declared.Judged.{Judged}
-use Rattle.cycles.specs.Promise.{wrongCycles, JudgedAfter, JudgedAs, RunAs}
+use Rattle.cycles.specs.Promise.{wrongCycles, JudgedAfter, JudgePromise, RunPromise}
 use Rattle.cycles.proofs.Judging.{right-list, then-22}
 use Rattle.cycles.proofs.Comparing.{answer}
 
@@ -29,7 +29,7 @@ accepted-exactly cs clear {m} {n} {list} {a} p = (there, λ q. p .number-is ∙ 
         (e, same→eq list (cycles m n) (subst T (sym (not-false (same list (cycles m n)) quiet)) tt))
 
 -- a list is judged 0 exactly when the size is accepted and it is the right list
-pub judged-exactly : {m n : ℕ} {list : List ℕ} {a : Judged} → JudgedAs m n list a
+pub judged-exactly : {m n : ℕ} {list : List ℕ} {a : Judged} → JudgePromise m n list a
     → (a .number ≡ 0) ↔ ((firstOf (sizeChecks (sides m n)) ≡ 0) × (list ≡ cycles m n))
 judged-exactly {m} {n} p = accepted-exactly (sizeChecks (sides m n)) tt p
 
@@ -42,14 +42,14 @@ judge-once {a = a} {b} p q =
     let one : a .number ≡ b .number = p .number-is ∙ sym (q .number-is) in
     ap₂ answer one (either-way 22 one (λ d d′. one-other (p .differs d) (q .differs d′)) (λ o o′. p .otherwise o ∙ sym (q .otherwise o′)))
 
-pub run-once : {m n : ℕ} {list before after after′ : List ℕ} {a b : Judged} → RunAs m n list before a after → RunAs m n list before b after′
+pub run-once : {m n : ℕ} {list before after after′ : List ℕ} {a b : Judged} → RunPromise m n list before a after → RunPromise m n list before b after′
     → (a ≡ b) × (after ≡ after′)
 run-once {a = a} {b} p q =
     let one : a ≡ b = judge-once (p .answers) (q .answers) in
     (one, either-way 0 (ap (λ (r : Judged). r .number) one) (λ z z′. one-turn (p .words z) (q .words z′)) (λ k k′. p .kept k ∙ sym (q .kept k′)))
 
 -- a list is judged 0 exactly when the size is accepted and it has every cycle once, in the words of the request
-pub judged-every-cycle : {m n : ℕ} {list : List ℕ} {a : Judged} → JudgedAs m n list a
+pub judged-every-cycle : {m n : ℕ} {list : List ℕ} {a : Judged} → JudgePromise m n list a
     → (a .number ≡ 0) ↔ ((firstOf (sizeChecks (sides m n)) ≡ 0) × EveryCycleOnce (takes m n) (m * n) list)
 judged-every-cycle {m} {n} {list} p =
     let j = judged-exactly p in

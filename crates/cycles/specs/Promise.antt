@@ -29,11 +29,11 @@ pub record JudgedAfter (checks : List Check) (m n : ℕ) (list : List ℕ) (answ
   pub otherwise : (answered .number ≡ 22 → ⊥) → answered .place ≡ 0
 
 -- a list judged
-abbrev pub JudgedAs : ℕ → ℕ → List ℕ → Judged → Type 0
-JudgedAs m n list answered = JudgedAfter (cycleChecks m n list) m n list answered
+abbrev pub JudgePromise : ℕ → ℕ → List ℕ → Judged → Type 0
+JudgePromise m n list answered = JudgedAfter (cycleChecks m n list) m n list answered
 
 -- a list run: accepted, the words are the flat turn; refused, not one has changed
-pub record RunAs (m n : ℕ) (list before : List ℕ) (answered : Judged) (after : List ℕ) : Type 0 where
+pub record RunPromise (m n : ℕ) (list before : List ℕ) (answered : Judged) (after : List ℕ) : Type 0 where
   pub answers : JudgedAfter (runChecks m n list before) m n list answered
   pub words : answered .number ≡ 0 → Turn m n before after
   pub kept : (answered .number ≡ 0 → ⊥) → after ≡ before

@@ -7,7 +7,7 @@ ghost use mathlib.Core.List.{[], _∷_};
 ghost use Prim.Native.Nat.{_*_, _<_, _≤_};
 ghost use Rattle.lists.specs.Same.{same};
 ghost use Rattle.orbits.specs.Cycles.{takes, pairAt};
-ghost use Rattle.cycles.specs.Promise.{JudgedAs, RunAs};
+ghost use Rattle.cycles.specs.Promise.{JudgePromise, RunPromise};
 ghost use Rattle.orbits.specs.Private.{Small, Reciprocal};
 ghost use Rattle.cycles.specs.Private.{lengthOf, Compared};
 
@@ -78,7 +78,7 @@ fn compare(list: &[u32], m: usize, n: usize) -> Judged
 
 // Judges a list of the cycles of a turn of m by n: 0 where it is the right list, or 1, 2, or 22 with the place of the first pair that differs.
 pub fn judge(list: &[u32], m: usize, n: usize) -> Judged
-    ensures { λ r. ⌜ JudgedAs m n (now (list .entry)) r ⌝ }
+    ensures { λ r. ⌜ JudgePromise m n (now (list .entry)) r ⌝ }
 {
     let sides = [m, n];
     let number = checks::size_number(&sides);
@@ -90,7 +90,7 @@ pub fn judge(list: &[u32], m: usize, n: usize) -> Judged
 
 // Runs a list of the cycles of a turn of m by n on the block within its buffer: the flat turn, without scratch; or 1, 2, 3, 13, 22.
 pub fn run(list: &[u32], buf: &mut [u32], m: usize, n: usize) -> Judged
-    ensures { λ r. ⌜ RunAs m n (now (list .entry)) (now (buf .entry)) r (now (buf .exit)) ⌝ }
+    ensures { λ r. ⌜ RunPromise m n (now (list .entry)) (now (buf .entry)) r (now (buf .exit)) ⌝ }
 {
     let sides = [m, n];
     let number = checks::block_number(&sides, buf);

@@ -12,7 +12,7 @@ use Rattle.desk.specs.declared.Frames.{Frames}
 use Rattle.desk.specs.Exchange.{reading, twiceOffset, offsetOf}
 use Rattle.desk.specs.Frames.{nearestFrame}
 use Rattle.desk.specs.Conditions.{farShift}
-use Rattle.desk.specs.Promises.{MeasuredAs, FramesAs}
+use Rattle.desk.specs.Promises.{OffsetDelayPromise, ToFramesPromise}
 use Rattle.desk.proofs.Readings.{twice-near}
 use Rattle.desk.proofs.Accepted.{measured, framed}
 
@@ -21,7 +21,7 @@ half-near n (pos a) h = omega arith
 half-near n (negsuc a) h = omega arith
 
 -- an offset of the offset call is no offset beyond 2 to the 61st
-pub offset-never-far : (run : List ℤ) (r : Measured) → MeasuredAs run r → r .number ≡ 0 → farShift (r .offset) ≡ false
+pub offset-never-far : (run : List ℤ) (r : Measured) → OffsetDelayPromise run r → r .number ≡ 0 → farShift (r .offset) ≡ false
 offset-never-far run r p e =
     let n = measured run (sym (p .number-is) ∙ e) .near in
     let within : natAbs (offsetOf run) ≤ 2 ^ 61 = half-near (2 ^ 61) (twiceOffset run) (twice-near run n) in
@@ -47,7 +47,7 @@ frames-near t z h k =
     (lt-or-ge (2 ^ 61 + above q) (below q)))
 
 -- the frames of an accepted offset are no shift beyond 2 to the 61st
-pub frames-never-far : (offset : ℤ) (ticks : ℕ) (r : Frames) → FramesAs offset ticks r → r .number ≡ 0 → farShift (r .frames) ≡ false
+pub frames-never-far : (offset : ℤ) (ticks : ℕ) (r : Frames) → ToFramesPromise offset ticks r → r .number ≡ 0 → farShift (r .frames) ≡ false
 frames-never-far offset ticks r p e =
     let b = framed offset ticks (sym (p .number-is) ∙ e) in
     ap farShift (p .given e) ∙ le-ltb (2 ^ 61) (natAbs (nearestFrame ticks offset)) (frames-near ticks offset (b .some) (b .near))

@@ -11,7 +11,7 @@ use Rattle.desk.specs.Exchange.{delayOf}
 use Rattle.desk.specs.Conditions.{measureChecks}
 use Rattle.desk.specs.Choice.{exchanges, usable, delayAt}
 use Rattle.desk.specs.ChoiceConditions.{anyUsable, noUsable, chooseChecks}
-use Rattle.desk.specs.ChoicePromises.{Four, ChosenAs}
+use Rattle.desk.specs.ChoicePromises.{Four, ChoosePromise}
 use Rattle.desk.specs.ChoicePromises.Four.{of-first, of-second}
 use Rattle.desk.proofs.Runs.{RunsPass, runs-pass}
 use Rattle.desk.proofs.Exchanges.{exchange-measured}
@@ -42,7 +42,7 @@ none-smaller (of-first j w p) = (λ i h u. rw (p .readings) (w .best .smallest i
 none-smaller (of-second j w p) = (λ i h u. rw (p .readings) (le (omega (arith, of-lt (w .ahead i h u)))), λ i h u. rw (p .readings) (w .best .smallest i h u))
 
 -- what an accepted choice hands back is four readings whose offset and delay are given
-pub chosen-measured : {first second r : RefT (List ℤ)} → ChosenAs first second r → firstOf (chooseChecks (first .now) (second .now)) ≡ 0
+pub chosen-measured : {first second r : RefT (List ℤ)} → ChoosePromise first second r → firstOf (chooseChecks (first .now) (second .now)) ≡ 0
     → firstOf (measureChecks (r .now)) ≡ 0
 chosen-measured {first} {second} {r} p e = go (p .given e)
   where

@@ -8,7 +8,7 @@ use Rattle.desk.proofs.Ends.{of-le, of-lt}
 use Rattle.desk.specs.Choice.{Best, FirstWins, SecondWins}
 use Rattle.desk.specs.ChoiceConditions.{chooseChecks}
 use Rattle.desk.specs.Parts.{PartOf, SamePart}
-use Rattle.desk.specs.ChoicePromises.{Four, ChosenAs, NumberAs}
+use Rattle.desk.specs.ChoicePromises.{Four, ChoosePromise, ChooseNumberPromise}
 use Rattle.desk.specs.ChoicePromises.Four.{of-first, of-second}
 
 not-before : {run : List ℤ} {m j k : ℕ} → Best run m j → Best run m k → j < k → ⊥
@@ -32,10 +32,10 @@ one-four (of-first j a p) (of-second k b q) = one-path a b
 one-four (of-second j a p) (of-first k b q) = one-path b a
 one-four (of-second j a p) (of-second k b q) = one-part (ap (λ (m : ℕ). 4 * m) (one-best (a .best) (b .best))) p q
 
-pub choose-once : {first second r r′ : RefT (List ℤ)} → ChosenAs first second r → ChosenAs first second r′ → SamePart r r′
+pub choose-once : {first second r r′ : RefT (List ℤ)} → ChoosePromise first second r → ChoosePromise first second r′ → SamePart r r′
 choose-once {first} {second} p q =
     ⊎-elim (λ z. one-four (p .given z) (q .given z)) (λ n. one-part refl (p .refused n) (q .refused n))
     (eq-or-ne (firstOf (chooseChecks (first .now) (second .now))) 0)
 
-pub choose-number-once : (first second : List ℤ) {r r′ : ℕ} → NumberAs first second r → NumberAs first second r′ → r ≡ r′
+pub choose-number-once : (first second : List ℤ) {r r′ : ℕ} → ChooseNumberPromise first second r → ChooseNumberPromise first second r′ → r ≡ r′
 choose-number-once first second p q = p ∙ sym q

@@ -15,10 +15,10 @@ pub data Four (first second r : RefT (List ℤ)) : Type 0 where
   of-second : (j : ℕ) → SecondWins (first .now) (second .now) j → PartOf second (4 * j) 4 r → Four first second r
 
 -- choosing: accepted, those four; refused, the empty start of the first run
-pub record ChosenAs (first second r : RefT (List ℤ)) : Type 0 where
+pub record ChoosePromise (first second r : RefT (List ℤ)) : Type 0 where
   pub given : firstOf (chooseChecks (first .now) (second .now)) ≡ 0 → Four first second r
   pub refused : (firstOf (chooseChecks (first .now) (second .now)) ≡ 0 → ⊥) → PartOf first 0 0 r
 
 -- the number of that choice: the first of its checks that holds, 0 where it was accepted
-abbrev pub NumberAs : List ℤ → List ℤ → ℕ → Type 0
-NumberAs first second number = number ≡ firstOf (chooseChecks first second)
+abbrev pub ChooseNumberPromise : List ℤ → List ℤ → ℕ → Type 0
+ChooseNumberPromise first second number = number ≡ firstOf (chooseChecks first second)

@@ -19,13 +19,13 @@ pub record Answers {A : Type 0} (checks : List Check) (right nothing : A) (numbe
   pub refused : (number ≡ 0 → ⊥) → answered ≡ nothing
 
 -- offset and delay of a run of four readings; refused, both are 0
-abbrev pub MeasuredAs : List ℤ → Measured → Type 0
-MeasuredAs run r = Answers {A = ℤ × ℤ} (measureChecks run) (offsetOf run, delayOf run) (pos 0, pos 0) (r .number) (r .offset, r .delay)
+abbrev pub OffsetDelayPromise : List ℤ → Measured → Type 0
+OffsetDelayPromise run r = Answers {A = ℤ × ℤ} (measureChecks run) (offsetOf run, delayOf run) (pos 0, pos 0) (r .number) (r .offset, r .delay)
 
 -- to frames: the nearest whole number of frames; refused, 0
-abbrev pub FramesAs : ℤ → ℕ → Frames → Type 0
-FramesAs offset ticks r = Answers (framesChecks offset ticks) (nearestFrame ticks offset) (pos 0) (r .number) (r .frames)
+abbrev pub ToFramesPromise : ℤ → ℕ → Frames → Type 0
+ToFramesPromise offset ticks r = Answers (framesChecks offset ticks) (nearestFrame ticks offset) (pos 0) (r .number) (r .frames)
 
 -- joining: the common frames run from the largest shift up to, not including, the smallest shift plus F; refused, both ends are 0
-abbrev pub JoinedAs : List ℤ → ℕ → Joined → Type 0
-JoinedAs shifts frames r = Answers {A = ℤ × ℤ} (joinChecks shifts frames) (largest shifts, endOf shifts frames) (pos 0, pos 0) (r .number) (r .first, r .end)
+abbrev pub JoinPromise : List ℤ → ℕ → Joined → Type 0
+JoinPromise shifts frames r = Answers {A = ℤ × ℤ} (joinChecks shifts frames) (largest shifts, endOf shifts frames) (pos 0, pos 0) (r .number) (r .first, r .end)

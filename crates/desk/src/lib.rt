@@ -15,8 +15,8 @@ use rounding::floor_by;
 ghost use mathlib.Core.Path.{_≡_};
 ghost use Rattle.refusals.specs.FirstOf.{firstOf};
 ghost use Rattle.desk.specs.Conditions.{farReading, measureChecks, framesChecks, shiftChecks};
-ghost use Rattle.desk.specs.ChoicePromises.{ChosenAs, NumberAs};
-ghost use Rattle.desk.specs.Promises.{MeasuredAs, FramesAs, JoinedAs};
+ghost use Rattle.desk.specs.ChoicePromises.{ChoosePromise, ChooseNumberPromise};
+ghost use Rattle.desk.specs.Promises.{OffsetDelayPromise, ToFramesPromise, JoinPromise};
 
 // What the call for offset and delay answers.
 #[repr(C)]
@@ -68,7 +68,7 @@ fn measure_number(run: &[i64]) -> u32
 
 // The offset and the delay of one exchange of four readings.
 pub fn offset_delay(run: &[i64]) -> Measured
-    ensures { λ r. ⌜ MeasuredAs (now (run .entry)) r ⌝ }
+    ensures { λ r. ⌜ OffsetDelayPromise (now (run .entry)) r ⌝ }
 {
     let number = measure_number(run);
     if number != 0 {
@@ -109,7 +109,7 @@ fn frames_number(offset: i64, ticks: usize) -> u32
 
 // The whole number of frames nearest to an offset in ticks, an exact half towards plus infinity.
 pub fn to_frames(offset: i64, ticks: usize) -> Frames
-    ensures { λ r. ⌜ FramesAs offset ticks r ⌝ }
+    ensures { λ r. ⌜ ToFramesPromise offset ticks r ⌝ }
 {
     let number = frames_number(offset, ticks);
     if number != 0 {
@@ -142,7 +142,7 @@ fn shifts_number(shifts: &[i64], frames: usize) -> u32
 
 // The frames that are common to all cameras: one shift a camera, and as many frames each.
 pub fn join(shifts: &[i64], frames: usize) -> Joined
-    ensures { λ r. ⌜ JoinedAs (now (shifts .entry)) frames r ⌝ }
+    ensures { λ r. ⌜ JoinPromise (now (shifts .entry)) frames r ⌝ }
 {
     let number = shifts_number(shifts, frames);
     if number != 0 {
@@ -172,7 +172,7 @@ pub fn join(shifts: &[i64], frames: usize) -> Joined
 
 // The four readings of the usable exchange with the smallest delay, as a part of the run that holds it; refused, the empty start of the first run.
 pub fn choose<'a>(first: &'a [i64], second: &'a [i64]) -> &'a [i64]
-    ensures { λ r. ⌜ ChosenAs (first .entry) (second .entry) r ⌝ }
+    ensures { λ r. ⌜ ChoosePromise (first .entry) (second .entry) r ⌝ }
 {
     let p = chosen_at(first, second);
     let number = p.number;
@@ -189,7 +189,7 @@ pub fn choose<'a>(first: &'a [i64], second: &'a [i64]) -> &'a [i64]
 
 // The number of that choice, 0 where it was accepted.
 pub fn choose_number(first: &[i64], second: &[i64]) -> u32
-    ensures { λ r. ⌜ NumberAs (now (first .entry)) (now (second .entry)) r ⌝ }
+    ensures { λ r. ⌜ ChooseNumberPromise (now (first .entry)) (now (second .entry)) r ⌝ }
 {
     let p = chosen_at(first, second);
     p.number

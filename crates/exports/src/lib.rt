@@ -5,19 +5,19 @@ ghost use Rattle.flat.specs.Promises.{TurnPromise, TurnBackPromise};
 ghost use Rattle.halves.specs.Promise.{TurnPromise as HalvesPromise};
 ghost use Rattle.plans.specs.Promise.{PlanPromise};
 ghost use Rattle.axes.specs.Promises.{ChainPromise, RequestPromise};
-ghost use Rattle.sheet.specs.Reader.{ReadAs};
-ghost use Rattle.sheet.specs.ResultReader.{ResultReadAs};
-ghost use Rattle.printer.specs.Writer.{WrittenAs, ReleaseWrittenAs};
-ghost use Rattle.job.specs.Job.{Done};
+ghost use Rattle.sheet.specs.Reader.{ReadPromise};
+ghost use Rattle.sheet.specs.ResultReader.{ReadResultPromise};
+ghost use Rattle.printer.specs.Writer.{WriteResultPromise, WriteReleasePromise};
+ghost use Rattle.job.specs.Job.{JobPromise};
 ghost use Rattle.home.specs.Promise.{RepeatsPromise};
 ghost use Rattle.cameras.specs.Promises.{RemovePromise, AddPromise};
 ghost use Rattle.tiles.specs.Promises.{ToTilesPromise, FromTilesPromise};
-ghost use Rattle.desk.specs.Promises.{MeasuredAs, FramesAs, JoinedAs};
-ghost use Rattle.desk.specs.ChoicePromises.{ChosenAs, NumberAs};
+ghost use Rattle.desk.specs.Promises.{OffsetDelayPromise, ToFramesPromise, JoinPromise};
+ghost use Rattle.desk.specs.ChoicePromises.{ChoosePromise, ChooseNumberPromise};
 ghost use Rattle.passes.specs.Ticks.{LinesPromise};
 ghost use Rattle.passes.specs.Restart.{memory, ResumePromise};
 ghost use Rattle.passes.specs.Steps.{StepPromise};
-ghost use Rattle.cycles.specs.Promise.{JudgedAs, RunAs};
+ghost use Rattle.cycles.specs.Promise.{JudgePromise, RunPromise};
 
 // The lengths of a sheet's four axes.
 #[repr(C)]
@@ -143,7 +143,7 @@ pub extern "C" fn zib_plan5(order: usize) -> plans::Planned
 // Reads a sheet into a word buffer.
 #[no_mangle]
 pub extern "C" fn zib_read_sheet(bytes: &[u8], words: &mut [u32]) -> sheet::Sheet
-    ensures { λ r. ⌜ ReadAs (now (words .entry)) (now (bytes .entry)) r (now (words .exit)) ⌝ }
+    ensures { λ r. ⌜ ReadPromise (now (words .entry)) (now (bytes .entry)) r (now (words .exit)) ⌝ }
 {
     sheet::read(bytes, words)
 }
@@ -156,7 +156,7 @@ pub extern "C" fn zib_write_result(
     words: &[u32],
     out: &mut [u8],
 ) -> printer::Written
-    ensures { λ r. ⌜ WrittenAs (shape .lengths) order (now (words .entry)) (now (out .entry)) r (now (out .exit)) ⌝ }
+    ensures { λ r. ⌜ WriteResultPromise (shape .lengths) order (now (words .entry)) (now (out .entry)) r (now (out .exit)) ⌝ }
 {
     let lengths = shape.lengths;
     printer::write_result(lengths, order, words, out)
@@ -170,7 +170,7 @@ pub extern "C" fn zib_job(
     scratch: &mut [u32; 1024],
     out: &mut [u8; 16384],
 ) -> job::JobAnswer
-    ensures { λ r. ⌜ Done (now (bytes .entry)) (now (words .entry)) (now (scratch .entry)) (now (out .entry)) (r .number) (r .place) (r .count) (now (words .exit)) (now (scratch .exit)) (now (out .exit)) ⌝ }
+    ensures { λ r. ⌜ JobPromise (now (bytes .entry)) (now (words .entry)) (now (scratch .entry)) (now (out .entry)) (r .number) (r .place) (r .count) (now (words .exit)) (now (scratch .exit)) (now (out .exit)) ⌝ }
 {
     job::job(bytes, words, scratch, out)
 }
@@ -243,7 +243,7 @@ pub extern "C" fn zib_from_tiles(
 // Reads a result sheet into a word buffer.
 #[no_mangle]
 pub extern "C" fn zib_read_result(bytes: &[u8], words: &mut [u32]) -> sheet::ResultSheet
-    ensures { λ r. ⌜ ResultReadAs (now (words .entry)) (now (bytes .entry)) r (now (words .exit)) ⌝ }
+    ensures { λ r. ⌜ ReadResultPromise (now (words .entry)) (now (bytes .entry)) r (now (words .exit)) ⌝ }
 {
     sheet::read_result(bytes, words)
 }
@@ -257,7 +257,7 @@ pub extern "C" fn zib_write_release(
     words: &[u32],
     out: &mut [u8],
 ) -> printer::Written
-    ensures { λ r. ⌜ ReleaseWrittenAs (shape .lengths) release order (now (words .entry)) (now (out .entry)) r (now (out .exit)) ⌝ }
+    ensures { λ r. ⌜ WriteReleasePromise (shape .lengths) release order (now (words .entry)) (now (out .entry)) r (now (out .exit)) ⌝ }
 {
     let lengths = shape.lengths;
     printer::write_release(lengths, release, order, words, out)
@@ -266,7 +266,7 @@ pub extern "C" fn zib_write_release(
 // The offset and the delay of one exchange of four readings.
 #[no_mangle]
 pub extern "C" fn zib_offset_delay(run: &[i64]) -> desk::Measured
-    ensures { λ r. ⌜ MeasuredAs (now (run .entry)) r ⌝ }
+    ensures { λ r. ⌜ OffsetDelayPromise (now (run .entry)) r ⌝ }
 {
     desk::offset_delay(run)
 }
@@ -274,7 +274,7 @@ pub extern "C" fn zib_offset_delay(run: &[i64]) -> desk::Measured
 // An offset in ticks as a whole number of frames.
 #[no_mangle]
 pub extern "C" fn zib_to_frames(offset: i64, ticks: usize) -> desk::Frames
-    ensures { λ r. ⌜ FramesAs offset ticks r ⌝ }
+    ensures { λ r. ⌜ ToFramesPromise offset ticks r ⌝ }
 {
     desk::to_frames(offset, ticks)
 }
@@ -282,7 +282,7 @@ pub extern "C" fn zib_to_frames(offset: i64, ticks: usize) -> desk::Frames
 // The frames that are common to all cameras.
 #[no_mangle]
 pub extern "C" fn zib_join(shifts: &[i64], frames: usize) -> desk::Joined
-    ensures { λ r. ⌜ JoinedAs (now (shifts .entry)) frames r ⌝ }
+    ensures { λ r. ⌜ JoinPromise (now (shifts .entry)) frames r ⌝ }
 {
     desk::join(shifts, frames)
 }
@@ -291,7 +291,7 @@ pub extern "C" fn zib_join(shifts: &[i64], frames: usize) -> desk::Joined
 // caller says.
 #[no_mangle]
 pub extern "C" fn zib_choose<'a>(first: &'a [i64], second: &'a [i64], part: &mut &'a [i64])
-    ensures { λ _. ⌜ ChosenAs (first .entry) (second .entry) (now (part .exit)) ⌝ }
+    ensures { λ _. ⌜ ChoosePromise (first .entry) (second .entry) (now (part .exit)) ⌝ }
 {
     let four = desk::choose(first, second);
     *part = four;
@@ -300,7 +300,7 @@ pub extern "C" fn zib_choose<'a>(first: &'a [i64], second: &'a [i64], part: &mut
 // The number of that choice.
 #[no_mangle]
 pub extern "C" fn zib_choose_number(first: &[i64], second: &[i64]) -> u32
-    ensures { λ r. ⌜ NumberAs (now (first .entry)) (now (second .entry)) r ⌝ }
+    ensures { λ r. ⌜ ChooseNumberPromise (now (first .entry)) (now (second .entry)) r ⌝ }
 {
     desk::choose_number(first, second)
 }
@@ -345,7 +345,7 @@ pub extern "C" fn zib_resume(
 // Judges a list of the cycles of the turn of m by n: start, length, start, length.
 #[no_mangle]
 pub extern "C" fn zib_judge_cycles(list: &[u32], m: usize, n: usize) -> cycles::Judged
-    ensures { λ r. ⌜ JudgedAs m n (now (list .entry)) r ⌝ }
+    ensures { λ r. ⌜ JudgePromise m n (now (list .entry)) r ⌝ }
 {
     cycles::judge(list, m, n)
 }
@@ -358,7 +358,7 @@ pub extern "C" fn zib_run_cycles(
     m: usize,
     n: usize,
 ) -> cycles::Judged
-    ensures { λ r. ⌜ RunAs m n (now (list .entry)) (now (buf .entry)) r (now (buf .exit)) ⌝ }
+    ensures { λ r. ⌜ RunPromise m n (now (list .entry)) (now (buf .entry)) r (now (buf .exit)) ⌝ }
 {
     cycles::run(list, buf, m, n)
 }

@@ -21,12 +21,12 @@ use Rattle.text.specs.Meaning.{Outcome, meaning}
 use Rattle.text.proofs.Length.{fields-few, result-fits}
 use Rattle.sheet.specs.declared.Sheet.{Sheet}
 use Rattle.printer.specs.declared.Written.{Written}
-use Rattle.printer.specs.Writer.{writerNumber, WrittenAs}
-use Rattle.printer.specs.RefusalWriter.{RefusalWrittenAs}
+use Rattle.printer.specs.Writer.{writerNumber, WriteResultPromise}
+use Rattle.printer.specs.RefusalWriter.{WriteRefusalPromise}
 use Rattle.printer.proofs.Writes.{number-0}
 use Rattle.printer.proofs.RefusalLine.{length-refusal, line-fits}
 use Rattle.printer.proofs.InFull.{in-full}
-use Rattle.job.specs.Job.{jobWords, jobText, Done}
+use Rattle.job.specs.Job.{jobWords, jobText, JobPromise}
 use Rattle.job.specs.Private.{RunOn}
 use Rattle.job.proofs.Readings.{swapsOf, Turned-away, Taken}
 use Rattle.job.proofs.Sizes.{longest-le-volume}
@@ -37,8 +37,8 @@ short-line number place = omega (arith, length-refusal number place, fields-few 
 
 -- a sheet that was refused, and its line written
 pub met-refused : {bytes words scratch out : List ℕ} {r : Sheet} {words′ : List ℕ} {w : Written} {out′ : List ℕ} → length out ≡ 16384
-    → Turned-away words bytes r words′ → RefusalWrittenAs (r .number) (r .place) out w out′
-    → Done bytes words scratch out (r .number) (r .place) (w .count) words′ scratch out′
+    → Turned-away words bytes r words′ → WriteRefusalPromise (r .number) (r .place) out w out′
+    → JobPromise bytes words scratch out (r .number) (r .place) (w .count) words′ scratch out′
 met-refused {out = out} {r = r} long t p =
     let short = short-line (r .number) (r .place) in
     let full = in-full (refusalText (r .number) (r .place)) out (line-fits (r .number) (r .place) out (omega arith)) (p .answers) (p .bytes) in
@@ -77,7 +77,7 @@ module _ {bytes words : List ℕ} {r : Sheet} {words₁ ws : List ℕ} (t : Take
 module _ {bytes words scratch out : List ℕ} {r : Sheet} {words₁ ws : List ℕ} {a : Answer} {words₂ scratch₂ : List ℕ} {w : Written} {out′ : List ℕ}
     (block : length words ≡ 1024) (room : length scratch ≡ 1024) (long : length out ≡ 16384)
     (t : Taken words bytes r words₁ ws) (p : RunOn (r .lengths) (swapsOf r) words₁ scratch a words₂ scratch₂)
-    {lengths : List ℕ} (front-is : lengths ≡ take 4 (a .lengths)) (q : WrittenAs lengths (a .order) words₂ out w out′) where
+    {lengths : List ℕ} (front-is : lengths ≡ take 4 (a .lengths)) (q : WriteResultPromise lengths (a .order) words₂ out w out′) where
   abbrev ds : List ℕ
   ds = r .lengths
 
@@ -152,7 +152,7 @@ module _ {bytes words scratch out : List ℕ} {r : Sheet} {words₁ ws : List �
       number-0 (pick order ds) (numberOf 4 order) words₂ out (record { lengths = good-lengths; few = few; enough = omega (arith, few, as-many) })
       (omega (arith, number-below 4 (swapsOf r))) (omega (arith, text-fits))
 
-  promised : WrittenAs (pick order ds) (numberOf 4 order) words₂ out w out′
+  promised : WriteResultPromise (pick order ds) (numberOf 4 order) words₂ out w out′
   promised = rw (new-lengths, new-order) at q
 
   full : (w .count ≡ length text) × (out′ ≡ text ++ drop (length text) out)
@@ -164,7 +164,7 @@ module _ {bytes words scratch out : List ℕ} {r : Sheet} {words₁ ws : List �
   text-of : text ≡ jobText (Outcome.accepted ds (swapsOf r) ws) words
   text-of = ap (resultText (pick order ds) (numberOf 4 order)) words-of
 
-  pub met-accepted : Done bytes words scratch out 0 0 (w .count) words₂ scratch₂ out′
+  pub met-accepted : JobPromise bytes words scratch out 0 0 (w .count) words₂ scratch₂ out′
   met-accepted = record {
     words-are = rw (t .means) words-of;
     scratch-is = rw (t .means) (chain-on .block .zeroed chain-runs);
@@ -176,6 +176,6 @@ module _ {bytes words scratch out : List ℕ} {r : Sheet} {words₁ ws : List �
   }
 
 -- the byte buffer holds as many bytes as the job counts
-pub text-inside : {bytes words scratch out : List ℕ} {k p n : ℕ} {w s o : List ℕ} → Done bytes words scratch out k p n w s o → n ≤ length o
+pub text-inside : {bytes words scratch out : List ℕ} {k p n : ℕ} {w s o : List ℕ} → JobPromise bytes words scratch out k p n w s o → n ≤ length o
 text-inside {bytes} {words} {scratch} {out} {n = n} p =
     omega (arith, p .count-is, ap length (p .text-is), length-append (jobText (meaning words bytes) words) (drop n out))

@@ -7,7 +7,7 @@ use Rattle.text.proofs.SecondLines.{accepted-exactly}
 use Rattle.text.proofs.Bounds.{Bounded, Within, meaning-within}
 use Rattle.sheet.specs.declared.Sheet.{Sheet}
 use Rattle.sheet.specs.Swaps.{padded}
-use Rattle.sheet.specs.Reader.{answer, kept, ReadAs}
+use Rattle.sheet.specs.Reader.{answer, kept, ReadPromise}
 
 -- the swaps that an answer counts
 abbrev pub swapsOf : Sheet → List ℕ
@@ -27,7 +27,7 @@ pub record Taken (buffer bytes : List ℕ) (r : Sheet) (buffer′ words : List �
   pub inside : r .count ≤ length (r .swaps)
   pub count : length (swapsOf r) ≡ r .count
 
-module _ {buffer bytes : List ℕ} {r : Sheet} {buffer′ : List ℕ} (p : ReadAs buffer bytes r buffer′) where
+module _ {buffer bytes : List ℕ} {r : Sheet} {buffer′ : List ℕ} (p : ReadPromise buffer bytes r buffer′) where
   pub turned-away : (r .number ≡ 0 → ⊥) → Turned-away buffer bytes r buffer′
   turned-away n = by (meaning buffer bytes) refl (meaning-within buffer bytes)
     where

@@ -39,7 +39,7 @@ jobPlace (Outcome.refused number place) = place
 jobPlace (Outcome.accepted ds chain ws) = 0
 
 -- the promise of the whole job: the text stands at the start of the byte buffer and bytes after it stay; it always fits
-pub record Done (bytes words₀ scratch₀ out₀ : List ℕ) (number place count : ℕ) (words scratch out : List ℕ) : Type 0 where
+pub record JobPromise (bytes words₀ scratch₀ out₀ : List ℕ) (number place count : ℕ) (words scratch out : List ℕ) : Type 0 where
   pub words-are : words ≡ jobWords (meaning words₀ bytes) words₀
   pub scratch-is : scratch ≡ jobScratch (meaning words₀ bytes) scratch₀
   pub number-is : number ≡ jobNumber (meaning words₀ bytes)

@@ -2,7 +2,7 @@
 ghost use Prim.Native.Nat.{_≤_};
 ghost use lib.ListN.{length};
 ghost use Rattle.layout.specs.Layout.{volume};
-ghost use Rattle.job.specs.Job.{Done};
+ghost use Rattle.job.specs.Job.{JobPromise};
 ghost use Rattle.job.specs.Private.{RunOn};
 
 // Runs a chain on the block at the start of the words: the chain is lent the block's part only.
@@ -32,7 +32,7 @@ pub fn job(
     scratch: &mut [u32; 1024],
     out: &mut [u8; 16384],
 ) -> JobAnswer
-    ensures { λ r. ⌜ Done (now (bytes .entry)) (now (words .entry)) (now (scratch .entry)) (now (out .entry)) (r .number) (r .place) (r .count) (now (words .exit)) (now (scratch .exit)) (now (out .exit)) ⌝ }
+    ensures { λ r. ⌜ JobPromise (now (bytes .entry)) (now (words .entry)) (now (scratch .entry)) (now (out .entry)) (r .number) (r .place) (r .count) (now (words .exit)) (now (scratch .exit)) (now (out .exit)) ⌝ }
 {
     let sheet = sheet::read(bytes, words);
     if sheet.number != 0 {

@@ -11,7 +11,7 @@ use Rattle.orbits.specs.Sent.{goes}
 use Rattle.orbits.specs.Cycles.{takes, isLeast, cyclesFrom, cycles, pairAt, Pair, FirstOther}
 use Rattle.orbits.proofs.RightList.{every-cycle-once}
 use Rattle.cycles.specs.declared.Judged.{Judged}
-use Rattle.cycles.specs.Promise.{wrongCycles, cycleChecks, runChecks, JudgedAfter, JudgedAs, RunAs}
+use Rattle.cycles.specs.Promise.{wrongCycles, cycleChecks, runChecks, JudgedAfter, JudgePromise, RunPromise}
 use Rattle.cycles.proofs.OneOutcome.{judge-once}
 use Rattle.outcomes.specs.Wrong.{Case, Row, Refuted}
 use Rattle.outcomes.proofs.Wrong.{refuted}
@@ -51,7 +51,7 @@ abbrev pub judge : ℕ → ℕ → List ℕ → ℕ → Case Judged
 judge m n list p =
     let k = firstOf (cycleChecks m n list) in
     record {
-      Promise = JudgedAs m n list;
+      Promise = JudgePromise m n list;
       checks = cycleChecks m n list;
       number = λ a. a .number;
       right = judged (cycleChecks m n list) m n list p k;
@@ -65,7 +65,7 @@ run m n list p b =
     let k = firstOf checks in
     let turned : Target checks = laid-out (sides m n) across (0 ∷ []) b in
     record {
-      Promise = λ o. RunAs m n list b (o .answer) (o .words);
+      Promise = λ o. RunPromise m n list b (o .answer) (o .words);
       checks = checks;
       number = λ o. o .answer .number;
       right = record { answer = judged checks m n list p k; words = left turned b k };

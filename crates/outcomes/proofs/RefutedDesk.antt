@@ -14,10 +14,10 @@ use Rattle.desk.specs.Conditions.{measureChecks, framesChecks, joinChecks}
 use Rattle.desk.specs.Exchange.{offsetOf, delayOf}
 use Rattle.desk.specs.Frames.{nearestFrame}
 use Rattle.desk.specs.Shifts.{through, largest, endOf}
-use Rattle.desk.specs.Promises.{MeasuredAs, FramesAs, JoinedAs}
+use Rattle.desk.specs.Promises.{OffsetDelayPromise, ToFramesPromise, JoinPromise}
 use Rattle.desk.specs.Choice.{exchanges, fourAt, delayAt, usable, Best, FirstWins, SecondWins}
 use Rattle.desk.specs.ChoiceConditions.{chooseChecks}
-use Rattle.desk.specs.ChoicePromises.{Four, ChosenAs}
+use Rattle.desk.specs.ChoicePromises.{Four, ChoosePromise}
 use Rattle.desk.specs.ChoicePromises.Four.{of-first, of-second}
 use Rattle.desk.proofs.ChoiceOutcome.{choose-once}
 use Rattle.outcomes.specs.Wrong.{Case, Row, Refuted}
@@ -35,7 +35,7 @@ code (negsuc n) = suc (n + n)
 abbrev pub measure : List ℤ → Case Measured
 measure run =
     answering (λ r. r .number) (λ _. record { number = 0; offset = offsetOf run; delay = delayOf run }) (λ k. record { number = k; offset = pos 0; delay = pos 0 })
-    (measureChecks run) (MeasuredAs run)
+    (measureChecks run) (OffsetDelayPromise run)
     (λ r p. record {
       number-is = p .number-is;
       gives = λ z i. record { number = z i; offset = p .given z i .0; delay = p .given z i .1 };
@@ -73,7 +73,7 @@ measured-refuted = refuted measured refl
 abbrev pub framed : ℤ → ℕ → Case Frames
 framed offset ticks =
     answering (λ r. r .number) (λ _. record { number = 0; frames = nearestFrame ticks offset }) (λ k. record { number = k; frames = pos 0 })
-    (framesChecks offset ticks) (FramesAs offset ticks)
+    (framesChecks offset ticks) (ToFramesPromise offset ticks)
     (λ r p. record {
       number-is = p .number-is;
       gives = λ z i. record { number = z i; frames = p .given z i };
@@ -102,7 +102,7 @@ framings-refuted = refuted framings refl
 abbrev pub join : List ℤ → ℕ → Case Joined
 join shifts frames =
     answering (λ r. r .number) (λ _. record { number = 0; first = largest shifts; end = endOf shifts frames }) (λ k. record { number = k; first = pos 0; end = pos 0 })
-    (joinChecks shifts frames) (JoinedAs shifts frames)
+    (joinChecks shifts frames) (JoinPromise shifts frames)
     (λ r p. record {
       number-is = p .number-is;
       gives = λ z i. record { number = z i; first = p .given z i .0; end = p .given z i .1 };
@@ -203,7 +203,7 @@ ref name p = record { ptr = (p .block, p .place); name = name; now = p .readings
 -- choosing from two runs that lie at the start of blocks 1 and 2
 module _ (first second : List ℤ) where
   abbrev pub Chosen : GName → Part → Type 0
-  Chosen name p = ChosenAs (ref 0 (part 1 0 first)) (ref 0 (part 2 0 second)) (ref name p)
+  Chosen name p = ChoosePromise (ref 0 (part 1 0 first)) (ref 0 (part 2 0 second)) (ref name p)
 
   -- where this part is handed back if none of the checks holds
   module _ (won : Part) (test : Unit {0} → Bool) (four : T (test tt) → Four (ref 0 (part 1 0 first)) (ref 0 (part 2 0 second)) (ref 0 won)) where

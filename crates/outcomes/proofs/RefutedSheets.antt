@@ -12,12 +12,12 @@ use Rattle.text.specs.Sheet.{shapeWord, chainWord, orderWord, rowWord, rowCount
 use Rattle.text.specs.Meaning.{Verdict, longSheet, bigSheet, shapeLine, chainLine, orderLine, lineOrder, wrongRelease, orderFields, rowLines, ended, meaning, resultMeaning, meaningBy}
 use Rattle.sheet.specs.declared.Sheet.{Sheet}
 use Rattle.sheet.specs.declared.ResultSheet.{ResultSheet}
-use Rattle.sheet.specs.Reader.{answer, kept, ReadAs}
-use Rattle.sheet.specs.ResultReader.{resultAnswer, ResultReadAs}
+use Rattle.sheet.specs.Reader.{answer, kept, ReadPromise}
+use Rattle.sheet.specs.ResultReader.{resultAnswer, ReadResultPromise}
 use Rattle.printer.specs.declared.Written.{Written}
-use Rattle.printer.specs.Writer.{shortBytes, writerChecks, releaseChecks, written, writtenTo, WrittenAs, ReleaseWrittenAs}
-use Rattle.printer.specs.RefusalWriter.{RefusalWrittenAs}
-use Rattle.job.specs.Job.{jobWords, jobScratch, jobText, jobNumber, jobPlace, Done}
+use Rattle.printer.specs.Writer.{shortBytes, writerChecks, releaseChecks, written, writtenTo, WriteResultPromise, WriteReleasePromise}
+use Rattle.printer.specs.RefusalWriter.{WriteRefusalPromise}
+use Rattle.job.specs.Job.{jobWords, jobScratch, jobText, jobNumber, jobPlace, JobPromise}
 use Rattle.outcomes.specs.Wrong.{Case, Row, Refuted}
 use Rattle.outcomes.proofs.Wrong.{refuted}
 use Rattle.outcomes.specs.Wrong.Row.{wrong, gives, late, refuses}
@@ -58,7 +58,7 @@ sheet-checks word count conditions buffer bytes =
 
 abbrev pub read : List ℕ → List ℕ → Case (Slice Sheet)
 read buffer bytes = record {
-  Promise = λ o. ReadAs buffer bytes (o .answer) (o .words);
+  Promise = λ o. ReadPromise buffer bytes (o .answer) (o .words);
   checks = sheet-checks chainWord tabs (λ chain. check 5 (longChain chain) ∷ check 6 (badSwap 4 chain) ∷ []) buffer bytes;
   number = λ o. o .answer .number;
   right = record { answer = answer (meaning buffer bytes); words = kept (meaning buffer bytes) buffer };
@@ -68,7 +68,7 @@ read buffer bytes = record {
 
 abbrev pub read-result : List ℕ → List ℕ → Case (Slice ResultSheet)
 read-result buffer bytes = record {
-  Promise = λ o. ResultReadAs buffer bytes (o .answer) (o .words);
+  Promise = λ o. ReadResultPromise buffer bytes (o .answer) (o .words);
   checks = sheet-checks orderWord orderFields (λ ns. check 14 (wrongRelease ns) ∷ check 7 (noOrder 4 (lineOrder ns)) ∷ []) buffer bytes;
   number = λ o. o .answer .number;
   right = record { answer = resultAnswer (resultMeaning buffer bytes); words = kept (resultMeaning buffer bytes) buffer };
@@ -261,14 +261,14 @@ writing checks text out Promise is = record {
 }
 
 abbrev pub write : List ℕ → ℕ → List ℕ → List ℕ → Case (Slice Written)
-write ds k ws out = writing (writerChecks ds k ws out) (resultText ds k ws) out (WrittenAs ds k ws out) (λ o p. (p .answers, p .bytes))
+write ds k ws out = writing (writerChecks ds k ws out) (resultText ds k ws) out (WriteResultPromise ds k ws out) (λ o p. (p .answers, p .bytes))
 
 abbrev pub write-release : List ℕ → ℕ → ℕ → List ℕ → List ℕ → Case (Slice Written)
-write-release ds r k ws out = writing (releaseChecks ds r k ws out) (resultBy ds r k ws) out (ReleaseWrittenAs ds r k ws out) (λ o p. (p .answers, p .bytes))
+write-release ds r k ws out = writing (releaseChecks ds r k ws out) (resultBy ds r k ws) out (WriteReleasePromise ds r k ws out) (λ o p. (p .answers, p .bytes))
 
 abbrev pub write-refusal : ℕ → ℕ → List ℕ → Case (Slice Written)
 write-refusal k l out =
-    writing (check 24 (shortBytes (refusalText k l) out) ∷ []) (refusalText k l) out (RefusalWrittenAs k l out) (λ o p. (p .answers, p .bytes))
+    writing (check 24 (shortBytes (refusalText k l) out) ∷ []) (refusalText k l) out (WriteRefusalPromise k l out) (λ o p. (p .answers, p .bytes))
 
 abbrev written-count : Slice Written → List ℕ
 written-count o = o .answer .count ∷ []
@@ -348,7 +348,7 @@ job bytes =
     let o = meaning lent bytes in
     let out = ones 16384 in
     record {
-      Promise = λ j. Done bytes lent lent out (j .number) (j .place) (j .count) (j .words) (j .scratch) (j .out);
+      Promise = λ j. JobPromise bytes lent lent out (j .number) (j .place) (j .count) (j .words) (j .scratch) (j .out);
       checks = [];
       number = λ j. j .number;
       right = record {

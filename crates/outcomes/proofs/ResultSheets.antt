@@ -9,21 +9,21 @@ use Rattle.text.proofs.Length.{result-fits}
 use Rattle.text.proofs.SecondLines.{one-of-two, two-known, good-by}
 use Rattle.text.specs.Private.{OnSheet}
 use Rattle.sheet.specs.declared.ResultSheet.{ResultSheet}
-use Rattle.sheet.specs.ResultReader.{ResultReadAs, resultFound}
+use Rattle.sheet.specs.ResultReader.{ReadResultPromise, resultFound}
 use Rattle.sheet.proofs.RightResults.{right-is-read, read-is-right}
 use Rattle.printer.specs.declared.Written.{Written}
-use Rattle.printer.specs.Writer.{written, writerNumber, WrittenAs, releaseNumber, ReleaseWrittenAs}
+use Rattle.printer.specs.Writer.{written, writerNumber, WriteResultPromise, releaseNumber, WriteReleasePromise}
 use Rattle.printer.proofs.Writes.{wrote, number-0, wrote-by, number-0-by}
 use Rattle.printer.proofs.InFull.{in-full}
 use Rattle.outcomes.specs.Calls.{WriteCall, WriteReleaseCall, ReadResultCall}
 use Rattle.outcomes.specs.Writers.{numberFor, WrittenFor, WriterText}
 
-pub for-none : {ds : List ℕ} {order : ℕ} {words out : List ℕ} {w : Written} {out′ : List ℕ} → WrittenAs ds order words out w out′
+pub for-none : {ds : List ℕ} {order : ℕ} {words out : List ℕ} {w : Written} {out′ : List ℕ} → WriteResultPromise ds order words out w out′
     → WrittenFor 0 ds order words out w out′
 for-none p = record { answers = p .answers; bytes = p .bytes; held = p .held }
 
 pub for-release : {ds : List ℕ} {release order : ℕ} {words out : List ℕ} {w : Written} {out′ : List ℕ} → (release ≡ 0 → ⊥)
-    → ReleaseWrittenAs ds release order words out w out′ → WrittenFor release ds order words out w out′
+    → WriteReleasePromise ds release order words out w out′ → WrittenFor release ds order words out w out′
 for-release {release = release} n p = record { answers = rw (ne-eqb release 0 n) (p .answers); bytes = rw (ne-eqb release 0 n) (p .bytes); held = p .held }
 
 -- it refuses nothing exactly where the block may stand on a sheet, the release is none, 1 or 2, the order is one of the 24, and the text fits
@@ -67,21 +67,21 @@ text-right {ds = ds} release order {words} four small block two known room =
 -- buffer's start on
 pub written-is-read : {release : ℕ} {ds : List ℕ} {order : ℕ} {words out : List ℕ} {w : Written} {out′ buffer : List ℕ} {r : ResultSheet} {buffer′ : List ℕ}
     → length ds ≡ 4 → WrittenFor release ds order words out w out′ → w .number ≡ 0 → volume ds ≤ length buffer
-    → ResultReadAs buffer (take (w .count) out′) r buffer′ → (r ≡ resultFound ds release order) × (buffer′ ≡ take (volume ds) words ++ drop (volume ds) buffer)
+    → ReadResultPromise buffer (take (w .count) out′) r buffer′ → (r ≡ resultFound ds release order) × (buffer′ ≡ take (volume ds) words ++ drop (volume ds) buffer)
 written-is-read {release} {ds} {order} {words} {out} {w} {out′} {buffer} {r} {buffer′} four p z room q =
     let n : numberFor release ds order words out ≡ 0 = sym (ap (λ (s : Written). s .number) (p .answers)) ∙ z in
     let h = wrote-for-it release ds order words out n in
     let said = resultBy ds release order words in
     let full = in-full said out n (p .answers) (p .bytes) in
     let text : take (w .count) out′ ≡ said = ap (take (w .count)) (full .1) ∙ take-at said (drop (length said) out) (w .count) (sym (full .0)) in
-    let read : ResultReadAs buffer said r buffer′ = rw text at q in
+    let read : ReadResultPromise buffer said r buffer′ = rw text at q in
     let e = right-is-read release order read (text-right release order four (p .held) (h .0) (h .1) (h .2) room) in
     (e .0, e .1 ∙ ap (λ (k : ℕ). take (volume ds) words ++ drop k buffer) (length-take-le (volume ds) words (h .0 .enough)))
 
 -- every accepted sheet is the one that the writer for its release writes for those values, byte for byte, in any buffer that has room for it: for the
 -- answered lengths, release and order number and for any words that begin with those stored
 pub read-is-written : {buffer bytes : List ℕ} {r : ResultSheet} {buffer′ words out : List ℕ} {w : Written} {out′ : List ℕ}
-    → ResultReadAs buffer bytes r buffer′ → r .number ≡ 0 → volume (r .lengths) ≤ length words → take (volume (r .lengths)) words ≡ take (volume (r .lengths)) buffer′
+    → ReadResultPromise buffer bytes r buffer′ → r .number ≡ 0 → volume (r .lengths) ≤ length words → take (volume (r .lengths)) words ≡ take (volume (r .lengths)) buffer′
     → length bytes ≤ length out → WrittenFor (r .release) (r .lengths) (r .order) words out w out′
     → (w .number ≡ 0) × (w .count ≡ length bytes) × (out′ ≡ bytes ++ drop (length bytes) out)
 unfolding resultBy
@@ -97,7 +97,7 @@ read-is-written {buffer} {bytes} {r} {buffer′} {words} {out} {w} {out′} p z 
     (ap (λ (s : Written). s .number) (q .answers) ∙ n, rw text (full .0), rw text (full .1))
 
 -- the reader accepts exactly the texts of the two writers
-pub accepts-exactly : {buffer bytes : List ℕ} {r : ResultSheet} {buffer′ : List ℕ} → ResultReadAs buffer bytes r buffer′ → (r .number ≡ 0) ↔ WriterText buffer bytes
+pub accepts-exactly : {buffer bytes : List ℕ} {r : ResultSheet} {buffer′ : List ℕ} → ReadResultPromise buffer bytes r buffer′ → (r .number ≡ 0) ↔ WriterText buffer bytes
 unfolding resultBy
 accepts-exactly {buffer} {bytes} {r} {buffer′} p = (forth, back)
   where
@@ -124,7 +124,7 @@ accepts-exactly {buffer} {bytes} {r} {buffer′} p = (forth, back)
     back : WriterText buffer bytes → r .number ≡ 0
     back t =
         let w = wrote-for-it (t .release) (t .ds) (t .order) (t .words) (t .out) (t .accepted) in
-        let read : ResultReadAs buffer (resultBy (t .ds) (t .release) (t .order) (t .words)) r buffer′ = rw (t .text) at p in
+        let read : ReadResultPromise buffer (resultBy (t .ds) (t .release) (t .order) (t .words)) r buffer′ = rw (t .text) at p in
         ap (λ (s : ResultSheet). s .number)
         (right-is-read (t .release) (t .order) read (text-right (t .release) (t .order) (t .four) (t .held) (w .0) (w .1) (w .2) (t .room)) .0)
 
@@ -140,7 +140,7 @@ pub goes-out : (r : ReadResultCall) (w : WriteCall) → r .answer .number ≡ 0 
     → take (volume (r .answer .lengths)) (w .words) ≡ take (volume (r .answer .lengths)) (r .buffer-after) → length (r .bytes) ≤ length (w .out)
     → (w .answer .number ≡ 0) × (w .answer .count ≡ length (r .bytes)) × (w .out-after ≡ r .bytes ++ drop (length (r .bytes)) (w .out))
 goes-out r w z none e f enough same room =
-    let post : WrittenAs (r .answer .lengths) (r .answer .order) (w .words) (w .out) (w .answer) (w .out-after) = rw (← e, ← f) (w .post) in
+    let post : WriteResultPromise (r .answer .lengths) (r .answer .order) (w .words) (w .out) (w .answer) (w .out-after) = rw (← e, ← f) (w .post) in
     let written : WrittenFor (r .answer .release) (r .answer .lengths) (r .answer .order) (w .words) (w .out) (w .answer) (w .out-after) = rw none (for-none post) in
     read-is-written (r .post) z enough same room written
 
@@ -160,6 +160,6 @@ pub goes-out-released : (r : ReadResultCall) (w : WriteReleaseCall) → r .answe
     → take (volume (r .answer .lengths)) (w .words) ≡ take (volume (r .answer .lengths)) (r .buffer-after) → length (r .bytes) ≤ length (w .out)
     → (w .answer .number ≡ 0) × (w .answer .count ≡ length (r .bytes)) × (w .out-after ≡ r .bytes ++ drop (length (r .bytes)) (w .out))
 goes-out-released r w z some e g f enough same room =
-    let post : ReleaseWrittenAs (r .answer .lengths) (r .answer .release) (r .answer .order) (w .words) (w .out) (w .answer) (w .out-after) =
+    let post : WriteReleasePromise (r .answer .lengths) (r .answer .release) (r .answer .order) (w .words) (w .out) (w .answer) (w .out-after) =
     rw (← e, ← g, ← f) (w .post) in
     read-is-written (r .post) z enough same room (for-release some post)

@@ -9,9 +9,9 @@ use Rattle.halves.specs.Promise as halves
 use Rattle.axes.specs.declared.Answer.{Answer}
 use Rattle.axes.specs.Promises.{ChainPromise, RequestPromise}
 use Rattle.printer.specs.declared.Written.{Written}
-use Rattle.printer.specs.Writer.{WrittenAs, ReleaseWrittenAs}
+use Rattle.printer.specs.Writer.{WriteResultPromise, WriteReleasePromise}
 use Rattle.sheet.specs.declared.ResultSheet.{ResultSheet}
-use Rattle.sheet.specs.ResultReader.{ResultReadAs}
+use Rattle.sheet.specs.ResultReader.{ReadResultPromise}
 
 -- a call of the flat turn, by strips or by passes
 pub record TurnCall : Type 0 where
@@ -78,7 +78,7 @@ pub record WriteCall : Type 0 where
   pub answer : Written
   pub out-after : List ℕ
   pub four : length lengths ≡ 4
-  pub post : WrittenAs lengths order words out answer out-after
+  pub post : WriteResultPromise lengths order words out answer out-after
 
 -- a call of the writer that names a release
 pub record WriteReleaseCall : Type 0 where
@@ -90,7 +90,7 @@ pub record WriteReleaseCall : Type 0 where
   pub answer : Written
   pub out-after : List ℕ
   pub four : length lengths ≡ 4
-  pub post : ReleaseWrittenAs lengths release order words out answer out-after
+  pub post : WriteReleasePromise lengths release order words out answer out-after
 
 -- a call of the reader of result sheets
 pub record ReadResultCall : Type 0 where
@@ -98,4 +98,4 @@ pub record ReadResultCall : Type 0 where
   pub buffer : List ℕ
   pub answer : ResultSheet
   pub buffer-after : List ℕ
-  pub post : ResultReadAs buffer bytes answer buffer-after
+  pub post : ReadResultPromise buffer bytes answer buffer-after

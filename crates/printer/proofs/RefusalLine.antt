@@ -6,7 +6,7 @@ use Rattle.text.proofs.Length.{length-line}
 use Rattle.printer.specs.declared.Written.{Written}
 use Rattle.printer.specs.PrivateBytes.{Put}
 use Rattle.printer.specs.Writer.{nothingWritten}
-use Rattle.printer.specs.RefusalWriter.{refusalNumber, RefusalWrittenAs}
+use Rattle.printer.specs.RefusalWriter.{refusalNumber, WriteRefusalPromise}
 use Rattle.printer.proofs.InFull.{none-written, all-written}
 
 -- it is a line of two numbers
@@ -20,7 +20,7 @@ length-refusal number place = ap length (refusal-line number place) ∙ length-l
 -- what the writer of a refusal promises, once it has measured the line
 module _ (number place : ℕ) (out : List ℕ) where
   pub refusal-short : {answered : Written} → length out < length (refusalText number place) → answered ≡ nothingWritten 24
-      → RefusalWrittenAs number place out answered out
+      → WriteRefusalPromise number place out answered out
   refusal-short h a =
       let e : refusalNumber number place out ≡ 24 = rw (lt-ltb (length out) (length (refusalText number place)) h) in
       let p = none-written (refusalText number place) out (λ z. omega arith) a in
@@ -30,5 +30,5 @@ module _ (number place : ℕ) (out : List ℕ) where
   line-fits h = rw (le-ltb (length out) (length (refusalText number place)) h)
 
   pub refusal-fits : {next : ℕ} {out′ : List ℕ} → length (refusalText number place) ≤ length out → Put out 0 (refusalText number place) next out′
-      → RefusalWrittenAs number place out (record { number = 0; count = next }) out′
+      → WriteRefusalPromise number place out (record { number = 0; count = next }) out′
   refusal-fits h q = let p = all-written (line-fits h) h q in record { answers = p .0; bytes = p .1 }

@@ -14,7 +14,7 @@ use Rattle.text.specs.Private.{OnSheet}
 use Rattle.text.specs.Checks.{sheetChecks}
 use Rattle.printer.specs.declared.Written.{Written}
 use Rattle.printer.specs.PrivateBytes.{Put, roomNumber, TextWritten}
-use Rattle.printer.specs.Writer.{shortBytes, nothingWritten, written, writtenTo, writerNumber, WrittenAs, releaseNumber, ReleaseWrittenAs}
+use Rattle.printer.specs.Writer.{shortBytes, nothingWritten, written, writtenTo, writerNumber, WriteResultPromise, releaseNumber, WriteReleasePromise}
 use Rattle.printer.proofs.InFull.{none-written, all-written}
 
 -- what is promised of a text, whichever the number
@@ -72,37 +72,37 @@ module _ (text out : List ℕ) where
 
 -- the writer that names no release
 module _ {ds : List ℕ} {order : ℕ} {words out : List ℕ} {answered : Written} (held : SheetNumbers words) where
-  told : {out′ : List ℕ} → Told (writerNumber ds order words out) (resultText ds order words) out answered out′ → WrittenAs ds order words out answered out′
+  told : {out′ : List ℕ} → Told (writerNumber ds order words out) (resultText ds order words) out answered out′ → WriteResultPromise ds order words out answered out′
   told t = record { answers = t .0; bytes = t .1; held = held }
 
-  pub refused-block : {k : ℕ} → k ≡ firstOf (sheetChecks ds words) → (k ≡ 0 → ⊥) → answered ≡ nothingWritten k → WrittenAs ds order words out answered out
+  pub refused-block : {k : ℕ} → k ≡ firstOf (sheetChecks ds words) → (k ≡ 0 → ⊥) → answered ≡ nothingWritten k → WriteResultPromise ds order words out answered out
   refused-block e z a = told (told-block ds words (planChecks 4 order) (resultText ds order words) out e z a)
 
-  pub refused-order : firstOf (sheetChecks ds words) ≡ 0 → 23 < order → answered ≡ nothingWritten 7 → WrittenAs ds order words out answered out
+  pub refused-order : firstOf (sheetChecks ds words) ≡ 0 → 23 < order → answered ≡ nothingWritten 7 → WriteResultPromise ds order words out answered out
   refused-order b k a =
       let seven : _≡_ {A = ℕ} 7 (firstOf (planChecks 4 order)) = rw (lt-ltb 23 order k) in
       told (told-middle ds words (planChecks 4 order) (resultText ds order words) out b seven (λ z. omega arith) a)
 
   pub accepted : {out′ : List ℕ} → firstOf (sheetChecks ds words) ≡ 0 → order ≤ 23 → TextWritten (resultText ds order words) out answered out′
-      → WrittenAs ds order words out answered out′
+      → WriteResultPromise ds order words out answered out′
   accepted b k t = told (told-text ds words (planChecks 4 order) (resultText ds order words) out b tt (rw (le-ltb 23 order k)) t)
 
 -- the writer that names one
 module _ {ds : List ℕ} {release order : ℕ} {words out : List ℕ} {answered : Written} (held : SheetNumbers words) where
   told-by : {out′ : List ℕ} → Told (releaseNumber ds release order words out) (resultBy ds release order words) out answered out′
-      → ReleaseWrittenAs ds release order words out answered out′
+      → WriteReleasePromise ds release order words out answered out′
   told-by t = record { answers = t .0; bytes = t .1; held = held }
 
   pub refused-block-by : {k : ℕ} → k ≡ firstOf (sheetChecks ds words) → (k ≡ 0 → ⊥) → answered ≡ nothingWritten k
-      → ReleaseWrittenAs ds release order words out answered out
+      → WriteReleasePromise ds release order words out answered out
   refused-block-by e z a = told-by (told-block ds words (namedChecks 4 release order) (resultBy ds release order words) out e z a)
 
   pub refused-named : {k : ℕ} → firstOf (sheetChecks ds words) ≡ 0 → k ≡ firstOf (namedChecks 4 release order) → (k ≡ 0 → ⊥) → answered ≡ nothingWritten k
-      → ReleaseWrittenAs ds release order words out answered out
+      → WriteReleasePromise ds release order words out answered out
   refused-named b e z a = told-by (told-middle ds words (namedChecks 4 release order) (resultBy ds release order words) out b e z a)
 
   pub accepted-by : {out′ : List ℕ} → firstOf (sheetChecks ds words) ≡ 0 → firstOf (namedChecks 4 release order) ≡ 0
-      → TextWritten (resultBy ds release order words) out answered out′ → ReleaseWrittenAs ds release order words out answered out′
+      → TextWritten (resultBy ds release order words) out answered out′ → WriteReleasePromise ds release order words out answered out′
   accepted-by b m t =
       told-by (told-text ds words (namedChecks 4 release order) (resultBy ds release order words) out b tt m t)
 

@@ -9,8 +9,8 @@ ghost use lib.ListN.{length};
 ghost use Rattle.text.specs.Sheet.{resultBy};
 ghost use Rattle.text.specs.Private.{OnSheet};
 ghost use Rattle.printer.specs.PrivateBytes.{TextWritten};
-ghost use Rattle.printer.specs.Writer.{nothingWritten, WrittenAs, ReleaseWrittenAs};
-ghost use Rattle.printer.specs.RefusalWriter.{RefusalWrittenAs};
+ghost use Rattle.printer.specs.Writer.{nothingWritten, WriteResultPromise, WriteReleasePromise};
+ghost use Rattle.printer.specs.RefusalWriter.{WriteRefusalPromise};
 
 // What the writer did: its number, and the count of bytes written.
 #[repr(C)]
@@ -65,7 +65,7 @@ fn put_result(
 
 // Writes the result sheet at the start of `out`.
 pub fn write_result(lens: [usize; 4], order: usize, words: &[u32], out: &mut [u8]) -> Written
-    ensures { λ r. ⌜ WrittenAs lens order (now (words .entry)) (now (out .entry)) r (now (out .exit)) ⌝ }
+    ensures { λ r. ⌜ WriteResultPromise lens order (now (words .entry)) (now (out .entry)) r (now (out .exit)) ⌝ }
 {
     let number = checks::sheet_number(&lens, words);
     if number != 0 {
@@ -85,7 +85,7 @@ pub fn write_release(
     words: &[u32],
     out: &mut [u8],
 ) -> Written
-    ensures { λ r. ⌜ ReleaseWrittenAs lens release order (now (words .entry)) (now (out .entry)) r (now (out .exit)) ⌝ }
+    ensures { λ r. ⌜ WriteReleasePromise lens release order (now (words .entry)) (now (out .entry)) r (now (out .exit)) ⌝ }
 {
     let number = checks::sheet_number(&lens, words);
     if number != 0 {
@@ -100,7 +100,7 @@ pub fn write_release(
 
 // Writes the line of a refusal: measures it, then puts it at the start of `out`.
 pub fn write_refusal(number: u32, place: u32, out: &mut [u8]) -> Written
-    ensures { λ r. ⌜ RefusalWrittenAs number place (now (out .entry)) r (now (out .exit)) ⌝ }
+    ensures { λ r. ⌜ WriteRefusalPromise number place (now (out .entry)) r (now (out .exit)) ⌝ }
 {
     let numbers = [number, place];
     let need = 8 + page::words_len(&numbers);

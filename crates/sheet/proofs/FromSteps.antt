@@ -10,8 +10,8 @@ use Rattle.sheet.specs.declared.Sheet.{Sheet}
 use Rattle.sheet.specs.declared.ResultSheet.{ResultSheet}
 use Rattle.sheet.specs.declared.page.Page.{Page}
 use Rattle.sheet.specs.Private.{FirstAt, SecondAt, RowsNext, RowsTaken, noPage, onPage, further, rowsOf, wordsOf}
-use Rattle.sheet.specs.Reader.{answer, kept, ReadAs}
-use Rattle.sheet.specs.ResultReader.{resultAnswer, ResultReadAs}
+use Rattle.sheet.specs.Reader.{answer, kept, ReadPromise}
+use Rattle.sheet.specs.ResultReader.{resultAnswer, ReadResultPromise}
 
 -- the page of an outcome, and the words of a right one at the start of those that it was lent
 abbrev pub pageOf : Outcome → ℕ → Page
@@ -120,7 +120,7 @@ resultOf two q =
 -- the answers of the two readers, made of the last page
 module _ {buffer bytes buffer′ : List ℕ} {p : Page} where
   pub as-sheet : PageAs (meaning buffer bytes) buffer p buffer′
-      → ReadAs buffer bytes (record { number = p .number; place = p .place; lengths = p .lengths; swaps = p .numbers; count = p .count }) buffer′
+      → ReadPromise buffer bytes (record { number = p .number; place = p .place; lengths = p .lengths; swaps = p .numbers; count = p .count }) buffer′
   as-sheet h = record { answers = ap sheetOf (h .answers) ∙ same (meaning buffer bytes); words = h .words }
     where
       sheetOf : Page → Sheet
@@ -130,7 +130,7 @@ module _ {buffer bytes buffer′ : List ℕ} {p : Page} where
       same (Outcome.refused number place) = refl
       same (Outcome.accepted ds ns words) = refl
 
-  pub as-result : {two : Bool} → PageAs (resultMeaning buffer bytes) buffer p buffer′ → ltb 1 (p .count) ≡ two → ResultReadAs buffer bytes (resultOf two p) buffer′
+  pub as-result : {two : Bool} → PageAs (resultMeaning buffer bytes) buffer p buffer′ → ltb 1 (p .count) ≡ two → ReadResultPromise buffer bytes (resultOf two p) buffer′
   as-result h e =
       rw (← e) (record { answers = ap (λ (q : Page). resultOf (ltb 1 (q .count)) q) (h .answers) ∙ same (resultMeaning buffer bytes); words = h .words })
     where

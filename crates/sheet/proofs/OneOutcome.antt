@@ -2,12 +2,12 @@
 use Rattle.lists.proofs.Kit.{_≡_, sym, _∙_, List, ℕ}
 use Rattle.sheet.specs.declared.Sheet.{Sheet}
 use Rattle.sheet.specs.declared.ResultSheet.{ResultSheet}
-use Rattle.sheet.specs.Reader.{ReadAs}
-use Rattle.sheet.specs.ResultReader.{ResultReadAs}
+use Rattle.sheet.specs.Reader.{ReadPromise}
+use Rattle.sheet.specs.ResultReader.{ReadResultPromise}
 
-pub read-once : {buffer bytes : List ℕ} {r r′ : Sheet} {w w′ : List ℕ} → ReadAs buffer bytes r w → ReadAs buffer bytes r′ w′ → (r ≡ r′) × (w ≡ w′)
+pub read-once : {buffer bytes : List ℕ} {r r′ : Sheet} {w w′ : List ℕ} → ReadPromise buffer bytes r w → ReadPromise buffer bytes r′ w′ → (r ≡ r′) × (w ≡ w′)
 read-once p q = (p .answers ∙ sym (q .answers), p .words ∙ sym (q .words))
 
-pub read-result-once : {buffer bytes : List ℕ} {r r′ : ResultSheet} {w w′ : List ℕ} → ResultReadAs buffer bytes r w → ResultReadAs buffer bytes r′ w′
+pub read-result-once : {buffer bytes : List ℕ} {r r′ : ResultSheet} {w w′ : List ℕ} → ReadResultPromise buffer bytes r w → ReadResultPromise buffer bytes r′ w′
     → (r ≡ r′) × (w ≡ w′)
 read-result-once p q = (p .answers ∙ sym (q .answers), p .words ∙ sym (q .words))

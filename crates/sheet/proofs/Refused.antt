@@ -6,8 +6,8 @@ use Rattle.text.specs.Refused.{Refused, RefusedResult}
 use Rattle.text.proofs.Refused.{refused-exactly, refused-result-exactly}
 use Rattle.sheet.specs.declared.Sheet.{Sheet}
 use Rattle.sheet.specs.declared.ResultSheet.{ResultSheet}
-use Rattle.sheet.specs.Reader.{answer, ReadAs}
-use Rattle.sheet.specs.ResultReader.{resultAnswer, ResultReadAs}
+use Rattle.sheet.specs.Reader.{answer, ReadPromise}
+use Rattle.sheet.specs.ResultReader.{resultAnswer, ReadResultPromise}
 
 -- an answer made of an outcome, which is a refusal's number and place where it is one, and else the number 0
 module _ {A : Type 0} (number-of place-of : A → ℕ) (made : Outcome → A)
@@ -26,14 +26,14 @@ module _ {A : Type 0} (number-of place-of : A → ℕ) (made : Outcome → A)
   )
 
 -- the reader of sheets
-pub read-refused : {buffer bytes : List ℕ} {r : Sheet} {w : List ℕ} → ReadAs buffer bytes r w → (number place : ℕ) → 0 < number
+pub read-refused : {buffer bytes : List ℕ} {r : Sheet} {w : List ℕ} → ReadPromise buffer bytes r w → (number place : ℕ) → 0 < number
     → ((r .number ≡ number) × (r .place ≡ place)) ↔ Refused buffer bytes number place
 read-refused {buffer} {bytes} a number place h =
     answered-so (λ (s : Sheet). s .number) (λ (s : Sheet). s .place) answer (λ k p. (refl, refl)) (λ ds ns words. refl) h place
     (meaning buffer bytes) (a .answers) (refused-exactly buffer bytes number place)
 
 -- the reader of result sheets
-pub result-refused : {buffer bytes : List ℕ} {r : ResultSheet} {w : List ℕ} → ResultReadAs buffer bytes r w → (number place : ℕ) → 0 < number
+pub result-refused : {buffer bytes : List ℕ} {r : ResultSheet} {w : List ℕ} → ReadResultPromise buffer bytes r w → (number place : ℕ) → 0 < number
     → ((r .number ≡ number) × (r .place ≡ place)) ↔ RefusedResult buffer bytes number place
 result-refused {buffer} {bytes} a number place h =
     answered-so (λ (s : ResultSheet). s .number) (λ (s : ResultSheet). s .place) resultAnswer (λ k p. (refl, refl)) (λ ds ns words. refl) h place

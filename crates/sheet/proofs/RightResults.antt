@@ -11,10 +11,10 @@ use Rattle.text.specs.Refused.{RefusedResult}
 use Rattle.text.proofs.Refused.{refused-result-exactly}
 use Rattle.sheet.specs.declared.ResultSheet.{ResultSheet}
 use Rattle.sheet.specs.Reader.{kept}
-use Rattle.sheet.specs.ResultReader.{resultAnswer, ResultReadAs, resultFound, ReadRight}
+use Rattle.sheet.specs.ResultReader.{resultAnswer, ReadResultPromise, resultFound, ReadRight}
 
 -- what is answered and stored once the meaning is known
-module _ {buffer bytes : List ℕ} {r : ResultSheet} {w : List ℕ} {o : Outcome} (p : ResultReadAs buffer bytes r w) (m : resultMeaning buffer bytes ≡ o) where
+module _ {buffer bytes : List ℕ} {r : ResultSheet} {w : List ℕ} {o : Outcome} (p : ReadResultPromise buffer bytes r w) (m : resultMeaning buffer bytes ≡ o) where
   pub answered : r ≡ resultAnswer o
   answered = p .answers ∙ ap resultAnswer m
 
@@ -30,7 +30,7 @@ numbers-said release order = by (eqb release 0) refl
     by true e = (sym (eqb-true release 0 e), refl)
     by false e = (refl, refl)
 
-pub right-is-read : {buffer bytes : List ℕ} {r : ResultSheet} {w ds : List ℕ} (release order : ℕ) {words : List ℕ} → ResultReadAs buffer bytes r w
+pub right-is-read : {buffer bytes : List ℕ} {r : ResultSheet} {w ds : List ℕ} (release order : ℕ) {words : List ℕ} → ReadResultPromise buffer bytes r w
     → RightResult buffer bytes ds (orderNumbers release order) words → (r ≡ resultFound ds release order) × (w ≡ words ++ drop (length words) buffer)
 right-is-read {buffer} {bytes} {ds = ds} release order {words} p h =
     let m = result-exactly buffer bytes ds (orderNumbers release order) words .1 h in
@@ -46,7 +46,7 @@ accepted-right {buffer} {bytes} {ds = ds} {ns = ns} {words = words} h a e =
     subst (λ (l : List ℕ). RightResult buffer bytes ds l words) (h .second .named) h in
     rw (a, e) (record { right = rw front right; release = h .second .release; known = h .second .known; words = rw (front, h .block) })
 
-pub read-is-right : {buffer bytes : List ℕ} {r : ResultSheet} {w : List ℕ} → ResultReadAs buffer bytes r w → r .number ≡ 0 → ReadRight buffer bytes r w
+pub read-is-right : {buffer bytes : List ℕ} {r : ResultSheet} {w : List ℕ} → ReadResultPromise buffer bytes r w → r .number ≡ 0 → ReadRight buffer bytes r w
 read-is-right {buffer} {bytes} {r} {w} p z = by (resultMeaning buffer bytes) refl (result-within buffer bytes)
   where
     by : (o : Outcome) → resultMeaning buffer bytes ≡ o → Within o → ReadRight buffer bytes r w
@@ -57,7 +57,7 @@ read-is-right {buffer} {bytes} {r} {w} p z = by (resultMeaning buffer bytes) ref
         accepted-right (result-exactly buffer bytes ds ns words .0 m) (answered p m) (stored p m)
 
 -- one that is refused: the condition of its number holds at its place, every step before it in the reading order having gone on, and no word is stored
-pub refused-at : {buffer bytes : List ℕ} {r : ResultSheet} {w : List ℕ} → ResultReadAs buffer bytes r w → (r .number ≡ 0 → ⊥)
+pub refused-at : {buffer bytes : List ℕ} {r : ResultSheet} {w : List ℕ} → ReadResultPromise buffer bytes r w → (r .number ≡ 0 → ⊥)
     → RefusedResult buffer bytes (r .number) (r .place) × (w ≡ buffer)
 refused-at {buffer} {bytes} {r} {w} p n = by (resultMeaning buffer bytes) refl
   where

@@ -5,9 +5,9 @@ use Rattle.text.specs.Right.{Right}
 use Rattle.text.proofs.SecondLines.{accepted-exactly}
 use Rattle.text.proofs.Bounds.{Within, meaning-within}
 use Rattle.sheet.specs.declared.Sheet.{Sheet}
-use Rattle.sheet.specs.Reader.{answer, kept, ReadAs, Answered}
+use Rattle.sheet.specs.Reader.{answer, kept, ReadPromise, Answered}
 
-accepted-answer : {buffer bytes : List ℕ} {r : Sheet} {w ds chain words : List ℕ} → ReadAs buffer bytes r w
+accepted-answer : {buffer bytes : List ℕ} {r : Sheet} {w ds chain words : List ℕ} → ReadPromise buffer bytes r w
     → meaning buffer bytes ≡ Outcome.accepted ds chain words → (r .number ≡ 0) × Answered buffer r w ds chain words
 accepted-answer {buffer} p m =
     let a = p .answers ∙ ap answer m in (
@@ -21,12 +21,12 @@ accepted-answer {buffer} p m =
     )
 
 -- a sheet that is right is accepted, and answered with what it is the text of
-pub right-is-read : {buffer bytes : List ℕ} {r : Sheet} {w ds chain words : List ℕ} → ReadAs buffer bytes r w → Right buffer bytes ds chain words
+pub right-is-read : {buffer bytes : List ℕ} {r : Sheet} {w ds chain words : List ℕ} → ReadPromise buffer bytes r w → Right buffer bytes ds chain words
     → (r .number ≡ 0) × Answered buffer r w ds chain words
 right-is-read p h = accepted-answer p (accepted-exactly _ _ _ _ _ .1 h)
 
 -- a sheet that is accepted is right
-pub read-is-right : {buffer bytes : List ℕ} {r : Sheet} {w : List ℕ} {C : Type 0} → ReadAs buffer bytes r w → r .number ≡ 0
+pub read-is-right : {buffer bytes : List ℕ} {r : Sheet} {w : List ℕ} {C : Type 0} → ReadPromise buffer bytes r w → r .number ≡ 0
     → ((ds chain words : List ℕ) → Right buffer bytes ds chain words → Answered buffer r w ds chain words → C) → C
 read-is-right {buffer} {bytes} {r} {w} {C} p z k = by (meaning buffer bytes) refl (meaning-within buffer bytes)
   where

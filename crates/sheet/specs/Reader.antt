@@ -18,7 +18,7 @@ kept (Outcome.refused number place) buffer = buffer
 kept (Outcome.accepted ds chain words) buffer = words ++ drop (length words) buffer
 
 -- the promise of the reader
-pub record ReadAs (buffer bytes : List ℕ) (answered : Sheet) (buffer′ : List ℕ) : Type 0 where
+pub record ReadPromise (buffer bytes : List ℕ) (answered : Sheet) (buffer′ : List ℕ) : Type 0 where
   pub answers : answered ≡ answer (meaning buffer bytes)
   pub words : buffer′ ≡ kept (meaning buffer bytes) buffer
 

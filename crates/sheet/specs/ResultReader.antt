@@ -16,7 +16,7 @@ resultAnswer (Outcome.refused number place) = record { number = number; place = 
 resultAnswer (Outcome.accepted ds numbers words) = record { number = 0; place = 0; lengths = ds; release = lineRelease numbers; order = lineOrder numbers }
 
 -- the promise of the reader of result sheets: the words are stored only when the whole sheet is right, as a sheet's are
-pub record ResultReadAs (buffer bytes : List ℕ) (answered : ResultSheet) (buffer′ : List ℕ) : Type 0 where
+pub record ReadResultPromise (buffer bytes : List ℕ) (answered : ResultSheet) (buffer′ : List ℕ) : Type 0 where
   pub answers : answered ≡ resultAnswer (resultMeaning buffer bytes)
   pub words : buffer′ ≡ kept (resultMeaning buffer bytes) buffer
 

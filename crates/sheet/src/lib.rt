@@ -6,8 +6,8 @@ mod page;
 mod rows;
 mod values;
 
-ghost use Rattle.sheet.specs.Reader.{ReadAs};
-ghost use Rattle.sheet.specs.ResultReader.{ResultReadAs};
+ghost use Rattle.sheet.specs.Reader.{ReadPromise};
+ghost use Rattle.sheet.specs.ResultReader.{ReadResultPromise};
 
 // What a sheet says: its number and place, its lengths, its swaps (unused ones 0) and how many they are.
 #[repr(C)]
@@ -31,7 +31,7 @@ pub struct ResultSheet {
 
 // Reads a sheet: judges all of it, then stores its words from the start of `words`.
 pub fn read(bytes: &[u8], words: &mut [u32]) -> Sheet
-    ensures { λ r. ⌜ ReadAs (now (words .entry)) (now (bytes .entry)) r (now (words .exit)) ⌝ }
+    ensures { λ r. ⌜ ReadPromise (now (words .entry)) (now (bytes .entry)) r (now (words .exit)) ⌝ }
 {
     let first = head::shape_at(bytes, words);
     let second = head::chain_at(bytes, first);
@@ -49,7 +49,7 @@ pub fn read(bytes: &[u8], words: &mut [u32]) -> Sheet
 
 // Reads a result sheet: judges all of it, then stores its words from the start of `words`.
 pub fn read_result(bytes: &[u8], words: &mut [u32]) -> ResultSheet
-    ensures { λ r. ⌜ ResultReadAs (now (words .entry)) (now (bytes .entry)) r (now (words .exit)) ⌝ }
+    ensures { λ r. ⌜ ReadResultPromise (now (words .entry)) (now (bytes .entry)) r (now (words .exit)) ⌝ }
 {
     let first = head::shape_at(bytes, words);
     let second = head::order_at(bytes, first);

@@ -6,7 +6,7 @@ use mir.Syntax.{w64}
 use mir.Val.{toZ, ofZ}
 use Rattle.desk.proofs.Ends.{back}
 use Rattle.desk.specs.Conditions.{farReading}
-use Rattle.desk.specs.Promises.{MeasuredAs}
+use Rattle.desk.specs.Promises.{OffsetDelayPromise}
 use Rattle.desk.specs.declared.Measured.{Measured}
 use Rattle.desk.specs.Choice.{exchanges, fourAt, delayAt}
 use Rattle.desk.specs.Private.{taken, HeldAs}
@@ -25,7 +25,7 @@ loop-holds : tie.Need-loop-holds Inv-loop μ-loop
 loop-holds c = (omega arith, held-none (c .args .run .now))
 
 -- the delay that the offset call gives of an exchange
-delay-is : (run : List ℤ) (j : ℕ) (m : Measured) → farReading run ≡ false → j < exchanges run → MeasuredAs (fourAt run j) m → m .delay ≡ delayAt run j
+delay-is : (run : List ℤ) (j : ℕ) (m : Measured) → farReading run ≡ false → j < exchanges run → OffsetDelayPromise (fourAt run j) m → m .delay ≡ delayAt run j
 unfolding delayAt
 delay-is run j m none h p = ap (λ (both : ℤ × ℤ). both .1) (p .given (p .number-is ∙ exchange-measured run j none h))
 
@@ -39,7 +39,7 @@ loop-again c =
     let d = m .offset-delay .result .delay in
     let kept : toZ w64 (ofZ w64 d) ≡ delayAt run (l .j)
     = back {z = d} (d-told .struct-told .given .1 .1 .0 .1) ∙ delay-is run (l .j) (m .offset-delay .result) (s .pre) (omega arith)
-    (subst (λ (four : List ℤ). MeasuredAs four (m .offset-delay .result)) (x .exchange-of .ensures .readings) (m .offset-delay .ensures)) in
+    (subst (λ (four : List ℤ). OffsetDelayPromise four (m .offset-delay .result)) (x .exchange-of .ensures .readings) (m .offset-delay .ensures)) in
     let told = b .beats .ensures ∙ ap (λ (z : ℤ). taken z (toZ w64 (l .least))) kept in (
       omega arith,
       ⊎-elim
