@@ -7,12 +7,12 @@ use Rattle.refusals.specs.Conditions.{badLength, shortBuffer}
 use Rattle.refusals.proofs.Conditions.{passed}
 use Rattle.checks.specs.Words.{capped}
 use Rattle.checks.proofs.Capped.{cut, capped-few}
-use Rattle.text.specs.Sheet.{rowCount, rowWidth}
-use Rattle.text.specs.Meaning.{bigSheet}
-use Rattle.text.proofs.Length.{rows-le-words}
-use Rattle.text.proofs.Rows.{rows-volume}
-use Rattle.text.specs.Checks.{sheetChecks}
-use Rattle.text.specs.Private.{OnSheet}
+use Rattle.sheets.specs.Sheet.{rowCount, rowWidth}
+use Rattle.sheets.specs.Meaning.{bigSheet}
+use Rattle.sheets.proofs.Length.{rows-le-words}
+use Rattle.sheets.proofs.Rows.{rows-volume}
+use Rattle.sheets.specs.Checks.{sheetChecks}
+use Rattle.sheets.specs.Private.{OnSheet}
 
 -- a cut count of more than 1,024 words is one of such a count
 more : (v : ℕ) → 1024 < capped v → 1024 < v

@@ -10,7 +10,7 @@ ghost use Rattle.orders.specs.Needs.{swapNeed, chainNeed};
 ghost use Rattle.refusals.specs.FirstOf.{check, firstOf};
 ghost use Rattle.refusals.specs.Conditions.{outOfRange, badLength, longest, firstPlace, noRelease};
 ghost use Rattle.refusals.specs.Calls.{sizeChecks, blockChecks, passesChecks};
-ghost use Rattle.text.specs.Checks.{sheetChecks};
+ghost use Rattle.sheets.specs.Checks.{sheetChecks};
 ghost use Rattle.checks.specs.Words.{capped};
 
 // Whether no axis may have this length: 0 or above 4,096.

@@ -1,19 +1,13 @@
--- These definitions serve only the contracts of private functions: a reader of the promises can pass over them. Assumes nothing.
+-- These definitions serve only the contracts of private functions: a reader of the promises can pass over them.
+-- What a step along a cycle, made without a division, asks. Assumes nothing: these are definitions.
 use mathlib.Core.Path.{_≡_}
-use mathlib.Core.Bool.{cond}
-use mathlib.Core.List.{List}
-use mathlib.Core.Logic.{_⊎_}
-use Prim.Native.Nat.{ℕ}
-use Rattle.orbits.specs.Orbit.{period}
-use Rattle.orbits.specs.Cycles.{isLeast, cycles, FirstOther}
-use Rattle.cycles.specs.declared.Judged.{Judged}
+use Prim.Native.Nat.{ℕ, _+_, _*_, _/_, _<_, _≤_}
 
--- the length of the cycle of x where x is its least number, else 0
-unfoldable pub lengthOf : (ℕ → ℕ) → ℕ → ℕ → ℕ
-lengthOf f N x = cond (isLeast f N x) (period f N x) 0
+-- a block of a size that is accepted
+pub record Small (m n : ℕ) : Type 0 where
+  pub some : 0 < m * n
+  pub few : m * n ≤ 1048576
 
--- the list is the right one, or 22 is answered with the place of the first pair that differs
-pub record Compared (m n : ℕ) (list : List ℕ) (answered : Judged) : Type 0 where
-  pub either : (answered .number ≡ 0) ⊎ (answered .number ≡ 22)
-  pub right : answered .number ≡ 0 → (list ≡ cycles m n) × (answered .place ≡ 0)
-  pub differs : answered .number ≡ 22 → FirstOther list (cycles m n) (answered .place)
+-- a rounded inverse of n, in parts of 2 to the 40
+abbrev pub Reciprocal : ℕ → ℕ → Type 0
+Reciprocal n inverse = inverse ≡ 1099511627776 / n + 1

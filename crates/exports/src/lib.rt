@@ -2,12 +2,12 @@
 ghost use mathlib.Core.Path.{_≡_};
 ghost use lib.ListN.{take};
 ghost use Rattle.flat.specs.Promises.{TurnPromise, TurnBackPromise};
-ghost use Rattle.halves.specs.Promise.{TurnPromise as HalvesPromise};
+ghost use Rattle.recursion.specs.Promise.{TurnPromise as HalvesPromise};
 ghost use Rattle.plans.specs.Promise.{PlanPromise};
 ghost use Rattle.axes.specs.Promises.{ChainPromise, RequestPromise};
-ghost use Rattle.sheet.specs.Reader.{ReadPromise};
-ghost use Rattle.sheet.specs.ResultReader.{ReadResultPromise};
-ghost use Rattle.printer.specs.Writer.{WriteResultPromise, WriteReleasePromise};
+ghost use Rattle.reader.specs.Reader.{ReadPromise};
+ghost use Rattle.reader.specs.ResultReader.{ReadResultPromise};
+ghost use Rattle.writer.specs.Writer.{WriteResultPromise, WriteReleasePromise};
 ghost use Rattle.job.specs.Job.{JobPromise};
 ghost use Rattle.home.specs.Promise.{RepeatsPromise};
 ghost use Rattle.cameras.specs.Promises.{RemovePromise, AddPromise};
@@ -17,7 +17,7 @@ ghost use Rattle.desk.specs.ChoicePromises.{ChoosePromise, ChooseNumberPromise}
 ghost use Rattle.passes.specs.Ticks.{LinesPromise};
 ghost use Rattle.passes.specs.Restart.{memory, ResumePromise};
 ghost use Rattle.passes.specs.Steps.{StepPromise};
-ghost use Rattle.cycles.specs.Promise.{JudgePromise, RunPromise};
+ghost use Rattle.cycle_lists.specs.Promise.{JudgePromise, RunPromise};
 
 // The lengths of a sheet's four axes.
 #[repr(C)]
@@ -67,7 +67,7 @@ pub extern "C" fn zib_turn_back_passes(
 pub extern "C" fn zib_turn_halves(buf: &mut [u32], m: usize, n: usize) -> u32
     ensures { λ r. ⌜ HalvesPromise m n (now (buf .entry)) r (now (buf .exit)) ⌝ }
 {
-    halves::turn(buf, m, n)
+    recursion::turn(buf, m, n)
 }
 
 // A chain of swaps on a block of four axes.
@@ -142,10 +142,10 @@ pub extern "C" fn zib_plan5(order: usize) -> plans::Planned
 
 // Reads a sheet into a word buffer.
 #[no_mangle]
-pub extern "C" fn zib_read_sheet(bytes: &[u8], words: &mut [u32]) -> sheet::Sheet
+pub extern "C" fn zib_read_sheet(bytes: &[u8], words: &mut [u32]) -> reader::Sheet
     ensures { λ r. ⌜ ReadPromise (now (words .entry)) (now (bytes .entry)) r (now (words .exit)) ⌝ }
 {
-    sheet::read(bytes, words)
+    reader::read(bytes, words)
 }
 
 // Writes the result sheet of a block into a byte buffer.
@@ -155,11 +155,11 @@ pub extern "C" fn zib_write_result(
     order: usize,
     words: &[u32],
     out: &mut [u8],
-) -> printer::Written
+) -> writer::Written
     ensures { λ r. ⌜ WriteResultPromise (shape .lengths) order (now (words .entry)) (now (out .entry)) r (now (out .exit)) ⌝ }
 {
     let lengths = shape.lengths;
-    printer::write_result(lengths, order, words, out)
+    writer::write_result(lengths, order, words, out)
 }
 
 // The whole job on a sheet: read, run through its chain, its result sheet or its refusal written.
@@ -242,10 +242,10 @@ pub extern "C" fn zib_from_tiles(
 
 // Reads a result sheet into a word buffer.
 #[no_mangle]
-pub extern "C" fn zib_read_result(bytes: &[u8], words: &mut [u32]) -> sheet::ResultSheet
+pub extern "C" fn zib_read_result(bytes: &[u8], words: &mut [u32]) -> reader::ResultSheet
     ensures { λ r. ⌜ ReadResultPromise (now (words .entry)) (now (bytes .entry)) r (now (words .exit)) ⌝ }
 {
-    sheet::read_result(bytes, words)
+    reader::read_result(bytes, words)
 }
 
 // Writes the result sheet of a block, with the release of its order number, into a byte buffer.
@@ -256,11 +256,11 @@ pub extern "C" fn zib_write_release(
     order: usize,
     words: &[u32],
     out: &mut [u8],
-) -> printer::Written
+) -> writer::Written
     ensures { λ r. ⌜ WriteReleasePromise (shape .lengths) release order (now (words .entry)) (now (out .entry)) r (now (out .exit)) ⌝ }
 {
     let lengths = shape.lengths;
-    printer::write_release(lengths, release, order, words, out)
+    writer::write_release(lengths, release, order, words, out)
 }
 
 // The offset and the delay of one exchange of four readings.
@@ -344,10 +344,10 @@ pub extern "C" fn zib_resume(
 
 // Judges a list of the cycles of the turn of m by n: start, length, start, length.
 #[no_mangle]
-pub extern "C" fn zib_judge_cycles(list: &[u32], m: usize, n: usize) -> cycles::Judged
+pub extern "C" fn zib_judge_cycles(list: &[u32], m: usize, n: usize) -> cycle_lists::Judged
     ensures { λ r. ⌜ JudgePromise m n (now (list .entry)) r ⌝ }
 {
-    cycles::judge(list, m, n)
+    cycle_lists::judge(list, m, n)
 }
 
 // Runs a list of the cycles of the turn of m by n on the block: the flat turn, without scratch.
@@ -357,10 +357,10 @@ pub extern "C" fn zib_run_cycles(
     buf: &mut [u32],
     m: usize,
     n: usize,
-) -> cycles::Judged
+) -> cycle_lists::Judged
     ensures { λ r. ⌜ RunPromise m n (now (list .entry)) (now (buf .entry)) r (now (buf .exit)) ⌝ }
 {
-    cycles::run(list, buf, m, n)
+    cycle_lists::run(list, buf, m, n)
 }
 
 // The version of these calls and records: 10,000 times its first number and 100 times its second. The name has it too, so that a program whose

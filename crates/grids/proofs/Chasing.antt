@@ -2,7 +2,7 @@
 -- marked, because each marked place but `first` is the source of a marked one that is not p. That the cycle ends is counted: each step marks
 -- a place that was not. No cycle's length is needed.
 use Rattle.lists.proofs.Kit.{_≡_, refl, sym, ap, _∙_, Bool, true, false, cond, List, ⊎-elim, ℕ, zero, suc, _+_, _<_, not-suc-le-zero, arith, length, decided, eq-or-ne}
-use Rattle.orbits.specs.Orbit.{Permutes}
+use Rattle.cycles.specs.Orbit.{Permutes}
 use Rattle.grids.specs.Private.{bitAt, MarkedToo, Level}
 use Rattle.grids.proofs.Bits.{both}
 

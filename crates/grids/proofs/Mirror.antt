@@ -1,9 +1,9 @@
 -- The turn keeps mirrored places mirrored: what lies as far from the block's end as x from its beginning is taken as far from the end as x is taken
 -- from the beginning. So the two of a pair go along together, and the map of pairs, told by the lesser of the two, is one to one.
 use Rattle.lists.proofs.Kit.{_≡_, refl, sym, ap, ap₂, _∙_, _⊎_, inl, inr, ⊎-elim, ℕ, zero, suc, _+_, _*_, _-_, _/_, _%_, _<_, _≤_, mod-lt, div-add-mod', div-lt-iff-lt-mul, add-mul, one-mul, mul-comm, arith, digits-div, digits-mod, digits-lt, lt-or-ge}
-use Rattle.orbits.specs.Orbit.{Permutes}
-use Rattle.orbits.specs.Cycles.{takes}
-use Rattle.orbits.proofs.Takes.{takes-split, takes-permutes}
+use Rattle.cycles.specs.Orbit.{Permutes}
+use Rattle.cycles.specs.Cycles.{takes}
+use Rattle.cycles.proofs.Takes.{takes-split, takes-permutes}
 use Rattle.grids.specs.Private.{mirror, fold, half, pairs}
 
 -- row i and column j

@@ -1,8 +1,8 @@
 -- The chunks while two mirrored cycles are followed: those of the free place and of its mirrored one have gone, a place of a marked pair has that
 -- of its source, one of a pair that is not marked its own.
 use Rattle.lists.proofs.Kit.{_≡_, refl, sym, ap, subst, _∙_, true, false, List, inl, inr, ⊎-elim, ℕ, _+_, _*_, _-_, _<_, _≤_, mul-le-mul-right, add-mul, one-mul, arith, length, getD, eq-or-ne, lt-or-ge}
-use Rattle.orbits.specs.Cycles.{takes}
-use Rattle.orbits.proofs.Takes.{takes-permutes}
+use Rattle.cycles.specs.Cycles.{takes}
+use Rattle.cycles.proofs.Takes.{takes-permutes}
 use Rattle.moves.specs.Stretch.{Stretch, Outside, Traded}
 use Rattle.moves.specs.Promises.{Apart}
 use Rattle.grids.specs.declared.chunks.Grid.{Grid}

@@ -1,7 +1,7 @@
 -- The chunks while two mirrored cycles are followed by trades: the free place and its mirrored one hold what the first place and its mirrored one held, so
 -- that nothing waits elsewhere.
 use Rattle.lists.proofs.Kit.{_≡_, refl, sym, ap, _∙_, true, false, List, ⊎-elim, ℕ, _+_, _*_, _<_, getD, eq-or-ne}
-use Rattle.orbits.specs.Cycles.{takes}
+use Rattle.cycles.specs.Cycles.{takes}
 use Rattle.grids.specs.declared.chunks.Grid.{Grid}
 use Rattle.grids.specs.Private.{mirror, fold, bitAt, MarkedToo, BothTraded, Crossed, Toured}
 use Rattle.grids.proofs.Bits.{both}

@@ -4,10 +4,10 @@
 use Rattle.lists.proofs.Kit.{_≡_, refl, sym, ap, ap₂, _∙_, true, false, List, [], _∷_, ⊎-elim, ℕ, _+_, _*_, _-_, _/_, _%_, _<_, _≤_, mod-lt, mod-eq-of-lt, div-eq-of-lt, div-add-mod', zero-div, mul-comm, mul-le-mul, arith, digits-div, digits-mod, digits-lt, length, getD, decided, eq-or-ne, lt-or-ge}
 use Rattle.layout.specs.Layout.{Within, at, pick, volume}
 use Rattle.layout.specs.Layout.Within.{none, more}
-use Rattle.orbits.specs.Cycles.{takes}
-use Rattle.orbits.specs.Private.{Small}
-use Rattle.orbits.proofs.Stepping.{columns}
-use Rattle.orbits.proofs.Takes.{takes-split, takes-last}
+use Rattle.cycles.specs.Cycles.{takes}
+use Rattle.cycles.specs.Private.{Small}
+use Rattle.cycles.proofs.Stepping.{columns}
+use Rattle.cycles.proofs.Takes.{takes-split, takes-last}
 use Rattle.moves.specs.Stretch.{Stretch}
 use Rattle.grids.specs.Grids.{GridTurned}
 use Rattle.grids.specs.Promises.{Turnable}

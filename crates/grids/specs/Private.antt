@@ -6,8 +6,8 @@ use mathlib.Core.List.{List}
 use Prim.Native.Nat.{ℕ, _+_, _*_, _-_, _/_, _%_, _^_, _<_, _≤_, min}
 use lib.Dec.{eqb}
 use lib.ListN.{length, getD}
-use Rattle.orbits.specs.Private.{Small, Reciprocal}
-use Rattle.orbits.specs.Cycles.{takes}
+use Rattle.cycles.specs.Private.{Small, Reciprocal}
+use Rattle.cycles.specs.Cycles.{takes}
 use Rattle.grids.specs.declared.chunks.Grid.{Grid}
 
 -- the place that lies as far from the end of count places as x from their beginning

@@ -6,9 +6,9 @@ use Rattle.refusals.specs.Calls.{sizeChecks}
 use Rattle.refusals.proofs.Conditions.{sized-two}
 use Rattle.refusals.proofs.Promise.{either-way}
 use Rattle.flat.specs.Turn.{sides}
-use Rattle.orbits.specs.Turns.{Fewest}
-use Rattle.orbits.proofs.Powers.{one-order}
-use Rattle.orbits.proofs.Fewest.{fewest-iff, fewest-small, order-turned}
+use Rattle.cycles.specs.Turns.{Fewest}
+use Rattle.cycles.proofs.Powers.{one-order}
+use Rattle.cycles.proofs.Fewest.{fewest-iff, fewest-small, order-turned}
 use Rattle.home.specs.declared.Home.{Home}
 use Rattle.home.specs.Promise.{Counts, RepeatsPromise}
 

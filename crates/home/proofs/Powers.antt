@@ -1,10 +1,10 @@
 -- The loop over the powers of m modulo mn − 1: it holds the power of its count and has not passed the first that leaves 1, so it ends there.
 use Rattle.lists.proofs.Kit.{_≡_, sym, ap, _∙_, ℕ, _+_, _*_, _-_, _%_, _^_, _<_, _≤_, mod-eq-of-lt, pow-suc, one-mul, pow-zero, mod-lt, add-one, arith}
-use Rattle.orbits.specs.Orbit.{period}
-use Rattle.orbits.specs.Sent.{goes}
-use Rattle.orbits.specs.Turns.{Order}
-use Rattle.orbits.proofs.Goes.{mod-mul}
-use Rattle.orbits.proofs.Powers.{order-is, order-le}
+use Rattle.cycles.specs.Orbit.{period}
+use Rattle.cycles.specs.Sent.{goes}
+use Rattle.cycles.specs.Turns.{Order}
+use Rattle.cycles.proofs.Goes.{mod-mul}
+use Rattle.cycles.proofs.Powers.{order-is, order-le}
 
 -- how often, computed: the first time that offset 1 is home
 abbrev pub fewest : ℕ → ℕ → ℕ

@@ -4,7 +4,7 @@ use Prim.Native.Nat.{ℕ, _*_, _≤_}
 use Rattle.refusals.specs.FirstOf.{firstOf}
 use Rattle.refusals.specs.Calls.{sizeChecks}
 use Rattle.flat.specs.Turn.{sides}
-use Rattle.orbits.specs.Turns.{Order}
+use Rattle.cycles.specs.Turns.{Order}
 use Rattle.home.specs.declared.Home.{Home}
 
 -- for mn of at least 3 the least positive h for which m to the h leaves 1 modulo mn − 1; for mn of 1 or 2 it is 1

@@ -16,16 +16,16 @@ use Rattle.axes.specs.declared.Answer.{Answer}
 use Rattle.axes.specs.Promises.{ChainPromise}
 use Rattle.axes.proofs.Five.{first-of-five}
 use Rattle.axes.proofs.Accepted.{ChainAccepted, chain-zero, block-after}
-use Rattle.text.specs.Sheet.{refusalText, resultText}
-use Rattle.text.specs.Meaning.{Outcome, meaning}
-use Rattle.text.proofs.Length.{fields-few, result-fits}
-use Rattle.sheet.specs.declared.Sheet.{Sheet}
-use Rattle.printer.specs.declared.Written.{Written}
-use Rattle.printer.specs.Writer.{writerNumber, WriteResultPromise}
-use Rattle.printer.specs.RefusalWriter.{WriteRefusalPromise}
-use Rattle.printer.proofs.Writes.{number-0}
-use Rattle.printer.proofs.RefusalLine.{length-refusal, line-fits}
-use Rattle.printer.proofs.InFull.{in-full}
+use Rattle.sheets.specs.Sheet.{refusalText, resultText}
+use Rattle.sheets.specs.Meaning.{Outcome, meaning}
+use Rattle.sheets.proofs.Length.{fields-few, result-fits}
+use Rattle.reader.specs.declared.Sheet.{Sheet}
+use Rattle.writer.specs.declared.Written.{Written}
+use Rattle.writer.specs.Writer.{writerNumber, WriteResultPromise}
+use Rattle.writer.specs.RefusalWriter.{WriteRefusalPromise}
+use Rattle.writer.proofs.Writes.{number-0}
+use Rattle.writer.proofs.RefusalLine.{length-refusal, line-fits}
+use Rattle.writer.proofs.InFull.{in-full}
 use Rattle.job.specs.Job.{jobWords, jobText, JobPromise}
 use Rattle.job.specs.Private.{RunOn}
 use Rattle.job.proofs.Readings.{swapsOf, Turned-away, Taken}

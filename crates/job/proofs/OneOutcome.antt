@@ -1,6 +1,6 @@
 -- Any two outcomes that the promise of the job allows coincide: number, place, count, words, scratch and bytes. From the equations that the promise is.
 use Rattle.lists.proofs.Kit.{_≡_, sym, ap, _∙_, List, _++_, ℕ, drop}
-use Rattle.text.specs.Meaning.{meaning}
+use Rattle.sheets.specs.Meaning.{meaning}
 use Rattle.job.specs.Job.{jobText, JobPromise}
 
 pub job-once : {bytes words scratch out : List ℕ} {k k′ p p′ n n′ : ℕ} {w w′ s s′ o o′ : List ℕ} → JobPromise bytes words scratch out k p n w s o

@@ -1,13 +1,13 @@
 -- What the reader's answer says of the sheet's meaning: a number that is not 0 is the refusal itself, within bounds; 0 says that the
 -- sheet is right, with the answered lengths and the first swaps. By cases on the meaning.
 use Rattle.lists.proofs.Kit.{_≡_, refl, sym, ap, ap₂, _∙_, List, ℕ, _-_, _≤_, arith, length, take, replicate, length-append, take-at}
-use Rattle.text.specs.Meaning.{Outcome, meaning}
-use Rattle.text.specs.Right.{Right}
-use Rattle.text.proofs.SecondLines.{accepted-exactly}
-use Rattle.text.proofs.Bounds.{Bounded, Within, meaning-within}
-use Rattle.sheet.specs.declared.Sheet.{Sheet}
-use Rattle.sheet.specs.Swaps.{padded}
-use Rattle.sheet.specs.Reader.{answer, kept, ReadPromise}
+use Rattle.sheets.specs.Meaning.{Outcome, meaning}
+use Rattle.sheets.specs.Right.{Right}
+use Rattle.sheets.proofs.SecondLines.{accepted-exactly}
+use Rattle.sheets.proofs.Bounds.{Bounded, Within, meaning-within}
+use Rattle.reader.specs.declared.Sheet.{Sheet}
+use Rattle.reader.specs.Swaps.{padded}
+use Rattle.reader.specs.Reader.{answer, kept, ReadPromise}
 
 -- the swaps that an answer counts
 abbrev pub swapsOf : Sheet → List ℕ

@@ -8,8 +8,8 @@ use Rattle.orders.specs.Chains.{named}
 use Rattle.orders.specs.Numbers.{numberOf}
 use Rattle.orders.specs.Needs.{chainNeed}
 use Rattle.refusals.specs.Scratch.{cleared}
-use Rattle.text.specs.Sheet.{resultText, refusalText}
-use Rattle.text.specs.Meaning.{Outcome, meaning}
+use Rattle.sheets.specs.Sheet.{resultText, refusalText}
+use Rattle.sheets.specs.Meaning.{Outcome, meaning}
 
 -- the words after the job: of a right sheet its words laid out afresh under the order that its chain names, then the words past the
 -- block as they were; a refusal leaves all as it was

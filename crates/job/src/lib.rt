@@ -34,9 +34,9 @@ pub fn job(
 ) -> JobAnswer
     ensures { λ r. ⌜ JobPromise (now (bytes .entry)) (now (words .entry)) (now (scratch .entry)) (now (out .entry)) (r .number) (r .place) (r .count) (now (words .exit)) (now (scratch .exit)) (now (out .exit)) ⌝ }
 {
-    let sheet = sheet::read(bytes, words);
+    let sheet = reader::read(bytes, words);
     if sheet.number != 0 {
-        let line = printer::write_refusal(sheet.number, sheet.place as u32, out);
+        let line = writer::write_refusal(sheet.number, sheet.place as u32, out);
         return JobAnswer {
             number: sheet.number,
             place: sheet.place,
@@ -49,7 +49,7 @@ pub fn job(
     let answer = run(words, scratch, lengths, &swaps[..count]);
     let turned = answer.lengths;
     let front = [turned[0], turned[1], turned[2], turned[3]];
-    let written = printer::write_result(front, answer.order, words, out);
+    let written = writer::write_result(front, answer.order, words, out);
     JobAnswer {
         number: 0,
         place: 0,

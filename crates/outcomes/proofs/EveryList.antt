@@ -9,11 +9,11 @@ use Rattle.flat.specs.Turn.{sides}
 use Rattle.stages.specs.Stages.{Memory}
 use Rattle.passes.specs.Ticks.{tickChecks}
 use Rattle.passes.specs.Restart.{resumeChecks}
-use Rattle.cycles.specs.Promise.{cycleChecks, runChecks}
+use Rattle.cycle_lists.specs.Promise.{cycleChecks, runChecks}
 use Rattle.cameras.specs.Promises.{removeChecks, addChecks}
 use Rattle.tiles.specs.Promises.{tileChecks}
-use Rattle.text.specs.Checks.{sheetChecks}
-use Rattle.printer.specs.Writer.{writerChecks, releaseChecks}
+use Rattle.sheets.specs.Checks.{sheetChecks}
+use Rattle.writer.specs.Writer.{writerChecks, releaseChecks}
 use Rattle.desk.specs.Conditions.{measureChecks, framesChecks, joinChecks}
 use Rattle.desk.specs.ChoiceConditions.{chooseChecks}
 

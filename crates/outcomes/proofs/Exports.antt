@@ -7,16 +7,16 @@ use prog.Routine.{Routine}
 use prog.Wp.{Heap}
 use ghost.Atoms.{Atoms}
 use contract.Monad.{Fun}
-use Rattle.halves.proofs as halves
+use Rattle.recursion.proofs as recursion
 use Rattle.passes.proofs as passes
 use Rattle.home.proofs as home
-use Rattle.cycles.proofs as cycles
+use Rattle.cycle_lists.proofs as cycle_lists
 use Rattle.cameras.proofs as cameras
 use Rattle.tiles.proofs as tiles
 use Rattle.plans.proofs as plans
 use Rattle.axes.proofs as axes
-use Rattle.sheet.proofs as sheet
-use Rattle.printer.proofs as printer
+use Rattle.reader.proofs as reader
+use Rattle.writer.proofs as writer
 use Rattle.job.proofs as job
 use Rattle.desk.proofs as desk
 use Rattle.exports.proofs as exports
@@ -38,7 +38,7 @@ pub turn-back-passes-once : Once exports.zib_turn_back_passes.Kinds.ps exports.z
 turn-back-passes-once t = let (x, y, z) = passes.OneOutcome.turn-back-once (t .first) (t .second) in (x, λ i. (y i, (z i, _)))
 
 pub turn-halves-once : Once exports.zib_turn_halves.Kinds.ps exports.zib_turn_halves.Kinds.r exports.zib_turn_halves.Reads.Post
-turn-halves-once t = let (x, y) = halves.OneOutcome.turn-once (t .first) (t .second) in (x, λ i. (y i, _))
+turn-halves-once t = let (x, y) = recursion.OneOutcome.turn-once (t .first) (t .second) in (x, λ i. (y i, _))
 
 pub lines-once : Once exports.zib_lines.Kinds.ps exports.zib_lines.Kinds.r exports.zib_lines.Reads.Post
 lines-once t = (passes.OneTick.lines-once (t .first) (t .second), refl)
@@ -55,10 +55,10 @@ pub repeats-once : Once exports.zib_repeats.Kinds.ps exports.zib_repeats.Kinds.r
 repeats-once t = (home.OneOutcome.repeats-once (t .first) (t .second), refl)
 
 pub judge-cycles-once : Once exports.zib_judge_cycles.Kinds.ps exports.zib_judge_cycles.Kinds.r exports.zib_judge_cycles.Reads.Post
-judge-cycles-once t = (cycles.OneOutcome.judge-once (t .first) (t .second), refl)
+judge-cycles-once t = (cycle_lists.OneOutcome.judge-once (t .first) (t .second), refl)
 
 pub run-cycles-once : Once exports.zib_run_cycles.Kinds.ps exports.zib_run_cycles.Kinds.r exports.zib_run_cycles.Reads.Post
-run-cycles-once t = let (x, y) = cycles.OneOutcome.run-once (t .first) (t .second) in (x, λ i. (_, (y i, _)))
+run-cycles-once t = let (x, y) = cycle_lists.OneOutcome.run-once (t .first) (t .second) in (x, λ i. (_, (y i, _)))
 
 pub remove-camera-once : Once exports.zib_remove_camera.Kinds.ps exports.zib_remove_camera.Kinds.r exports.zib_remove_camera.Reads.Post
 remove-camera-once t = let (x, y) = cameras.OneOutcome.remove-once (t .args .1 .0) (t .args .1 .1 .0) (t .args .1 .1 .1 .0) (t .first) (t .second) in (x, λ i. (y i, _))
@@ -91,16 +91,16 @@ pub plan5-once : Once exports.zib_plan5.Kinds.ps exports.zib_plan5.Kinds.r expor
 plan5-once t = (plans.OneOutcome.plan-once (t .first) (t .second), refl)
 
 pub read-sheet-once : Once exports.zib_read_sheet.Kinds.ps exports.zib_read_sheet.Kinds.r exports.zib_read_sheet.Reads.Post
-read-sheet-once t = let (x, y) = sheet.OneOutcome.read-once (t .first) (t .second) in (x, λ i. (_, (y i, _)))
+read-sheet-once t = let (x, y) = reader.OneOutcome.read-once (t .first) (t .second) in (x, λ i. (_, (y i, _)))
 
 pub read-result-once : Once exports.zib_read_result.Kinds.ps exports.zib_read_result.Kinds.r exports.zib_read_result.Reads.Post
-read-result-once t = let (x, y) = sheet.OneOutcome.read-result-once (t .first) (t .second) in (x, λ i. (_, (y i, _)))
+read-result-once t = let (x, y) = reader.OneOutcome.read-result-once (t .first) (t .second) in (x, λ i. (_, (y i, _)))
 
 pub write-result-once : Once exports.zib_write_result.Kinds.ps exports.zib_write_result.Kinds.r exports.zib_write_result.Reads.Post
-write-result-once t = let (x, y) = printer.OneOutcome.write-result-once (t .first) (t .second) in (x, λ i. (_, (_, (_, (y i, _)))))
+write-result-once t = let (x, y) = writer.OneOutcome.write-result-once (t .first) (t .second) in (x, λ i. (_, (_, (_, (y i, _)))))
 
 pub write-release-once : Once exports.zib_write_release.Kinds.ps exports.zib_write_release.Kinds.r exports.zib_write_release.Reads.Post
-write-release-once t = let (x, y) = printer.OneOutcome.write-release-once (t .first) (t .second) in (x, λ i. (_, (_, (_, (_, (y i, _))))))
+write-release-once t = let (x, y) = writer.OneOutcome.write-release-once (t .first) (t .second) in (x, λ i. (_, (_, (_, (_, (y i, _))))))
 
 pub job-once : Once exports.zib_job.Kinds.ps exports.zib_job.Kinds.r exports.zib_job.Reads.Post
 job-once t = let (k, p, c, x, y, z) = job.OneOutcome.job-once (t .first) (t .second) in (λ i. record { number = k i; place = p i; count = c i }, λ i. (_, (x i, (y i, (z i, _)))))

@@ -8,11 +8,11 @@ use prog.Wp.{Heap}
 use ghost.Atoms.{Atoms}
 use contract.Monad.{Fun}
 use Rattle.refusals.proofs as refusals
-use Rattle.halves.proofs as halves
+use Rattle.recursion.proofs as recursion
 use Rattle.strips.proofs as strips
 use Rattle.passes.proofs as passes
 use Rattle.home.proofs as home
-use Rattle.cycles.proofs as cycles
+use Rattle.cycle_lists.proofs as cycle_lists
 use Rattle.moves.proofs as moves
 use Rattle.grids.proofs as grids
 use Rattle.cameras.proofs as cameras
@@ -26,8 +26,8 @@ turn-once t = let (x, y, z) = passes.OneOutcome.turn-once (t .first) (t .second)
 pub turn-back-once : Once passes.turn_back.Kinds.ps passes.turn_back.Kinds.r passes.turn_back.Reads.Post
 turn-back-once t = let (x, y, z) = passes.OneOutcome.turn-back-once (t .first) (t .second) in (x, λ i. (y i, (z i, _)))
 
-pub turn-halves-once : Once halves.turn.Kinds.ps halves.turn.Kinds.r halves.turn.Reads.Post
-turn-halves-once t = let (x, y) = halves.OneOutcome.turn-once (t .first) (t .second) in (x, λ i. (y i, _))
+pub turn-halves-once : Once recursion.turn.Kinds.ps recursion.turn.Kinds.r recursion.turn.Reads.Post
+turn-halves-once t = let (x, y) = recursion.OneOutcome.turn-once (t .first) (t .second) in (x, λ i. (y i, _))
 
 pub strips-turn-once : Once strips.turn.Kinds.ps strips.turn.Kinds.r strips.turn.Reads.Post
 strips-turn-once t = let (x, y, z) = passes.OneOutcome.turn-once (t .first) (t .second) in (x, λ i. (y i, (z i, _)))
@@ -55,11 +55,11 @@ resume-once t = let (x, m) = passes.OneOutcome.resume-once (t .first) (t .second
 pub repeats-once : Once home.repeats.Kinds.ps home.repeats.Kinds.r home.repeats.Reads.Post
 repeats-once t = (home.OneOutcome.repeats-once (t .first) (t .second), refl)
 
-pub judge-once : Once cycles.judge.Kinds.ps cycles.judge.Kinds.r cycles.judge.Reads.Post
-judge-once t = (cycles.OneOutcome.judge-once (t .first) (t .second), refl)
+pub judge-once : Once cycle_lists.judge.Kinds.ps cycle_lists.judge.Kinds.r cycle_lists.judge.Reads.Post
+judge-once t = (cycle_lists.OneOutcome.judge-once (t .first) (t .second), refl)
 
-pub run-once : Once cycles.run.Kinds.ps cycles.run.Kinds.r cycles.run.Reads.Post
-run-once t = let (x, y) = cycles.OneOutcome.run-once (t .first) (t .second) in (x, λ i. (_, (y i, _)))
+pub run-once : Once cycle_lists.run.Kinds.ps cycle_lists.run.Kinds.r cycle_lists.run.Reads.Post
+run-once t = let (x, y) = cycle_lists.OneOutcome.run-once (t .first) (t .second) in (x, λ i. (_, (y i, _)))
 
 pub copy-once : Once moves.copy.Kinds.ps moves.copy.Kinds.r moves.copy.Reads.Post
 copy-once t = let e = moves.OneOutcome.copy-once (t .args .1 .0) (t .args .1 .1 .1 .0) (t .args .1 .1 .1 .1 .0) (t .args .1 .1 .0 .now) (t .first) (t .second) in (refl, λ i. (e i, _))

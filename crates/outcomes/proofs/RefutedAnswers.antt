@@ -13,9 +13,9 @@ use Rattle.refusals.specs.FirstOf.{Check, check, firstOf}
 use Rattle.refusals.specs.Conditions.{badLength, longest, firstPlace, noRelease}
 use Rattle.refusals.specs.Calls.{sizeChecks, blockChecks, passesChecks, swapChecks, planChecks}
 use Rattle.flat.specs.Turn.{sides}
-use Rattle.orbits.specs.Turns.{Order}
+use Rattle.cycles.specs.Turns.{Order}
 use Rattle.checks.specs.Words.{capped}
-use Rattle.text.specs.Checks.{sheetChecks}
+use Rattle.sheets.specs.Checks.{sheetChecks}
 use Rattle.axes.specs.Answers.{fiveLengths}
 use Rattle.plans.specs.declared.Planned.{Planned}
 use Rattle.plans.specs.Promise.{plannedAs, noPlan, PlanPromise}

@@ -6,13 +6,13 @@ use Rattle.layout.specs.Layout.{volume, at, pick, placeOf, places, coords, laid
 use Rattle.orders.specs.Chains.{exchange, follow, named}
 use Rattle.refusals.specs.FirstOf.{Check, firstOf}
 use Rattle.flat.specs.Turn.{sides, across}
-use Rattle.orbits.specs.Orbit.{iter, first, period}
-use Rattle.orbits.specs.Sent.{goes}
-use Rattle.orbits.specs.Cycles.{takes, isLeast, cyclesFrom, cycles, pairAt, Pair, FirstOther}
-use Rattle.orbits.proofs.RightList.{every-cycle-once}
-use Rattle.cycles.specs.declared.Judged.{Judged}
-use Rattle.cycles.specs.Promise.{wrongCycles, cycleChecks, runChecks, JudgedAfter, JudgePromise, RunPromise}
-use Rattle.cycles.proofs.OneOutcome.{judge-once}
+use Rattle.cycles.specs.Orbit.{iter, first, period}
+use Rattle.cycles.specs.Sent.{goes}
+use Rattle.cycles.specs.Cycles.{takes, isLeast, cyclesFrom, cycles, pairAt, Pair, FirstOther}
+use Rattle.cycles.proofs.RightList.{every-cycle-once}
+use Rattle.cycle_lists.specs.declared.Judged.{Judged}
+use Rattle.cycle_lists.specs.Promise.{wrongCycles, cycleChecks, runChecks, JudgedAfter, JudgePromise, RunPromise}
+use Rattle.cycle_lists.proofs.OneOutcome.{judge-once}
 use Rattle.outcomes.specs.Wrong.{Case, Row, Refuted}
 use Rattle.outcomes.proofs.Wrong.{refuted}
 use Rattle.outcomes.specs.Wrong.Row.{wrong, gives, late, refuses}

@@ -6,17 +6,17 @@ use Rattle.orders.specs.Numbers.{arrangements, orders, rank, numberOf}
 use Rattle.orders.specs.Needs.{swapNeed, chainNeed}
 use Rattle.refusals.specs.FirstOf.{Check, check, firstOf}
 use Rattle.refusals.specs.Conditions.{badLength, shortBuffer, longChain, badSwap, noOrder, firstPlace}
-use Rattle.text.specs.Print.{digits, decimal, field, fields, line}
-use Rattle.text.specs.Read.{Reading, readMore, readNumber, readField, readFields, closed, readLine, tabs}
-use Rattle.text.specs.Sheet.{shapeWord, chainWord, orderWord, rowWord, rowCount, rowWidth, rowsText, sheetText, resultText, resultBy, refusalText}
-use Rattle.text.specs.Meaning.{Verdict, longSheet, bigSheet, shapeLine, chainLine, orderLine, lineOrder, wrongRelease, orderFields, rowLines, ended, meaning, resultMeaning, meaningBy}
-use Rattle.sheet.specs.declared.Sheet.{Sheet}
-use Rattle.sheet.specs.declared.ResultSheet.{ResultSheet}
-use Rattle.sheet.specs.Reader.{answer, kept, ReadPromise}
-use Rattle.sheet.specs.ResultReader.{resultAnswer, ReadResultPromise}
-use Rattle.printer.specs.declared.Written.{Written}
-use Rattle.printer.specs.Writer.{shortBytes, writerChecks, releaseChecks, written, writtenTo, WriteResultPromise, WriteReleasePromise}
-use Rattle.printer.specs.RefusalWriter.{WriteRefusalPromise}
+use Rattle.sheets.specs.Print.{digits, decimal, field, fields, line}
+use Rattle.sheets.specs.Read.{Reading, readMore, readNumber, readField, readFields, closed, readLine, tabs}
+use Rattle.sheets.specs.Sheet.{shapeWord, chainWord, orderWord, rowWord, rowCount, rowWidth, rowsText, sheetText, resultText, resultBy, refusalText}
+use Rattle.sheets.specs.Meaning.{Verdict, longSheet, bigSheet, shapeLine, chainLine, orderLine, lineOrder, wrongRelease, orderFields, rowLines, ended, meaning, resultMeaning, meaningBy}
+use Rattle.reader.specs.declared.Sheet.{Sheet}
+use Rattle.reader.specs.declared.ResultSheet.{ResultSheet}
+use Rattle.reader.specs.Reader.{answer, kept, ReadPromise}
+use Rattle.reader.specs.ResultReader.{resultAnswer, ReadResultPromise}
+use Rattle.writer.specs.declared.Written.{Written}
+use Rattle.writer.specs.Writer.{shortBytes, writerChecks, releaseChecks, written, writtenTo, WriteResultPromise, WriteReleasePromise}
+use Rattle.writer.specs.RefusalWriter.{WriteRefusalPromise}
 use Rattle.job.specs.Job.{jobWords, jobScratch, jobText, jobNumber, jobPlace, JobPromise}
 use Rattle.outcomes.specs.Wrong.{Case, Row, Refuted}
 use Rattle.outcomes.proofs.Wrong.{refuted}

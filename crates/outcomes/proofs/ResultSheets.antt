@@ -2,19 +2,19 @@
 -- those values, byte for byte. First over the promises, then about calls. From the law of accepted result sheets: all calls speak of one text.
 use Rattle.lists.proofs.Kit.{_≡_, refl, sym, ap, subst, _∙_, Bool, true, false, cond, List, _++_, _↔_, ℕ, _≤_, arith, eqb, length, take, drop, take-at, length-take-le, eqb-true, eqb-false, ne-eqb}
 use Rattle.layout.specs.Layout.{volume}
-use Rattle.text.specs.Sheet.{orderNumbers, resultBy}
-use Rattle.text.specs.Right.{SheetNumbers, RightResult}
-use Rattle.text.proofs.Rows.{small-take, result-first}
-use Rattle.text.proofs.Length.{result-fits}
-use Rattle.text.proofs.SecondLines.{one-of-two, two-known, good-by}
-use Rattle.text.specs.Private.{OnSheet}
-use Rattle.sheet.specs.declared.ResultSheet.{ResultSheet}
-use Rattle.sheet.specs.ResultReader.{ReadResultPromise, resultFound}
-use Rattle.sheet.proofs.RightResults.{right-is-read, read-is-right}
-use Rattle.printer.specs.declared.Written.{Written}
-use Rattle.printer.specs.Writer.{written, writerNumber, WriteResultPromise, releaseNumber, WriteReleasePromise}
-use Rattle.printer.proofs.Writes.{wrote, number-0, wrote-by, number-0-by}
-use Rattle.printer.proofs.InFull.{in-full}
+use Rattle.sheets.specs.Sheet.{orderNumbers, resultBy}
+use Rattle.sheets.specs.Right.{SheetNumbers, RightResult}
+use Rattle.sheets.proofs.Rows.{small-take, result-first}
+use Rattle.sheets.proofs.Length.{result-fits}
+use Rattle.sheets.proofs.SecondLines.{one-of-two, two-known, good-by}
+use Rattle.sheets.specs.Private.{OnSheet}
+use Rattle.reader.specs.declared.ResultSheet.{ResultSheet}
+use Rattle.reader.specs.ResultReader.{ReadResultPromise, resultFound}
+use Rattle.reader.proofs.RightResults.{right-is-read, read-is-right}
+use Rattle.writer.specs.declared.Written.{Written}
+use Rattle.writer.specs.Writer.{written, writerNumber, WriteResultPromise, releaseNumber, WriteReleasePromise}
+use Rattle.writer.proofs.Writes.{wrote, number-0, wrote-by, number-0-by}
+use Rattle.writer.proofs.InFull.{in-full}
 use Rattle.outcomes.specs.Calls.{WriteCall, WriteReleaseCall, ReadResultCall}
 use Rattle.outcomes.specs.Writers.{numberFor, WrittenFor, WriterText}
 

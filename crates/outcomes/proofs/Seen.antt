@@ -5,13 +5,13 @@ use denote.Triple.Clauses.{AtExit}
 use borrow.Fn.Kinds.{endedOf, Dens, GoodsP}
 use Rattle.passes.proofs as passes
 use Rattle.strips.proofs as strips
-use Rattle.halves.proofs as halves
+use Rattle.recursion.proofs as recursion
 use Rattle.axes.proofs as axes
-use Rattle.printer.proofs as printer
-use Rattle.sheet.proofs as sheet
+use Rattle.writer.proofs as writer
+use Rattle.reader.proofs as reader
 use Rattle.axes.specs.declared.Answer.{Answer}
-use Rattle.printer.specs.declared.Written.{Written}
-use Rattle.sheet.specs.declared.ResultSheet.{ResultSheet}
+use Rattle.writer.specs.declared.Written.{Written}
+use Rattle.reader.specs.declared.ResultSheet.{ResultSheet}
 use Rattle.outcomes.proofs.Axes.{reads}
 use Rattle.outcomes.specs.Calls.{TurnCall, TurnBackCall, RecursionCall, ChainCall, RequestCall, WriteCall, WriteReleaseCall, ReadResultCall}
 
@@ -50,8 +50,8 @@ module _ (κs : Lfts 2) where
       (exit : AtExit (endedOf 2 strips.turn_back.Kinds.ps strips.turn_back.Kinds.r) κs) → strips.turn_back.Reads.Post κs args number exit → TurnBackCall
   of-strips-turn-back = of-turn-back
 
-pub of-recursion : (κs : Lfts 1) (args : Dens κs halves.turn.Kinds.ps) (number : ℕ) (exit : AtExit (endedOf 1 halves.turn.Kinds.ps halves.turn.Kinds.r) κs)
-    → halves.turn.Reads.Post κs args number exit → RecursionCall
+pub of-recursion : (κs : Lfts 1) (args : Dens κs recursion.turn.Kinds.ps) (number : ℕ) (exit : AtExit (endedOf 1 recursion.turn.Kinds.ps recursion.turn.Kinds.r) κs)
+    → recursion.turn.Reads.Post κs args number exit → RecursionCall
 of-recursion κs args number exit post = record {
   m = args .1 .0;
   n = args .1 .1 .0;
@@ -121,8 +121,8 @@ module _ (κs : Lfts 2) where
     post = post;
   }
 
-  pub of-write-result : (args : Dens κs printer.write_result.Kinds.ps) → GoodsP κs printer.write_result.Kinds.ps args → (answer : Written)
-      (exit : AtExit (endedOf 2 printer.write_result.Kinds.ps printer.write_result.Kinds.r) κs) → printer.write_result.Reads.Post κs args answer exit → WriteCall
+  pub of-write-result : (args : Dens κs writer.write_result.Kinds.ps) → GoodsP κs writer.write_result.Kinds.ps args → (answer : Written)
+      (exit : AtExit (endedOf 2 writer.write_result.Kinds.ps writer.write_result.Kinds.r) κs) → writer.write_result.Reads.Post κs args answer exit → WriteCall
   of-write-result args good answer exit post = record {
     lengths = args .0;
     order = args .1 .0;
@@ -134,8 +134,8 @@ module _ (κs : Lfts 2) where
     post = post;
   }
 
-  pub of-write-release : (args : Dens κs printer.write_release.Kinds.ps) → GoodsP κs printer.write_release.Kinds.ps args → (answer : Written)
-      (exit : AtExit (endedOf 2 printer.write_release.Kinds.ps printer.write_release.Kinds.r) κs) → printer.write_release.Reads.Post κs args answer exit
+  pub of-write-release : (args : Dens κs writer.write_release.Kinds.ps) → GoodsP κs writer.write_release.Kinds.ps args → (answer : Written)
+      (exit : AtExit (endedOf 2 writer.write_release.Kinds.ps writer.write_release.Kinds.r) κs) → writer.write_release.Reads.Post κs args answer exit
       → WriteReleaseCall
   of-write-release args good answer exit post = record {
     lengths = args .0;
@@ -149,8 +149,8 @@ module _ (κs : Lfts 2) where
     post = post;
   }
 
-  pub of-read-result : (args : Dens κs sheet.read_result.Kinds.ps) (answer : ResultSheet)
-      (exit : AtExit (endedOf 2 sheet.read_result.Kinds.ps sheet.read_result.Kinds.r) κs) → sheet.read_result.Reads.Post κs args answer exit → ReadResultCall
+  pub of-read-result : (args : Dens κs reader.read_result.Kinds.ps) (answer : ResultSheet)
+      (exit : AtExit (endedOf 2 reader.read_result.Kinds.ps reader.read_result.Kinds.r) κs) → reader.read_result.Reads.Post κs args answer exit → ReadResultCall
   of-read-result args answer exit post = record {
     bytes = args .0 .now;
     buffer = args .1 .0 .now;

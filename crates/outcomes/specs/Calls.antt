@@ -5,13 +5,13 @@ use mathlib.Core.List.{List}
 use Prim.Native.Nat.{ℕ}
 use lib.ListN.{length}
 use Rattle.flat.specs.Promises.{TurnPromise, TurnBackPromise}
-use Rattle.halves.specs.Promise as halves
+use Rattle.recursion.specs.Promise as recursion
 use Rattle.axes.specs.declared.Answer.{Answer}
 use Rattle.axes.specs.Promises.{ChainPromise, RequestPromise}
-use Rattle.printer.specs.declared.Written.{Written}
-use Rattle.printer.specs.Writer.{WriteResultPromise, WriteReleasePromise}
-use Rattle.sheet.specs.declared.ResultSheet.{ResultSheet}
-use Rattle.sheet.specs.ResultReader.{ReadResultPromise}
+use Rattle.writer.specs.declared.Written.{Written}
+use Rattle.writer.specs.Writer.{WriteResultPromise, WriteReleasePromise}
+use Rattle.reader.specs.declared.ResultSheet.{ResultSheet}
+use Rattle.reader.specs.ResultReader.{ReadResultPromise}
 
 -- a call of the flat turn, by strips or by passes
 pub record TurnCall : Type 0 where
@@ -42,7 +42,7 @@ pub record RecursionCall : Type 0 where
   pub words : List ℕ
   pub number : ℕ
   pub words-after : List ℕ
-  pub post : halves.TurnPromise m n words number words-after
+  pub post : recursion.TurnPromise m n words number words-after
 
 -- a call of a chain of swaps on r axes, with the lengths that it reads
 pub record ChainCall (r : ℕ) : Type 0 where

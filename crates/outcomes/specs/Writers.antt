@@ -6,10 +6,10 @@ use Prim.Native.Nat.{ℕ, _≤_}
 use lib.Dec.{eqb}
 use lib.ListN.{length}
 use Rattle.layout.specs.Layout.{volume}
-use Rattle.text.specs.Sheet.{resultBy}
-use Rattle.text.specs.Right.{SheetNumbers}
-use Rattle.printer.specs.declared.Written.{Written}
-use Rattle.printer.specs.Writer.{written, writtenTo, writerNumber, releaseNumber}
+use Rattle.sheets.specs.Sheet.{resultBy}
+use Rattle.sheets.specs.Right.{SheetNumbers}
+use Rattle.writer.specs.declared.Written.{Written}
+use Rattle.writer.specs.Writer.{written, writtenTo, writerNumber, releaseNumber}
 
 -- the number that it answers
 abbrev pub numberFor : ℕ → List ℕ → ℕ → List ℕ → List ℕ → ℕ

@@ -1,8 +1,8 @@
 -- A loop that stores word k at place `to k`, for k = 0, 1, ..: one store more, and one group of stores more, where no two places are one. The loops over a
 -- line (gather, scatter, put back) are instances.
 use Rattle.lists.proofs.Kit.{_≡_, refl, sym, ap, _∙_, subst, List, _++_, ⊎-elim, ℕ, _+_, _*_, _-_, _<_, _≤_, not-suc-le-zero, le-trans, eq-of-mul-eq-mul-left, arith, length, getD, drop, set, length-set, eqb, getD-set-same, getD-set-other, ext-getD, eqb-true, eqb-false, eq-or-ne, lt-or-ge}
-use Rattle.orbits.specs.Orbit.{first}
-use Rattle.orbits.proofs.First.{first-holds, first-least}
+use Rattle.cycles.specs.Orbit.{first}
+use Rattle.cycles.proofs.First.{first-holds, first-least}
 use Rattle.refusals.specs.Scratch.{cleared}
 use Rattle.stages.proofs.Filled.{filled, length-filled, filled-at, filled-others, filled-front}
 use Rattle.stages.proofs.Moves.{tab-zero}

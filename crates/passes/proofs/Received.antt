@@ -1,8 +1,8 @@
 -- The places that a line receives its words from: in range and different, and what has received its words has moved as its pass says. Pass 2 sends; since it
 -- permutes the columns, each has one source.
 use Rattle.lists.proofs.Kit.{_≡_, refl, sym, ap, _∙_, subst, List, ℕ, zero, suc, _<_, not-suc-le-zero, getD}
-use Rattle.orbits.specs.Orbit.{iter, Permutes}
-use Rattle.orbits.proofs.Orbit.{comes-home, iter-within}
+use Rattle.cycles.specs.Orbit.{iter, Permutes}
+use Rattle.cycles.proofs.Orbit.{comes-home, iter-within}
 use Rattle.flat.specs.Passes.{column2, source2}
 use Rattle.flat.proofs.Sides.{Sides, row1-lt, column2-lt, row3-lt, rows1-apart, columns-apart, rows3-apart}
 use Rattle.flat.proofs.Passes.{source-is}

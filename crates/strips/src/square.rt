@@ -20,7 +20,7 @@ fn by_recursion(buf: &mut [u32], n: usize)
     ensures { λ _. ⌜ GridTurned n n 1 (now (buf .entry)) (now (buf .exit)) ⌝ }
 {
     let end = n * n;
-    halves::turn(&mut buf[0..end], n, n);
+    recursion::turn(&mut buf[0..end], n, n);
 }
 
 // Turns the square of n rows and n columns of elements that the buffer begins with.

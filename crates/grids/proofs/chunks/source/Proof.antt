@@ -1,6 +1,6 @@
 -- `chunks::source` meets its contract: the product with the inverse gives the column, and each column is counted off.
 use Rattle.lists.proofs.Kit.{arith, needs}
-use Rattle.orbits.proofs.Stepping.{product, taken-off, stepped, words-few}
+use Rattle.cycles.proofs.Stepping.{product, taken-off, stepped, words-few}
 use Rattle.grids.proofs.chunks.source.Statement.{statement}
 use Rattle.grids.proofs.chunks.source.Tie as tie
 
