@@ -17,6 +17,16 @@ struct Runs {
     pub wide: usize,
 }
 
+// The smaller of two numbers, told by what is asked of it: `min` would double the cases of every sum that it stands in.
+fn smaller(x: usize, y: usize) -> usize
+    ensures { λ r. ⌜ (r ≤ x) × (r ≤ y) × (r < y → r ≡ x) ⌝ }
+{
+    if x < y {
+        return x;
+    }
+    y
+}
+
 // The words of a run, rounded up to sixteens.
 fn sixteens(n: usize) -> usize
     requires { ⌜ (0 < n) × (n ≤ 4096) ⌝ }
@@ -68,8 +78,8 @@ fn close_runs(buf: &mut [u32], last: usize, n: usize, k: usize)
     }
     let wide = sixteens(n);
     let few = few_runs(n, wide);
-    let low = moves::smaller(few, last);
-    let high = last - moves::smaller(ending_runs(n, k, few), last - low);
+    let low = smaller(few, last);
+    let high = last - smaller(ending_runs(n, k, few), last - low);
     let first = Runs {
         low: 0,
         high: low,
@@ -134,7 +144,7 @@ fn open_runs(buf: &mut [u32], last: usize, n: usize, k: usize, column: &[u32])
     }
     let wide = sixteens(n);
     let few = few_runs(n, wide);
-    let low = moves::smaller(few + 1 - moves::smaller(k, 1), last);
+    let low = smaller(few + 1 - smaller(k, 1), last);
     let ending = Runs {
         low,
         high: last,

@@ -77,7 +77,7 @@ pub(crate) fn go_on(
     // Divides: for a line, to find where it starts.
     while 0 < left && p < total {
         let words = stage_words(s, p);
-        store(buf, scratch, s, inverse, p, moves::smaller(words, left));
+        store(buf, scratch, s, inverse, p, line::smaller(words, left));
         if left <= words {
             left = 0;
         } else {
