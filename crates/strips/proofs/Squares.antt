@@ -180,10 +180,3 @@ module _ {n : ℕ} {xs : List ℕ} (q : Square n 1 xs) where
       from-words n n 1 (b .same)
       (λ i j u hi hj hu. place (putMid 0 (n * n - 0) xs ys) (omega arith) ∙ b .placed i j u hi hj hu ∙ place xs (omega arith))
       (λ k h. b .others k (inr (omega arith)))
-
--- elements of one word are words
-pub words : {n g : ℕ} {xs : List ℕ} → g ≡ 1 → Square n g xs → Square n 1 xs
-words e q = rw e at q
-
-pub words-turned : {n g : ℕ} {xs ys : List ℕ} → g ≡ 1 → GridTurned n n 1 xs ys → GridTurned n n g xs ys
-words-turned e t = rw e t

@@ -15,7 +15,7 @@ fn cross(buf: &mut [u32], n: usize, g: usize, i: usize)
 }
 
 // Turns the square of n rows and n columns of words that the buffer begins with.
-fn by_recursion(buf: &mut [u32], n: usize)
+pub(crate) fn by_recursion(buf: &mut [u32], n: usize)
     requires { ⌜ Square n 1 (now buf) ⌝ }
     ensures { λ _. ⌜ GridTurned n n 1 (now (buf .entry)) (now (buf .exit)) ⌝ }
 {
@@ -28,10 +28,6 @@ pub(crate) fn turned(buf: &mut [u32], n: usize, g: usize)
     requires { ⌜ Square n g (now buf) ⌝ }
     ensures { λ _. ⌜ GridTurned n n g (now (buf .entry)) (now (buf .exit)) ⌝ }
 {
-    if g == 1 {
-        by_recursion(buf, n);
-        return;
-    }
     for i in 1..n {
         cross(buf, n, g, i);
     }

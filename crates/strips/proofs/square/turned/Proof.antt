@@ -1,6 +1,6 @@
--- `square::turned` meets its contract: words go by recursion; of elements the loop keeps that the first i rows and columns stand turned; the measure is how many are left.
+-- `square::turned` meets its contract. The loop keeps that the first i rows and columns stand turned; the measure is how many are left.
 use Rattle.lists.proofs.Kit.{_≡_, _-_, _≤_, arith, needs}
-use Rattle.strips.proofs.Squares.{SquareTo, here, square-first, square-more, square-all, words, words-turned}
+use Rattle.strips.proofs.Squares.{SquareTo, here, square-first, square-more, square-all}
 use Rattle.strips.proofs.square.turned.Statement.{statement}
 use Rattle.strips.proofs.square.turned.Tie as tie
 
@@ -15,8 +15,8 @@ loop-again c =
     let k : tie.After-cross Inv-loop μ-loop = search in let l : tie.At-loop Inv-loop μ-loop = search in
     (omega arith, square-more (omega arith) (l .loop .inv .1) (k .cross .ensures))
 
-returns-2 : tie.Need-returns-2 Inv-loop μ-loop
-returns-2 c =
+returns : tie.Need-returns Inv-loop μ-loop
+returns c =
     let l : tie.At-loop Inv-loop μ-loop = search in let s : tie.Start Inv-loop μ-loop = search in
     let e : l .loop .i ≡ s .args .n = omega arith in
     square-all (rw e at (l .loop .inv .1))
@@ -24,9 +24,6 @@ returns-2 c =
 pub turned-spec : {M : Type 1} → statement M
 turned-spec = tie.close (tie.spec
     Inv-loop μ-loop
-    (λ c κs. let s : tie.Start Inv-loop μ-loop = search in words (search) (s .pre))
-    (search needs)
-    (λ c. let k : tie.After-by-recursion Inv-loop μ-loop = search in words-turned (search) (k .by-recursion .ensures))
     (λ c. let s : tie.Start Inv-loop μ-loop = search in (omega (arith, s .pre .some), square-first))
     (λ c κs. let l : tie.At-loop Inv-loop μ-loop = search in let s : tie.Start Inv-loop μ-loop = search in (here (s .pre) (l .loop .inv .1), omega arith))
-    (search needs) (search needs) loop-again (search needs) returns-2)
+    (search needs) (search needs) loop-again (search needs) returns)
