@@ -1,7 +1,7 @@
 -- Removing and adding undo each other: a column removed and the same words added at the same place restore every word; a column added and
 -- removed restores the block. Each column of the larger block is the new one or one of the smaller block, moved past it.
-use Rattle.lists.proofs.Kit.{_≡_, sym, ap, _∙_, List, _⊎_, inl, inr, ⊎-elim, ℕ, suc, _+_, _*_, _-_, _/_, _%_, _<_, _≤_, div-lt-iff-lt-mul, mod-lt, div-add-mod', arith, getD, ext-getD, lt-ltb, le-ltb, lt-or-ge, eq-or-ne}
-use Rattle.moves.proofs.Filling.{at}
+use Rattle.lists.proofs.Kit.{_≡_, sym, ap, _∙_, List, _⊎_, inl, inr, ⊎-elim, ℕ, suc, _+_, _*_, _-_, _<_, _≤_, arith, getD, ext-getD, lt-ltb, le-ltb, lt-or-ge, eq-or-ne}
+use Rattle.lists.proofs.Words.{same-word, by-cells}
 use Rattle.cameras.specs.Columns.{past, Removed, Added}
 
 -- columns before k stand, columns from k on are one further
@@ -28,14 +28,6 @@ column-is n k c low h =
     (lt-or-ge c k))
     (eq-or-ne c k)
 
--- what holds at every row and column of a block holds at every offset of it
-pub by-cells : (frames n : ℕ) (xs ys : List ℕ) → ((i j : ℕ) → i < frames → j < n → getD xs (i * n + j) 0 ≡ getD ys (i * n + j) 0)
-    → (p : ℕ) → p < frames * n → getD xs p 0 ≡ getD ys p 0
-by-cells frames n xs ys f p h =
-    let wide : 0 < n = ⊎-elim (λ (w : 0 < n). w) (λ (w : n ≤ 0). let z : n ≡ 0 = omega arith in absurd (omega (arith, ap (λ (k : ℕ). frames * k) z))) (lt-or-ge 0 n) in
-    let cell : p ≡ p / n * n + p % n = sym (div-add-mod' p n) in
-    at xs cell ∙ f (p / n) (p % n) (div-lt-iff-lt-mul wide .1 h) (mod-lt p wide) ∙ at ys (sym cell)
-
 -- a word of the larger block by its row and its column, where the column was added
 added-cell : {frames n k : ℕ} {column ys zs : List ℕ} → k ≤ n → Added frames n k column ys zs → (ws : List ℕ)
     → ((i : ℕ) → i < frames → getD column i 0 ≡ getD ws (i * suc n + k) 0)
@@ -43,12 +35,12 @@ added-cell : {frames n k : ℕ} {column ys zs : List ℕ} → k ≤ n → Added 
     → (i c : ℕ) → i < frames → c < suc n → getD zs (i * suc n + c) 0 ≡ getD ws (i * suc n + c) 0
 added-cell {n = n} {k} {zs = zs} low a ws new old i c h g =
     ⊎-elim
-    (λ (e : c ≡ k). at zs (ap (λ (z : ℕ). i * suc n + z) e) ∙ a .new i h ∙ new i h ∙ at ws (ap (λ (z : ℕ). i * suc n + z) (sym e)))
+    (λ (e : c ≡ k). same-word zs (ap (λ (z : ℕ). i * suc n + z) e) ∙ a .new i h ∙ new i h ∙ same-word ws (ap (λ (z : ℕ). i * suc n + z) (sym e)))
     (λ (o : Other n k c).
-    at zs (ap (λ (z : ℕ). i * suc n + z) (sym (o .is)))
+    same-word zs (ap (λ (z : ℕ). i * suc n + z) (sym (o .is)))
     ∙ a .opened i (o .j) h (o .low)
     ∙ old i (o .j) h (o .low)
-    ∙ at ws (ap (λ (z : ℕ). i * suc n + z) (o .is)))
+    ∙ same-word ws (ap (λ (z : ℕ). i * suc n + z) (o .is)))
     (column-is n k c low g)
 
 -- removing a column and adding the same words at the same place restores every word, the freed ones too

@@ -5,10 +5,10 @@ use Rattle.layout.specs.Layout.{volume}
 use Rattle.refusals.specs.FirstOf.{Check, firstOf}
 use Rattle.flat.specs.Turn.{sides}
 use Rattle.flat.proofs.Turn.{volume-two}
-use Rattle.moves.proofs.Filling.{at}
+use Rattle.lists.proofs.Words.{same-word, by-cells}
 use Rattle.cameras.specs.Columns.{Removed, Added}
 use Rattle.cameras.specs.Promises.{removeChecks, addChecks, noColumn, otherLength, Changed, RemovePromise, AddPromise}
-use Rattle.cameras.proofs.Back.{by-cells, column-is, Other, restored}
+use Rattle.cameras.proofs.Back.{column-is, Other, restored}
 use Rattle.cameras.proofs.Accepted.{removes, lengths-left, adds}
 
 one-removed : {frames n k : ℕ} {xs ys zs : List ℕ} → Removed frames n k xs ys → Removed frames n k xs zs → ys ≡ zs
@@ -36,10 +36,10 @@ one-added {frames} {n} {k} {column} {xs} {ys} {zs} low r s =
     cell : (i c : ℕ) → i < frames → c < suc n → getD ys (i * suc n + c) 0 ≡ getD zs (i * suc n + c) 0
     cell i c h g =
         ⊎-elim
-        (λ (e : c ≡ k). let o = ap (λ (z : ℕ). i * suc n + z) e in at ys o ∙ r .new i h ∙ sym (s .new i h) ∙ at zs (sym o))
+        (λ (e : c ≡ k). let o = ap (λ (z : ℕ). i * suc n + z) e in same-word ys o ∙ r .new i h ∙ sym (s .new i h) ∙ same-word zs (sym o))
         (λ (o : Other n k c).
         let e = ap (λ (z : ℕ). i * suc n + z) (o .is) in
-        at ys (sym e) ∙ r .opened i (o .j) h (o .low) ∙ sym (s .opened i (o .j) h (o .low)) ∙ at zs e)
+        same-word ys (sym e) ∙ r .opened i (o .j) h (o .low) ∙ sym (s .opened i (o .j) h (o .low)) ∙ same-word zs e)
         (column-is n k c low g)
 
 -- two outcomes of one promise, where two right ones of an accepted call are equal
@@ -96,4 +96,4 @@ there-and-back f c k {column = column} {xs = xs} {ys = ys} long words p q =
     let m = removes f c k xs e in
     let right : cond {A = ℕ} (noColumn (c - 1) k) 16 (cond (otherLength f column) 25 0) ≡ 0 = rw (le-ltb (c - 1) k (m .low), eq-eqb (length column) f long) in
     let y = q .number-is ∙ left-to-check f c k k column xs ys e (p .words refl .same) ∙ right in
-    (y, restored (m .low) (p .words refl) (λ i h. words i h ∙ at xs (ap (λ (w : ℕ). i * w + k) (m .left))) (q .words y))
+    (y, restored (m .low) (p .words refl) (λ i h. words i h ∙ same-word xs (ap (λ (w : ℕ). i * w + k) (m .left))) (q .words y))

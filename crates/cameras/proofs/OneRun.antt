@@ -2,7 +2,7 @@
 -- word is still to be read.
 use Rattle.lists.proofs.Kit.{_≡_, _∙_, List, ℕ, suc, _+_, _*_, _-_, _≤_, arith, length, getD, set, length-set, getD-set-same, getD-set-other}
 use Rattle.moves.specs.Stretch.{Stretch}
-use Rattle.moves.proofs.Filling.{at}
+use Rattle.lists.proofs.Words.{same-word}
 use Rattle.cameras.proofs.Runs.{RunClosed, RunOpened}
 
 module _ {n k r wide : ℕ} (all : n ≤ wide) (few : wide ≤ n + r + 1) where
@@ -10,7 +10,7 @@ module _ {n k r wide : ℕ} (all : n ≤ wide) (few : wide ≤ n + r + 1) where
   pub run-closed : {xs ys : List ℕ} → Stretch (r * n + k) wide (λ p. getD xs (r * n + k + r + 1 + p) 0) xs ys → RunClosed n k r xs ys
   run-closed {xs} s = record {
     same = s .same;
-    closed = λ p h. s .holds p (omega arith) ∙ at xs (omega arith);
+    closed = λ p h. s .holds p (omega arith) ∙ same-word xs (omega arith);
     below = s .below;
     above = λ q h. s .above q (omega arith);
   }
@@ -25,10 +25,10 @@ module _ {n k r wide : ℕ} (all : n ≤ wide) (few : wide ≤ n + r + 1) where
         same = length-set ys gap word ∙ s .same;
         opened = λ p h.
             other (r * suc n + k + 1 + p) (λ e. omega arith)
-            ∙ at ys {q = to + (p + (wide - n))} (omega arith)
+            ∙ same-word ys {q = to + (p + (wide - n))} (omega arith)
             ∙ s .holds (p + (wide - n)) (omega arith)
-            ∙ at xs (omega arith);
-        new = at (set ys gap word) {q = gap} (omega arith) ∙ getD-set-same ys gap word 0 (omega (arith, s .same));
+            ∙ same-word xs (omega arith);
+        new = same-word (set ys gap word) {q = gap} (omega arith) ∙ getD-set-same ys gap word 0 (omega (arith, s .same));
         below = λ q h. other q (λ e. omega arith) ∙ s .below q (omega arith);
         above = λ q h. other q (λ e. omega arith) ∙ s .above q (omega arith);
       }

@@ -3,7 +3,7 @@
 -- while the one before them does.
 use Rattle.lists.proofs.Kit.{_≡_, refl, sym, ap, subst, _∙_, List, ⊎-elim, ℕ, suc, _+_, _*_, _-_, _<_, _≤_, mul-le-mul-right, arith, length, getD, set, length-set, getD-set-same, getD-set-other, lt-ltb, le-ltb, lt-or-ge, eq-or-ne}
 use Rattle.moves.specs.Stretch.{Stretch}
-use Rattle.moves.proofs.Filling.{at}
+use Rattle.lists.proofs.Words.{same-word}
 use Rattle.cameras.specs.Columns.{past, Added}
 use Rattle.cameras.specs.Private.{gaps, ClosedTo, OpenedFrom, Closed}
 
@@ -64,7 +64,7 @@ opened-also {frames = frames} {n} {k} {column} {xs} {ys} e o = subst (λ (z : �
 
 module _ {n k : ℕ} (low : k ≤ n) {xs : List ℕ} where
   pub none-closed : ClosedTo 0 n k xs xs
-  none-closed = record { same = refl; closed = λ i j h b. at xs (omega (arith, place low i j h .with-it)); above = λ q h. refl }
+  none-closed = record { same = refl; closed = λ i j h b. same-word xs (omega (arith, place low i j h .with-it)); above = λ q h. refl }
 
   pub closed-more : {r : ℕ} {ys zs : List ℕ} → ClosedTo r n k xs ys → RunClosed n k r ys zs → ClosedTo (r + 1) n k xs zs
   closed-more {r} {ys} {zs} c s = record {
@@ -74,10 +74,10 @@ module _ {n k : ℕ} (low : k ≤ n) {xs : List ℕ} where
         (λ (e : gaps k i j ≡ suc r).
         let l = in-run low r i j h e in
         let p = i * n + j - (r * n + k) in
-        at zs {q = r * n + k + p} (omega (arith, l))
+        same-word zs {q = r * n + k + p} (omega (arith, l))
         ∙ s .closed p (omega (arith, l))
         ∙ c .above (r * suc n + k + 1 + p) (omega arith)
-        ∙ at xs (omega (arith, l)))
+        ∙ same-word xs (omega (arith, l)))
         (λ (e : gaps k i j ≡ suc r → ⊥).
         let l : gaps k i j ≤ r = omega arith in
         s .below (i * n + j) (before-run low r i j h l) ∙ c .closed i j h l)
@@ -102,10 +102,10 @@ module _ {n k : ℕ} (low : k ≤ n) {xs : List ℕ} where
             let l = in-run low last i j h (omega (arith, place low i j h .near)) in
             let p = i * n + j - (last * n + k) in
             let row : i * n ≤ last * n = mul-le-mul-right n (omega arith) in
-            at zs {q = last * n + k + p} (omega (arith, l))
+            same-word zs {q = last * n + k + p} (omega (arith, l))
             ∙ s .holds p (omega (arith, l))
             ∙ c .above (last * n + k + frames + p) (omega arith)
-            ∙ at xs (omega (arith, l)))
+            ∙ same-word xs (omega (arith, l)))
             (lt-or-ge (gaps k i j) (suc last));
         above = λ q h. s .above q (omega arith) ∙ c .above q (omega arith);
       }
@@ -126,13 +126,13 @@ module _ {n k : ℕ} (low : k ≤ n) {xs : List ℕ} where
               let l = in-run low last i j h (omega (arith, place low i j h .near)) in
               let p = i * n + j - (last * n + k) in
               let row : i * n ≤ last * n = mul-le-mul-right n (omega arith) in
-              at (set ys gap word) {q = last * n + k + frames + p} (omega (arith, l))
+              same-word (set ys gap word) {q = last * n + k + frames + p} (omega (arith, l))
               ∙ other (last * n + k + frames + p) (λ z. omega arith)
               ∙ s .holds p (omega (arith, l))
-              ∙ at xs (omega (arith, l));
+              ∙ same-word xs (omega (arith, l));
           new = λ i l f.
               let here : i ≡ last = omega arith in
-              at (set ys gap word) {q = gap} (rw here (omega arith))
+              same-word (set ys gap word) {q = gap} (rw here (omega arith))
               ∙ getD-set-same ys gap word 0 (omega (arith, whole, s .same))
               ∙ ap (λ (z : ℕ). getD column z 0) (sym here);
           below = λ q h. other q (λ z. omega arith) ∙ s .below q (omega arith);
@@ -148,17 +148,17 @@ module _ {n k : ℕ} (low : k ≤ n) {xs : List ℕ} where
           (λ (e : gaps k i j ≡ suc r).
           let l = in-run low r i j h e in
           let p = i * n + j - (r * n + k) in
-          at zs {q = r * suc n + k + 1 + p} (omega (arith, l))
+          same-word zs {q = r * suc n + k + 1 + p} (omega (arith, l))
           ∙ s .opened p (omega (arith, l))
           ∙ o .below (r * n + k + p) (omega (arith, l))
-          ∙ at xs (omega (arith, l)))
+          ∙ same-word xs (omega (arith, l)))
           (λ (e : gaps k i j ≡ suc r → ⊥).
           let l : suc r < gaps k i j = omega arith in
           s .above (i * suc n + past k j) (past-run low r i j h l) ∙ o .opened i j g h l)
           (eq-or-ne (gaps k i j) (suc r));
       new = λ i l g.
           ⊎-elim
-          (λ (z : i ≡ r). at zs (ap (λ (y : ℕ). y * suc n + k) z) ∙ s .new ∙ ap (λ (y : ℕ). getD column y 0) (sym z))
+          (λ (z : i ≡ r). same-word zs (ap (λ (y : ℕ). y * suc n + k) z) ∙ s .new ∙ ap (λ (y : ℕ). getD column y 0) (sym z))
           (λ (z : i ≡ r → ⊥).
           let later : suc r ≤ i = omega arith in
           s .above (i * suc n + k) (omega (arith, mul-le-mul-right (suc n) later)) ∙ o .new i later g)
@@ -180,7 +180,7 @@ module _ {n k : ℕ} (low : k ≤ n) {xs : List ℕ} where
               ⊎-elim
               (λ (b : 0 < gaps k i j). o .opened i j f h b)
               (λ (b : gaps k i j ≤ 0).
-              at ys {q = i * n + j} (omega (arith, place low i j h .with-it)) ∙ o .below (i * n + j) (before-run low 0 i j h b))
+              same-word ys {q = i * n + j} (omega (arith, place low i j h .with-it)) ∙ o .below (i * n + j) (before-run low 0 i j h b))
               (lt-or-ge 0 (gaps k i j));
           new = λ i f. o .new i (omega arith) f;
           tail = o .tail;

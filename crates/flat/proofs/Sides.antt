@@ -1,7 +1,8 @@
 -- The numbers of the three passes. l = i·n + j is the offset of a cell of the finished block, l = j′·m + i′ the offset of
 -- its word's cell: the passes carry the word of row i′, column j′ over row r = (l − floor(i/a)) mod m to row i, column j,
 -- and passes 2 and 3 send different cells of a line to different cells.
-use Rattle.lists.proofs.Kit.{_≡_, sym, ap, ap₂, _∙_, ℕ, _+_, _*_, _-_, _/_, _%_, _<_, _≤_, arith, mod-lt, mod-add-mod, div-add-mod', div-div-eq-div-mul, div-mul-cancel, div-le-self, div-lt-iff-lt-mul, le-mul-of-pos-right, mul-comm, sub-add-cancel, add-comm, mod-mod-of-dvd, pos-of-dvd-of-pos, mul-assoc, eq-zero-or-pos, zero-mul, ⊎-elim, digits-div, digits-mod}
+use Rattle.lists.proofs.Kit.{_≡_, sym, ap, ap₂, _∙_, ℕ, _+_, _*_, _-_, _/_, _%_, _<_, _≤_, arith, mod-lt, mod-add-mod, div-add-mod', div-div-eq-div-mul, div-mul-cancel, div-le-self, div-lt-iff-lt-mul, le-mul-of-pos-right, mul-comm, sub-add-cancel, add-comm, mod-mod-of-dvd, pos-of-dvd-of-pos, mul-assoc, digits-div, digits-mod}
+use Rattle.lists.proofs.Words.{factor-pos}
 use Rattle.flat.specs.Gcd.{gcdOf}
 use Rattle.flat.proofs.Gcd.{gcd-is, quotients-apart}
 use Rattle.flat.proofs.Apart.{apart-at, shift-apart}
@@ -17,10 +18,6 @@ pub record Sides (m n : ℕ) : Type 0 where
   pub apart : gcdOf (rowGroup m n) (columnGroup m n) ≡ 1
   pub apart′ : gcdOf (columnGroup m n) (rowGroup m n) ≡ 1
 
--- of a product that has a word each factor is positive
-factor-pos : (a c m : ℕ) → a * c ≡ m → 0 < m → 0 < a
-factor-pos a c m e h = ⊎-elim (λ (z : a ≡ 0). let y : 0 ≡ m = sym (zero-mul c) ∙ ap (λ (x : ℕ). x * c) (sym z) ∙ e in absurd (omega arith)) (λ (p : 0 < a). p) (eq-zero-or-pos a)
-
 pub sides-are : (m n : ℕ) → 0 < m → 0 < n → Sides m n
 sides-are m n hm hn =
     let g = gcd-is m n in
@@ -30,8 +27,8 @@ sides-are m n hm hn =
     let ec : columnGroup m n * c ≡ n = div-mul-cancel c (g .right) in
     record {
       c-pos = hc;
-      a-pos = factor-pos (rowGroup m n) c m er hm;
-      b-pos = factor-pos (columnGroup m n) c n ec hn;
+      a-pos = factor-pos (rowGroup m n) c 0 (omega (arith, er, hm));
+      b-pos = factor-pos (columnGroup m n) c 0 (omega (arith, ec, hn));
       rows = er;
       columns = ec;
       apart = quotients-apart (rowGroup m n) (columnGroup m n) c hc (rw (er, ec) g);

@@ -2,7 +2,9 @@
 -- whose source they are themselves.
 -- So each place has the chunk of its source, and that is the layout whose first two axes are exchanged.
 use Rattle.lists.proofs.Kit.{_≡_, refl, sym, ap, ap₂, _∙_, true, false, List, [], _∷_, ⊎-elim, ℕ, _+_, _*_, _-_, _/_, _%_, _<_, _≤_, mod-lt, mod-eq-of-lt, div-eq-of-lt, div-add-mod', zero-div, mul-comm, mul-le-mul, arith, digits-div, digits-mod, digits-lt, length, getD, decided, eq-or-ne, lt-or-ge}
-use Rattle.layout.specs.Layout.{Within, at, pick, volume}
+use Rattle.lists.proofs.Words.{same-word}
+use Rattle.layout.proofs.Offsets.{volume-three, at-three}
+use Rattle.layout.specs.Layout.{Within, at, pick}
 use Rattle.layout.specs.Layout.Within.{none, more}
 use Rattle.cycles.specs.Cycles.{takes}
 use Rattle.cycles.specs.Private.{Small}
@@ -15,10 +17,6 @@ use Rattle.grids.specs.Private.{mirror, fold, half, pairs, bitAt, Level,
 use Rattle.grids.proofs.Bits.{both, bit-none}
 use Rattle.grids.proofs.Mirror.{pairs-permute}
 use Rattle.grids.proofs.Places.{middle-stays}
-
--- the same word by two names of its offset
-place : (l : List ℕ) {p q : ℕ} → p ≡ q → getD l p 0 ≡ getD l q 0
-place l e = ap (λ (z : ℕ). getD l z 0) e
 
 -- a block that can be turned, with rows and columns exchanged
 module _ {m n chunk : ℕ} {xs marks : List ℕ} (t : Turnable m n chunk xs marks) where
@@ -35,18 +33,9 @@ module _ {m n chunk : ℕ} {xs marks : List ℕ} (t : Turnable m n chunk xs mark
 pub asked-more : (p : ℕ) (marks : List ℕ) → ((k : ℕ) → 0 < k → k < p → bitAt marks k ≡ true) → bitAt marks p ≡ true → (k : ℕ) → 0 < k → k < p + 1 → bitAt marks k ≡ true
 asked-more p marks all here k some h = ⊎-elim (λ (e : k ≡ p). ap (bitAt marks) e ∙ here) (λ (ne : k ≡ p → ⊥). all k some (omega arith)) (eq-or-ne k p)
 
--- the words and the offsets of three axes
-volume-three : (a b c : ℕ) → volume (a ∷ b ∷ c ∷ []) ≡ a * b * c
-unfolding volume
-volume-three a b c = omega arith
-
-at-three : (a b c i j u : ℕ) → at (a ∷ b ∷ c ∷ []) (i ∷ j ∷ u ∷ []) ≡ (i * b + j) * c + u
-unfolding at volume
-at-three a b c i j u = omega arith
-
 module _ (n m : ℕ) where
   pub none-marked : {before marks : List ℕ} → Stretch 0 ((n * m + 63) / 64) (λ u. 0) before marks → (q : ℕ) → q < half (n * m) → bitAt marks q ≡ false
-  none-marked {before} {marks} s q h = bit-none marks q (place marks {q = 0 + q / 32} (omega arith) ∙ s .holds (q / 32) (omega arith))
+  none-marked {before} {marks} s q h = bit-none marks q (same-word marks {q = 0 + q / 32} (omega arith) ∙ s .holds (q / 32) (omega arith))
 
   pub level-none : (marks : List ℕ) → ((q : ℕ) → q < half (n * m) → bitAt marks q ≡ false) → Level (pairs n m) (half (n * m)) marks
   level-none marks free p h = free (pairs n m p) (pairs-permute n m .within p h) ∙ sym (free p h)
@@ -100,7 +89,7 @@ module _ (n m : ℕ) where
       placed x (more {x = i} hi (more {x = j} hj (more {x = u} hu none))) =
           let low : j * m + i < n * m = digits-lt hj hi in
           let from : takes n m (j * m + i) ≡ i * n + j = takes-split n m (j * m + i) some low ∙ ap₂ (λ (a b : ℕ). a * n + b) (digits-mod j hi) (digits-div j hi) in
-          place ys (at-three n m w j i u) ∙ s .gone (j * m + i) u low hu ∙ ap (λ (z : ℕ). getD xs (z * w + u) 0) from ∙ place xs (sym (at-three m n w i j u))
+          same-word ys (at-three n m w j i u) ∙ s .gone (j * m + i) u low hu ∙ ap (λ (z : ℕ). getD xs (z * w + u) 0) from ∙ same-word xs (sym (at-three m n w i j u))
 
   -- where a side is 1 every chunk stays
   stays : {w : ℕ} {xs : List ℕ} → 0 < m → ((p : ℕ) → p < n * m → takes n m p ≡ p) → GridTurned m n w xs xs

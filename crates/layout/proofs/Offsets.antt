@@ -1,5 +1,6 @@
 -- Offsets and coordinates correspond one to one below the volume. By induction on the lengths, each axis being one digit.
-use Rattle.lists.proofs.Kit.{_≡_, refl, sym, ap, ap₂, _∙_, List, [], _∷_, ℕ, suc, _+_, _*_, _/_, _%_, _<_, zero-le, suc-le-suc, mod-lt, div-add-mod', div-lt-iff-lt-mul, mul-zero, eq-zero-or-pos, not-suc-le-zero, ⊎-elim, length, digits-div, digits-mod, digits-lt, lt-one}
+use Rattle.lists.proofs.Kit.{_≡_, refl, sym, ap, ap₂, _∙_, List, [], _∷_, ℕ, suc, _+_, _*_, _/_, _%_, _<_, zero-le, suc-le-suc, mod-lt, div-add-mod', div-lt-iff-lt-mul, mul-comm, arith, length, digits-div, digits-mod, digits-lt, lt-one}
+use Rattle.lists.proofs.Words.{factor-pos}
 use Rattle.layout.specs.Layout.{volume, Within, at, coords}
 use Rattle.layout.specs.Layout.Within.{none, more}
 
@@ -14,7 +15,7 @@ at-lt (more h w) = digits-lt h (at-lt w)
 
 -- the block has a word, so what follows the first axis has one
 rest-pos : (d v p : ℕ) → p < d * v → 0 < v
-rest-pos d v p h = ⊎-elim (λ (e : v ≡ 0). let z : p < 0 = rw (e, mul-zero) at h in absurd (not-suc-le-zero z)) (λ (k : 0 < v). k) (eq-zero-or-pos v)
+rest-pos d v p h = factor-pos v d p (omega (arith, mul-comm d v))
 
 pub within-coords : (ds : List ℕ) (p : ℕ) → p < volume ds → Within ds (coords ds p)
 unfolding coords volume
@@ -35,3 +36,12 @@ unfolding at coords
 coords-at none = refl
 coords-at (more {x = y} {ds = es} h w) =
     ap₂ _∷_ (digits-div y (at-lt w)) (ap (coords es) (digits-mod y (at-lt w)) ∙ coords-at w)
+
+-- the words and the offsets of three axes
+pub volume-three : (a b c : ℕ) → volume (a ∷ b ∷ c ∷ []) ≡ a * b * c
+unfolding volume
+volume-three a b c = omega arith
+
+pub at-three : (a b c i j u : ℕ) → at (a ∷ b ∷ c ∷ []) (i ∷ j ∷ u ∷ []) ≡ (i * b + j) * c + u
+unfolding at volume
+at-three a b c i j u = omega arith

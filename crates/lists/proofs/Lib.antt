@@ -12,5 +12,7 @@ pub mod Front
 pub mod Copied
 -- what proofs of every crate use, passed on by one module
 pub mod Kit
+-- words by their offsets
+pub mod Words
 -- a slice lent in parts, and the whole once they are back
 pub mod Parts

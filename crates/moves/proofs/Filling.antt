@@ -1,11 +1,8 @@
 -- A stretch of the buffer filled word by word or piece by piece, from the front or from the back: what is filled holds its values, the rest stands.
 use Rattle.lists.proofs.Kit.{_≡_, refl, sym, ap, _∙_, List, ⊎-elim, ℕ, _+_, _-_, _<_, _≤_, arith, length, getD, set, length-set, getD-set-same, getD-set-other, eq-or-ne, lt-or-ge}
+use Rattle.lists.proofs.Words.{same-word}
 use Rattle.moves.specs.Stretch.{Stretch}
 use Rattle.moves.specs.Promises.{Ahead}
-
--- the same word by two names of its offset
-pub at : (l : List ℕ) {p q : ℕ} → p ≡ q → getD l p 0 ≡ getD l q 0
-at l e = ap (λ (z : ℕ). getD l z 0) e
 
 -- the places from lo up to hi are filled
 pub record Filled (to lo hi : ℕ) (value : ℕ → ℕ) (xs ys : List ℕ) : Type 0 where
@@ -67,7 +64,7 @@ module _ {to : ℕ} {value : ℕ → ℕ} {xs : List ℕ} where
         ⊎-elim
         (λ (g : p < start). s .below (to + p) (omega arith) ∙ f .holds p a (omega arith))
         (λ (g : start ≤ p).
-        at zs (place p g) ∙ s .holds (p - start) (omega arith) ∙ same (p - start) (omega arith) ∙ ap value (omega arith))
+        same-word zs (place p g) ∙ s .holds (p - start) (omega arith) ∙ same (p - start) (omega arith) ∙ ap value (omega arith))
         (lt-or-ge p start);
     below = λ q g. s .below q (omega arith) ∙ f .below q g;
     above = λ q g. s .above q (omega arith) ∙ f .above q (omega arith);
@@ -84,7 +81,7 @@ module _ {to : ℕ} {value : ℕ → ℕ} {xs : List ℕ} where
     holds = λ p a b.
         ⊎-elim
         (λ (g : p < lo + count).
-        at zs (place p a) ∙ s .holds (p - lo) (omega arith) ∙ same (p - lo) (omega arith) ∙ ap value (omega arith))
+        same-word zs (place p a) ∙ s .holds (p - lo) (omega arith) ∙ same (p - lo) (omega arith) ∙ ap value (omega arith))
         (λ (g : lo + count ≤ p). s .above (to + p) (omega arith) ∙ f .holds p (omega arith) b)
         (lt-or-ge p (lo + count));
     below = λ q g. s .below q g ∙ f .below q (omega arith);

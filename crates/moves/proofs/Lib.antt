@@ -4,5 +4,7 @@ pub mod Filling
 pub mod Trading
 -- what a call answers where the runs lie inside, and where they do not
 pub mod Inside
+-- scratch that was used and then zeroed is cleared
+pub mod Cleared
 -- any two outcomes coincide
 pub mod OneOutcome

@@ -2,7 +2,7 @@
 use Rattle.lists.proofs.Kit.{_≡_, sym, _∙_, List, _⊎_, inl, inr, ⊎-elim, ℕ, _+_, _-_, _<_, _≤_, arith, ext-getD, lt-or-ge}
 use Rattle.moves.specs.Stretch.{Stretch, Outside, Traded}
 use Rattle.moves.specs.Promises.{Where, CopyPromise, FallPromise, HandPromise, RisePromise, ZeroPromise, TradePromise}
-use Rattle.moves.proofs.Filling.{at}
+use Rattle.lists.proofs.Words.{same-word}
 
 -- what is decided one way or the other: an order, either of two, both of two, all of three
 pub most : (a b : ℕ) → (a ≤ b) ⊎ (a ≤ b → ⊥)
@@ -39,7 +39,7 @@ one-stretch {to} {count} {value} {xs} {ys} {zs} s t =
     (λ (h : to ≤ q). ⊎-elim
     (λ (l : q < to + count).
     let is : q ≡ to + (q - to) = omega arith in
-    at ys is ∙ s .holds (q - to) (omega arith) ∙ sym (t .holds (q - to) (omega arith)) ∙ at zs (sym is))
+    same-word ys is ∙ s .holds (q - to) (omega arith) ∙ sym (t .holds (q - to) (omega arith)) ∙ same-word zs (sym is))
     (λ (l : to + count ≤ q). s .above q l ∙ sym (t .above q l))
     (lt-or-ge q (to + count)))
     (lt-or-ge q to))
@@ -55,9 +55,9 @@ one-traded : {x y count : ℕ} {xs ys zs : List ℕ} → Traded x y count xs ys 
 one-traded {x} {y} {count} {xs} {ys} {zs} s t =
     ext-getD 0 ys zs (s .same ∙ sym (t .same))
     (λ q _. ⊎-elim
-    (λ r. let (u, h, is) = r in at ys is ∙ s .there u h ∙ sym (t .there u h) ∙ at zs (sym is))
+    (λ r. let (u, h, is) = r in same-word ys is ∙ s .there u h ∙ sym (t .there u h) ∙ same-word zs (sym is))
     (λ a. ⊎-elim
-    (λ r. let (u, h, is) = r in at ys is ∙ s .back u h ∙ sym (t .back u h) ∙ at zs (sym is))
+    (λ r. let (u, h, is) = r in same-word ys is ∙ s .back u h ∙ sym (t .back u h) ∙ same-word zs (sym is))
     (λ b. s .others q a b ∙ sym (t .others q a b))
     (in-run y count q))
     (in-run x count q))

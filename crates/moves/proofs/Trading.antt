@@ -2,7 +2,7 @@
 use Rattle.lists.proofs.Kit.{_≡_, refl, sym, subst, _∙_, List, inl, inr, ⊎-elim, ℕ, _+_, _<_, _≤_, arith, length, getD, set, length-set, getD-set-same, getD-set-other, eq-or-ne}
 use Rattle.moves.specs.Stretch.{Traded}
 use Rattle.moves.specs.Promises.{Apart}
-use Rattle.moves.proofs.Filling.{at}
+use Rattle.lists.proofs.Words.{same-word}
 
 pub nothing-traded : {x y : ℕ} {xs : List ℕ} → Traded x y 0 xs xs
 nothing-traded = record { same = refl; there = λ u h. absurd (omega arith); back = λ u h. absurd (omega arith); others = λ q a b. refl }
@@ -25,15 +25,15 @@ module _ {x y u count : ℕ} {xs ys : List ℕ} (t : Traded x y u xs ys) (apart 
     same = length-set once (y + u) there ∙ length-set ys (x + u) back ∙ t .same;
     there = λ k g. ⊎-elim
         (λ (e : k ≡ u).
-        at twice {q = x + u} (omega arith)
+        same-word twice {q = x + u} (omega arith)
         ∙ getD-set-other once (y + u) (x + u) there 0 (away u u h h)
         ∙ getD-set-same ys (x + u) back 0 (omega (arith, t .same))
         ∙ back-stands
-        ∙ at xs (omega arith))
+        ∙ same-word xs (omega arith))
         (λ (d : k ≡ u → ⊥). stays (x + k) (λ e. omega arith) (away k u (omega arith) h) ∙ t .there k (omega arith))
         (eq-or-ne k u);
     back = λ k g. ⊎-elim
-        (λ (e : k ≡ u). at twice {q = y + u} (omega arith) ∙ getD-set-same once (y + u) there 0 (omega (arith, length-set ys (x + u) back, t .same)) ∙ there-stands ∙ at xs (omega arith))
+        (λ (e : k ≡ u). same-word twice {q = y + u} (omega arith) ∙ getD-set-same once (y + u) there 0 (omega (arith, length-set ys (x + u) back, t .same)) ∙ there-stands ∙ same-word xs (omega arith))
         (λ (d : k ≡ u → ⊥). stays (y + k) (λ e. away u k h (omega arith) (sym e)) (λ e. omega arith) ∙ t .back k (omega arith))
         (eq-or-ne k u);
     others = λ q a b.

@@ -12,6 +12,11 @@ pub record Stretch (to count : ℕ) (value : ℕ → ℕ) (xs ys : List ℕ) : T
   pub below : (q : ℕ) → q < to → getD ys q 0 ≡ getD xs q 0
   pub above : (q : ℕ) → to + count ≤ q → getD ys q 0 ≡ getD xs q 0
 
+-- words past the first so many stand
+pub record Past (count : ℕ) (before after : List ℕ) : Type 0 where
+  pub same : length after ≡ length before
+  pub rest : (k : ℕ) → count ≤ k → getD after k 0 ≡ getD before k 0
+
 -- a word lies outside the count words from an offset on
 abbrev pub Outside : ℕ → ℕ → ℕ → Type 0
 Outside at count q = (q < at) ⊎ (at + count ≤ q)

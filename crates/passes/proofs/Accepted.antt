@@ -1,12 +1,14 @@
 -- What the calls' checks tell where none holds, and what the block's turn and the cleared scratch are then.
-use Rattle.lists.proofs.Kit.{_≡_, sym, ap, _∙_, Bool, List, _++_, ℕ, _+_, _-_, arith, le-trans, drop, replicate, length-drop, ext-getD, getD-drop}
+use Rattle.lists.proofs.Kit.{_≡_, _∙_, Bool, List, ℕ, _-_, arith, le-trans}
 use Rattle.refusals.specs.FirstOf.{firstOf}
 use Rattle.refusals.specs.Calls.{passesChecks}
 use Rattle.refusals.specs.Scratch.{need, cleared}
 use Rattle.refusals.proofs.Promise.{accepted}
 use Rattle.flat.specs.Turn.{sides}
 pub use Rattle.flat.proofs.Accepted.{Accepted, flat-accepted}
-use Rattle.passes.specs.PrivateScratch.{Grouped, Lies, Past, Turned, TurnsPromise}
+use Rattle.moves.specs.Stretch.{Past}
+use Rattle.moves.proofs.Cleared.{past-cleared}
+use Rattle.passes.specs.PrivateScratch.{Grouped, Lies, Turned, TurnsPromise}
 use Rattle.passes.specs.declared.sides.GroupedSides.{GroupedSides}
 use Rattle.passes.proofs.Fits.{side-need}
 
@@ -19,13 +21,6 @@ flat-lies {m} {n} a = record {
   tall = a .m-few;
   wide = a .n-few;
 }
-
--- scratch whose first words are zeroed is cleared, whatever stood there
-pub past-cleared : {k : ℕ} {scratch held : List ℕ} → Past k scratch held → cleared k held ≡ cleared k scratch
-past-cleared {k} {scratch} {held} p =
-    ap (λ (l : List ℕ). replicate k 0 ++ l)
-    (ext-getD 0 (drop k held) (drop k scratch) (length-drop k held ∙ ap (λ (z : ℕ). z - k) (p .same) ∙ sym (length-drop k scratch))
-    (λ i h. getD-drop k held i 0 ∙ p .rest (k + i) (omega arith) ∙ sym (getD-drop k scratch i 0)))
 
 -- what a flat call asks once the sides are grouped, and the outcomes of a block that is turned, or turned home, and of the cleared scratch
 module _ {m n : ℕ} {s : GroupedSides} (is : (s .m ≡ m) × (s .n ≡ n) × Grouped s) where

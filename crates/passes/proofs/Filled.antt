@@ -1,11 +1,9 @@
 -- A loop that stores word k at place `to k`, for k = 0, 1, ..: one store more, and one group of stores more, where no two places are one. The loops over a
 -- line (gather, scatter, put back) are instances.
-use Rattle.lists.proofs.Kit.{_≡_, refl, sym, ap, _∙_, subst, List, _++_, ⊎-elim, ℕ, _+_, _*_, _-_, _<_, _≤_, not-suc-le-zero, le-trans, eq-of-mul-eq-mul-left, arith, length, getD, drop, set, length-set, eqb, getD-set-same, getD-set-other, ext-getD, eqb-true, eqb-false, eq-or-ne, lt-or-ge}
+use Rattle.lists.proofs.Kit.{_≡_, refl, sym, ap, _∙_, subst, List, ⊎-elim, ℕ, _+_, _*_, _-_, _<_, _≤_, not-suc-le-zero, le-trans, eq-of-mul-eq-mul-left, arith, length, getD, set, length-set, eqb, getD-set-same, getD-set-other, ext-getD, eqb-true, eqb-false, eq-or-ne, lt-or-ge}
 use Rattle.cycles.specs.Orbit.{first}
 use Rattle.cycles.proofs.First.{first-holds, first-least}
-use Rattle.refusals.specs.Scratch.{cleared}
-use Rattle.stages.proofs.Filled.{filled, length-filled, filled-at, filled-others, filled-front}
-use Rattle.stages.proofs.Moves.{tab-zero}
+use Rattle.stages.proofs.Filled.{filled, length-filled, filled-at, filled-others}
 use Rattle.moves.specs.Promises.{ZeroPromise}
 use Rattle.passes.specs.PrivateScratch.{Apart, Filled}
 
@@ -79,16 +77,12 @@ filled-as {ys = ys} to-is word-is f = record {
   others = λ p g. f .others p (λ k h e. g k h (to-is k h ∙ e));
 }
 
--- zeroes from the front on are such stores, and what they leave is cleared
-module _ {n : ℕ} {xs ys : List ℕ} (room : n ≤ length xs) (z : ZeroPromise 0 n xs ys) where
-  pub zero-filled : ys ≡ filled n (λ k. k) (λ k. 0) xs
-  zero-filled =
-      let s = z .inside (omega arith) in
-      filled-is (λ i j _ _ e. e) (λ k h. omega arith) (record {
-        same = s .same;
-        placed = λ k h. ap (λ (i : ℕ). getD ys i 0) (omega arith) ∙ s .holds k h;
-        others = λ p g. ⊎-elim (λ (h : p < n). absurd (g p h refl)) (λ (h : n ≤ p). s .above p (omega arith)) (lt-or-ge p n);
-      })
-
-  pub zero-cleared : ys ≡ cleared n xs
-  zero-cleared = zero-filled ∙ filled-front n (λ k. 0) xs room ∙ ap (λ (l : List ℕ). l ++ drop n xs) (tab-zero n)
+-- zeroes from the front on are such stores
+pub zero-filled : {n : ℕ} {xs ys : List ℕ} → n ≤ length xs → ZeroPromise 0 n xs ys → ys ≡ filled n (λ k. k) (λ k. 0) xs
+zero-filled {n} {ys = ys} room z =
+    let s = z .inside (omega arith) in
+    filled-is (λ i j _ _ e. e) (λ k h. omega arith) (record {
+      same = s .same;
+      placed = λ k h. ap (λ (i : ℕ). getD ys i 0) (omega arith) ∙ s .holds k h;
+      others = λ p g. ⊎-elim (λ (h : p < n). absurd (g p h refl)) (λ (h : n ≤ p). s .above p (omega arith)) (lt-or-ge p n);
+    })

@@ -4,7 +4,8 @@ use Rattle.refusals.proofs.Scratch.{need-entry}
 use Rattle.refusals.specs.Scratch.{need}
 use Rattle.flat.specs.Turn.{sides}
 use Rattle.passes.specs.Lines.{column, row, lineAt, lineOf, lineCount, skipped, posOn}
-use Rattle.passes.specs.PrivateScratch.{Grouped, Lain, Fits, Lies, Past, lineIn, linesIn}
+use Rattle.moves.specs.Stretch.{Past}
+use Rattle.passes.specs.PrivateScratch.{Grouped, Lain, Fits, Lies, lineIn, linesIn}
 use Rattle.passes.specs.declared.line.Line.{Line}
 use Rattle.passes.specs.declared.line.Pass.{Pass}
 use Rattle.passes.specs.declared.line.Pass.the-variants.{First, Second, Third}

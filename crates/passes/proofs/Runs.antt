@@ -2,7 +2,8 @@
 use Rattle.lists.proofs.Kit.{_≡_, sym, ap, _∙_, Bool, true, false, List, ⊎-elim, ℕ, _+_, _*_, _-_, _<_, _≤_, mul-le-mul, mul-le-mul-left, mul-add, mul-assoc, mul-one, arith, length, getD, lt-or-ge}
 use Rattle.walks.proofs.Steps.{walk-straight}
 use Rattle.passes.specs.Lines.{posOn}
-use Rattle.passes.specs.PrivateScratch.{Apart, Lain, Filled, Lifted, LineGone, Past, goesTo}
+use Rattle.moves.specs.Stretch.{Past}
+use Rattle.passes.specs.PrivateScratch.{Apart, Lain, Filled, Lifted, LineGone, goesTo}
 use Rattle.passes.specs.PrivateWalks.{placeAt, Walks, Ahead, steps, RunFits}
 use Rattle.passes.specs.declared.line.Line.{Line}
 use Rattle.passes.specs.declared.walk.Place.{Place}

@@ -9,11 +9,13 @@ use Rattle.refusals.proofs.Conditions.{InRange, size-valid}
 use Rattle.refusals.proofs.Promise as promise
 use Rattle.flat.specs.Turn.{sides}
 use Rattle.passes.specs.Lines.{skipped, lineCount, lineOf, LineMoved}
-use Rattle.passes.specs.PrivateScratch.{Grouped, Lies, Past, Fits}
+use Rattle.moves.specs.Stretch.{Past}
+use Rattle.passes.specs.PrivateScratch.{Grouped, Lies, Fits}
 use Rattle.passes.specs.Plain.{LineTicked}
 use Rattle.passes.specs.Ticks.{pastCount, tickChecks, TickPromise}
 use Rattle.passes.specs.declared.sides.GroupedSides.{GroupedSides}
-use Rattle.passes.proofs.Accepted.{flat-accepted, flat-lies, flat-asked, past-cleared}
+use Rattle.moves.proofs.Cleared.{past-cleared}
+use Rattle.passes.proofs.Accepted.{flat-accepted, flat-lies, flat-asked}
 use Rattle.passes.proofs.Fits.{line-fits, left-fits, left-short, past-none, past-more}
 use Rattle.passes.proofs.Passed.{skipped-few}
 use Rattle.passes.proofs.Plain.{Stepped, plain-ticked}

@@ -92,11 +92,6 @@ pub record CanCopy (from gap to step size : ℕ) (source target : List ℕ) : Ty
 abbrev pub Copied : ℕ → ℕ → ℕ → ℕ → ℕ → List ℕ → List ℕ → List ℕ → Type 0
 Copied from gap to step size source before after = Filled (λ t. to + step * t) (λ t. getD source (from + gap * t) 0) size before after
 
--- scratch past its first n words is as it was
-pub record Past (n : ℕ) (before after : List ℕ) : Type 0 where
-  pub same : length after ≡ length before
-  pub rest : (k : ℕ) → n ≤ k → getD after k 0 ≡ getD before k 0
-
 -- the buffer begins with an m by n block, and scratch has room for its longer side
 pub record Lies (m n : ℕ) (xs scratch : List ℕ) : Type 0 where
   pub inside : m * n ≤ length xs

@@ -8,7 +8,8 @@ ghost use mathlib.Core.Path.{_≡_};
 ghost use Prim.Native.Nat.{_<_, _≤_};
 ghost use lib.ListN.{length, getD};
 ghost use Rattle.passes.specs.Lines.{posOn};
-ghost use Rattle.passes.specs.PrivateScratch.{Inside, Lain, CanCopy, Copied, Filled, Lifted, LineGone, Past};
+ghost use Rattle.moves.specs.Stretch.{Past};
+ghost use Rattle.passes.specs.PrivateScratch.{Inside, Lain, CanCopy, Copied, Filled, Lifted, LineGone};
 ghost use Rattle.passes.specs.PrivateWalks.{placeAt, RunFits, RunLifted, Walks};
 
 // The passes of a turn: over the columns, over the rows, over the columns again.

@@ -10,7 +10,8 @@ ghost use mathlib.Core.Path.{_≡_};
 ghost use Rattle.flat.specs.Turn.{sides};
 ghost use Rattle.refusals.specs.Scratch.{need};
 ghost use Rattle.passes.specs.Lines.{LineMoved};
-ghost use Rattle.passes.specs.PrivateScratch.{Grouped, Fits, Lies, Past, PassGone, Turned, endPass};
+ghost use Rattle.moves.specs.Stretch.{Past};
+ghost use Rattle.passes.specs.PrivateScratch.{Grouped, Fits, Lies, PassGone, Turned, endPass};
 ghost use Rattle.passes.specs.PrivateWalks.{Inverted};
 
 // The lines of one pass receive their words, or go home, one after the other.

@@ -2,6 +2,7 @@
 -- before e are turned and the others stand; all of them turned are the layout that exchanges the two axes in the middle.
 use Rattle.lists.proofs.Kit.{_≡_, refl, sym, ap, _∙_, List, [], _∷_, _⊎_, inl, inr, ⊎-elim, ℕ, _+_, _*_, _-_, _<_, _≤_, mul-comm, mul-le-mul-right, add-mul, one-mul, arith, digits-lt, length, getD, eq-or-ne}
 use borrow.Rule.Slice.PartMut.{midOf, putMid, mid-len, same-len-mid}
+use Rattle.layout.proofs.Offsets.{at-three}
 use Rattle.layout.specs.Layout.{volume, Within, at, pick, Laid}
 use Rattle.layout.specs.Layout.Within.{none, more}
 use Rattle.refusals.specs.Calls.{swapBlock}
@@ -19,11 +20,6 @@ pub record TurnedAt (m n chunk base : ℕ) (before after : List ℕ) : Type 0 wh
   pub same : length after ≡ length before
   pub placed : (i j u : ℕ) → i < m → j < n → u < chunk → getD after (base + ((j * m + i) * chunk + u)) 0 ≡ getD before (base + ((i * n + j) * chunk + u)) 0
   pub others : (k : ℕ) → (k < base) ⊎ (base + m * n * chunk ≤ k) → getD after k 0 ≡ getD before k 0
-
--- the offset of a word of a chunk
-pub at-three : (m n w i j u : ℕ) → at (m ∷ n ∷ w ∷ []) (i ∷ j ∷ u ∷ []) ≡ (i * n + j) * w + u
-unfolding at volume
-at-three m n w i j u = omega arith
 
 -- a word of a chunk lies in the block, before the turn and after it
 in-block : (m n chunk i j u : ℕ) → i < m → j < n → u < chunk → ((i * n + j) * chunk + u < m * n * chunk) × ((j * m + i) * chunk + u < m * n * chunk)

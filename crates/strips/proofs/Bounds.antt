@@ -6,7 +6,8 @@ use Rattle.lists.proofs.Parts.{whole}
 use Rattle.strips.specs.PrivateBounds.{Held, From, Lines, Strip, Narrow}
 use Rattle.grids.specs.Grids.{GridTurned}
 use Rattle.strips.specs.PrivateSteps.{BlocksTurned, PartTurned, Widened}
-use Rattle.strips.proofs.Strips.{place, from-words, grid-home, by-rows, by-columns, joined-turn, parted-turn}
+use Rattle.lists.proofs.Words.{same-word}
+use Rattle.strips.proofs.Strips.{from-words, grid-home, by-rows, by-columns, joined-turn, parted-turn}
 
 -- as many lines as fit, and no more than 64
 pub lines-all : {x : ℕ} → 0 < x → x ≤ 64 → 512 / x < 64 → Lines x (512 / x)
@@ -161,7 +162,7 @@ pub row-turned : {m n g : ℕ} {xs : List ℕ} → m ≡ 1 → GridTurned m n g 
 row-turned {m} {n} {g} {xs} one = from-words m n g refl (λ i j u hi hj hu. stands i j u (omega arith)) (λ k h. refl)
   where
     stands : (i j u : ℕ) → i ≡ 0 → getD xs ((j * m + i) * g + u) 0 ≡ getD xs ((i * n + j) * g + u) 0
-    stands i j u z = rw (z, one) (place xs (omega arith))
+    stands i j u z = rw (z, one) (same-word xs (omega arith))
 
 pub column-turned : {m n g : ℕ} {xs : List ℕ} → n ≡ 1 → GridTurned m n g xs xs
 column-turned one = grid-home (row-turned one)

@@ -13,7 +13,8 @@ use Rattle.moves.specs.Stretch.{Outside, Traded}
 use Rattle.grids.specs.Grids.{GridTurned}
 use Rattle.strips.specs.PrivateBounds.{Square}
 use Rattle.strips.specs.PrivateMoves.{RowCrossed}
-use Rattle.strips.proofs.Strips.{place, from-words, turn-flat}
+use Rattle.lists.proofs.Words.{same-word}
+use Rattle.strips.proofs.Strips.{from-words, turn-flat}
 use Rattle.strips.proofs.Tiles.{next-run}
 
 -- a word of another element lies outside an element
@@ -178,5 +179,5 @@ module _ {n : ℕ} {xs : List ℕ} (q : Square n 1 xs) where
   lent-turned {ys} t =
       let b = part-turned {m = n} {n = n} {chunk = 1} {base = 0} {end = n * n} {xs = xs} {ys = ys} (omega arith) (omega (arith, q .inside)) (laid-turned (turn-flat t)) in
       from-words n n 1 (b .same)
-      (λ i j u hi hj hu. place (putMid 0 (n * n - 0) xs ys) (omega arith) ∙ b .placed i j u hi hj hu ∙ place xs (omega arith))
+      (λ i j u hi hj hu. same-word (putMid 0 (n * n - 0) xs ys) (omega arith) ∙ b .placed i j u hi hj hu ∙ same-word xs (omega arith))
       (λ k h. b .others k (inr (omega arith)))

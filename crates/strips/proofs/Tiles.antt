@@ -9,7 +9,8 @@ use Rattle.strips.specs.PrivateBounds.{Held, From}
 use Rattle.grids.specs.Grids.{GridTurned}
 use Rattle.strips.specs.PrivateSteps.{BlocksTurned}
 use Rattle.moves.proofs.Filling.{Filled, nothing-filled, piece-up}
-use Rattle.strips.proofs.Strips.{place, from-words}
+use Rattle.lists.proofs.Words.{same-word}
+use Rattle.strips.proofs.Strips.{from-words}
 
 -- word k of a tile of m by n words that begins at an offset, once it is turned
 abbrev pub turnedWord : ℕ → ℕ → ℕ → List ℕ → ℕ → ℕ
@@ -17,7 +18,7 @@ turnedWord at m n tile k = getD tile (at + (k % m * n + k / m)) 0
 
 -- column j of the tile, word p
 column-word : (at m n j p : ℕ) (tile : List ℕ) → p < m → getD tile (at + j + p * n) 0 ≡ turnedWord at m n tile (j * m + p)
-column-word at m n j p tile h = place tile (omega (arith, ap₂ (λ (a b : ℕ). at + (a * n + b)) (digits-mod j h) (digits-div j h)))
+column-word at m n j p tile h = same-word tile (omega (arith, ap₂ (λ (a b : ℕ). at + (a * n + b)) (digits-mod j h) (digits-div j h)))
 
 pub columns-none : (at m : ℕ) {value : ℕ → ℕ} {xs : List ℕ} → Filled at 0 (0 * m) value xs xs
 columns-none at m = rw zero-mul (nothing-filled 0)
@@ -53,10 +54,10 @@ lifted-more {e} {n} {g} {xs} {before} {tile} {next} l s = record {
       let low : u * n + j < g * n = digits-lt hu hj in
       ⊎-elim
       (λ (z : i ≡ e). rw z
-      (place next {q = e * (n * g) + (u * n + j)} (omega arith)
+      (same-word next {q = e * (n * g) + (u * n + j)} (omega arith)
       ∙ s .holds (u * n + j) low
-      ∙ place xs {q = e * (n * g) + (j * g + u)} (omega (arith, ap₂ (λ (a b : ℕ). e * (n * g) + (a * g + b)) (digits-mod u hj) (digits-div u hj)))
-      ∙ place xs (omega arith)))
+      ∙ same-word xs {q = e * (n * g) + (j * g + u)} (omega (arith, ap₂ (λ (a b : ℕ). e * (n * g) + (a * g + b)) (digits-mod u hj) (digits-div u hj)))
+      ∙ same-word xs (omega arith)))
       (λ (z : i ≡ e → ⊥).
       let before-it = next-run (n * g) {j = i} {k = e} (omega arith) in
       s .below ((i * g + u) * n + j) (omega arith) ∙ l .placed i j u (omega arith) hj hu)
@@ -70,7 +71,7 @@ lifted-words {m} {n} {g} {xs} {before} {tile} one s = record {
       let first : u ≡ 0 = omega arith in
       let low : i * n + j < m * n = digits-lt hi hj in
       rw (one, first)
-      (place tile {q = 0 + (i * n + j)} (omega arith) ∙ s .holds (i * n + j) (omega (arith, ap (λ (z : ℕ). m * (n * z)) one)) ∙ place xs (omega arith));
+      (same-word tile {q = 0 + (i * n + j)} (omega arith) ∙ s .holds (i * n + j) (omega (arith, ap (λ (z : ℕ). m * (n * z)) one)) ∙ same-word xs (omega arith));
 }
 
 -- the rows of a block, lifted into a tile and written turned, are the block turned: column by column, and row by row
@@ -80,9 +81,9 @@ module _ {m n g : ℕ} {xs ys before tile : List ℕ} (l : Lifted m n g xs befor
       from-words m n g (s .same)
       (λ i j u hi hj hu.
       let low : i * g + u < m * g = digits-lt hi hu in
-      place ys {q = 0 + (j * (m * g) + (i * g + u))} (omega arith)
+      same-word ys {q = 0 + (j * (m * g) + (i * g + u))} (omega arith)
       ∙ s .holds (j * (m * g) + (i * g + u)) (digits-lt hj low)
-      ∙ place tile {q = (i * g + u) * n + j} (omega (arith, ap₂ (λ (a b : ℕ). 0 + (a * n + b)) (digits-mod j low) (digits-div j low)))
+      ∙ same-word tile {q = (i * g + u) * n + j} (omega (arith, ap₂ (λ (a b : ℕ). 0 + (a * n + b)) (digits-mod j low) (digits-div j low)))
       ∙ l .placed i j u hi hj hu)
       (λ k h. s .above k (omega arith))
 
@@ -90,7 +91,7 @@ module _ {m n g : ℕ} {xs ys before tile : List ℕ} (l : Lifted m n g xs befor
   rows-turned a =
       from-words m n g (a .same)
       (λ i j u hi hj hu.
-      place ys {q = j * (m * g) + (i * g + u)} (omega arith) ∙ a .placed (i * g + u) j (digits-lt hi hu) hj ∙ l .placed i j u hi hj hu)
+      same-word ys {q = j * (m * g) + (i * g + u)} (omega arith) ∙ a .placed (i * g + u) j (digits-lt hi hu) hj ∙ l .placed i j u hi hj hu)
       (λ k h. a .tail k (omega arith))
 
 -- the same row by row: one row more is written
@@ -102,7 +103,7 @@ module _ {m n : ℕ} {tile xs : List ℕ} where
   row-more {e} {ys} {zs} low a s = record {
     same = s .same ∙ a .same;
     placed = λ i j h k. ⊎-elim
-        (λ (z : i ≡ e). rw z (place zs {q = e + j * m} (omega arith) ∙ s .holds j k))
+        (λ (z : i ≡ e). rw z (same-word zs {q = e + j * m} (omega arith) ∙ s .holds j k))
         (λ (ne : i ≡ e → ⊥).
         s .others (j * m + i) (λ u hu is. ne (sym (digits-mod j (omega arith)) ∙ ap (λ (z : ℕ). z % m) (is ∙ omega arith) ∙ digits-mod u low))
         ∙ a .placed i j (omega arith) k)
@@ -159,10 +160,10 @@ pub rows-stand : {y m n g : ℕ} {xs : List ℕ} → m ≡ 1 → BlocksTurned y 
 rows-stand {y} {m} {n} {g} {xs} one = all-turned (record { same = refl; placed = λ k i j u hk hi hj hu. stands k i j u (omega arith); stands = λ p h. refl })
   where
     stands : (k i j u : ℕ) → i ≡ 0 → getD xs (k * (m * n * g) + ((j * m + i) * g + u)) 0 ≡ getD xs (k * (m * n * g) + ((i * n + j) * g + u)) 0
-    stands k i j u z = rw (z, one) (place xs (omega arith))
+    stands k i j u z = rw (z, one) (same-word xs (omega arith))
 
 pub columns-stand : {y m n g : ℕ} {xs : List ℕ} → n ≡ 1 → BlocksTurned y m n g xs xs
 columns-stand {y} {m} {n} {g} {xs} one = all-turned (record { same = refl; placed = λ k i j u hk hi hj hu. stands k i j u (omega arith); stands = λ p h. refl })
   where
     stands : (k i j u : ℕ) → j ≡ 0 → getD xs (k * (m * n * g) + ((j * m + i) * g + u)) 0 ≡ getD xs (k * (m * n * g) + ((i * n + j) * g + u)) 0
-    stands k i j u z = rw (z, one) (place xs (omega arith))
+    stands k i j u z = rw (z, one) (same-word xs (omega arith))

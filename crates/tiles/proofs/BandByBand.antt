@@ -1,11 +1,10 @@
 -- A block moved band by band. A band that was lifted into scratch and laid back has moved; bands that have moved stay while the next one does,
--- because it lies past them; at the end every word has its new place, and scratch whose first words are then zeroed is cleared.
-use Rattle.lists.proofs.Kit.{_≡_, refl, sym, ap, _∙_, List, ⊎-elim, ℕ, _+_, _*_, _-_, _/_, _%_, _<_, _≤_, min, div-add-mod', mul-assoc, add-mul, mul-le-mul-right, arith, length, drop, replicate, getD, length-replicate, length-append, length-drop, getD-replicate, List·getD-append, getD-append-add, getD-drop, ext-getD, lt-or-ge}
-use Rattle.refusals.specs.Scratch.{cleared}
-use Rattle.moves.specs.Stretch.{Stretch}
-use Rattle.moves.proofs.Filling.{at}
+-- because it lies past them; at the end every word has its new place.
+use Rattle.lists.proofs.Kit.{_≡_, refl, sym, ap, _∙_, List, ⊎-elim, ℕ, _+_, _*_, _-_, _/_, _%_, _<_, _≤_, min, div-add-mod', mul-assoc, add-mul, mul-le-mul-right, arith, length, getD, lt-or-ge}
+use Rattle.moves.specs.Stretch.{Stretch, Past}
+use Rattle.lists.proofs.Words.{same-word}
 use Rattle.tiles.specs.Tiles.{part, bandPlace, tilePlace}
-use Rattle.tiles.specs.Private.{BandFits, LaidTo, Past, BandMoved, Converts, BlockMoved}
+use Rattle.tiles.specs.Private.{BandFits, LaidTo, BandMoved, Converts, BlockMoved}
 use Rattle.tiles.specs.declared.bands.Band.{Band}
 use Rattle.tiles.specs.declared.bands.Tiling.{Tiling}
 use Rattle.tiles.proofs.BandPlaces.{band-place-lt}
@@ -19,7 +18,7 @@ band-moved {b} {held = held} step lifted laid = (
     same = laid .same;
     placed = λ x j row low done.
         laid .placed x j row low done
-        ∙ at held {q = 0 + bandPlace (b .rows) (b .columns) (b .from) x j} (omega arith)
+        ∙ same-word held {q = 0 + bandPlace (b .rows) (b .columns) (b .from) x j} (omega arith)
         ∙ lifted .holds (bandPlace (b .rows) (b .columns) (b .from) x j) (band-place-lt (b .rows) (b .columns) (b .from) step x j row low);
     below = laid .below;
     above = laid .above;
@@ -108,31 +107,10 @@ module _ {t : Tiling} {i h : ℕ} (a : NextBand t i h) where
       where
         moves : (k j x : ℕ) → k ≡ i + x → x < h → j < n → getD zs (tilePlace m n r (t .to) k j) 0 ≡ getD xs (tilePlace m n r (t .from) k j) 0
         moves k j x e row low =
-            at zs (ap (λ (z : ℕ). tilePlace m n r (t .to) z j) e ∙ in-band (t .to) x j row)
+            same-word zs (ap (λ (z : ℕ). tilePlace m n r (t .to) z j) e ∙ in-band (t .to) x j row)
             ∙ g .0 .placed x j row low low
             ∙ f .above (i * n + bandPlace h n (t .from) x j) (omega arith)
-            ∙ at xs (sym (ap (λ (z : ℕ). tilePlace m n r (t .from) z j) e ∙ in-band (t .from) x j row))
-
--- scratch of which the first words were used and then zeroed is cleared
-pub zeroed : {k : ℕ} {scratch held after : List ℕ} → k ≤ length scratch → Past k scratch held → Stretch 0 k (λ u. 0) held after → after ≡ cleared k scratch
-zeroed {k} {scratch} {held} {after} room p z =
-    ext-getD 0 after (cleared k scratch) (z .same ∙ p .same ∙ sym long)
-    (λ i _. ⊎-elim
-    (λ (h : i < k). at after {q = 0 + i} (omega arith) ∙ z .holds i h ∙ sym (List·getD-append zeroes (drop k scratch) 0 i (omega (arith, some)) ∙ getD-replicate k i 0 0 h))
-    (λ (h : k ≤ i). z .above i (omega arith) ∙ p .rest i h ∙ sym (behind i (i - k) (omega (arith, some))))
-    (lt-or-ge i k))
-  where
-    zeroes : List ℕ
-    zeroes = replicate k 0
-
-    some : length zeroes ≡ k
-    some = length-replicate k 0
-
-    long : length (cleared k scratch) ≡ length scratch
-    long = simp (length-append, length-drop) (omega (arith, some))
-
-    behind : (i u : ℕ) → i ≡ length zeroes + u → getD (cleared k scratch) i 0 ≡ getD scratch i 0
-    behind i u e = at (cleared k scratch) e ∙ getD-append-add zeroes (drop k scratch) u 0 ∙ getD-drop k scratch u 0 ∙ at scratch (omega (arith, some))
+            ∙ same-word xs (sym (ap (λ (z : ℕ). tilePlace m n r (t .from) z j) e ∙ in-band (t .from) x j row))
 
 -- all bands have moved
 pub all-moved : {t : Tiling} {i : ℕ} {xs ys scratch held : List ℕ} → t .rows ≤ i → RowsMoved t i xs ys scratch held → BlockMoved t xs ys scratch held

@@ -1,6 +1,7 @@
 -- A band as tiles. An offset is h·u·s + x·w + c: tile u of width w, row x and column c of the tile. Every offset of the band is of this kind, by
 -- division, and of one word only. In tiles as wide as the band a word stands where its row has it.
 use Rattle.lists.proofs.Kit.{_≡_, sym, ap, ap₂, _∙_, ⊎-elim, ℕ, _+_, _*_, _-_, _/_, _%_, _<_, _≤_, min, mod-lt, div-add-mod', div-lt-iff-lt-mul, mul-add, mul-pos, mul-le-mul-left, lt-of-mul-lt-mul-left, mul-left-comm, div-eq-of-lt, mod-eq-of-lt, mul-zero, zero-mul, arith, digits-lt, lt-or-ge}
+use Rattle.lists.proofs.Words.{factor-pos}
 use Rattle.tiles.specs.Tiles.{part, bandPlace}
 use Rattle.tiles.proofs.Parts.{part-le, part-within, part-pos, in-part, of-part, at-part, part-last, part-whole, one-cell}
 
@@ -34,9 +35,6 @@ in-tile h n s u q tile few low =
     (λ (g : n < u * s + s). omega (arith, sym (mul-add h (u * s) (part n s u)), ap (λ (z : ℕ). h * z) (part-last n s u tile (omega arith))))
     (λ (g : u * s + s ≤ n). rw (part-whole n s u g) few)
     (lt-or-ge n (u * s + s))
-
-pub factor-pos : (h n k : ℕ) → k < h * n → 0 < h
-factor-pos h n k low = ⊎-elim (λ (g : 0 < h). g) (λ (g : h ≤ 0). let z : h ≡ 0 = omega arith in absurd (omega (arith, ap (λ (y : ℕ). y * n) z))) (lt-or-ge 0 h)
 
 -- every offset of the band has its tile, its row and its column
 pub spot : (h n s : ℕ) → 0 < s → (k : ℕ) → k < h * n → Spot h n s k

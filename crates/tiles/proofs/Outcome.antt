@@ -2,7 +2,7 @@
 use Rattle.lists.proofs.Kit.{_≡_, sym, _∙_, List, _⊎_, inl, inr, ℕ, _<_, _≤_, arith}
 use Rattle.refusals.specs.FirstOf.{firstOf}
 use Rattle.refusals.proofs.Promise.{accepted}
-use Rattle.moves.proofs.Filling.{at}
+use Rattle.lists.proofs.Words.{same-word}
 use Rattle.tiles.specs.Promises.{tileChecks, ToTilesPromise, FromTilesPromise}
 use Rattle.tiles.specs.Private.{Converts, Converted}
 use Rattle.tiles.specs.declared.bands.Tiling.{Tiling}
@@ -44,11 +44,11 @@ module _ (m n r s : ℕ) {b₀ s₀ : List ℕ} (good : firstOf (tileChecks m n 
     pub to-outcome : Converted (intoTiles m n r s) b₀ b s₀ after → ToTilesPromise m n r s b₀ s₀ 0 b after
     to-outcome c =
         accepted good
-        (record { same = c .0 .same; placed = λ i j row low. c .0 .placed i j row low ∙ at b₀ (wide-place m n r n i j (omega arith) low) })
+        (record { same = c .0 .same; placed = λ i j row low. c .0 .placed i j row low ∙ same-word b₀ (wide-place m n r n i j (omega arith) low) })
         (c .1)
 
     pub from-outcome : Converted (outOfTiles m n r s) b₀ b s₀ after → FromTilesPromise m n r s b₀ s₀ 0 b after
     from-outcome c =
         accepted good
-        (record { same = sym (c .0 .same); placed = λ i j row low. sym (c .0 .placed i j row low) ∙ at b (wide-place m n r n i j (omega arith) low) })
+        (record { same = sym (c .0 .same); placed = λ i j row low. sym (c .0 .placed i j row low) ∙ same-word b (wide-place m n r n i j (omega arith) low) })
         (c .1)

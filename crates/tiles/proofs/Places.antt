@@ -1,9 +1,10 @@
 -- The places of a block as tiles are one to one: each word has its place in the block, each offset of the block is the place of one word, and no
 -- two words share one. Band by band, from the places of a band: the offsets of band b are those from b·r·n on.
 use Rattle.lists.proofs.Kit.{_≡_, sym, ap, ap₂, _∙_, ℕ, _+_, _*_, _/_, _%_, _<_, _≤_, mod-lt, div-add-mod', mul-assoc, mul-comm, add-mul, mul-pos, mul-le-mul-right, lt-of-mul-lt-mul-right, div-lt-iff-lt-mul, arith}
+use Rattle.lists.proofs.Words.{factor-pos}
 use Rattle.tiles.specs.Tiles.{part, bandPlace, tilePlace}
 use Rattle.tiles.proofs.Parts.{part-le, part-within, in-part, of-part, at-part, one-cell}
-use Rattle.tiles.proofs.BandPlaces.{in-tile, factor-pos, band-place-lt, band-apart, wide-band, spot, spot-column, spot-place}
+use Rattle.tiles.proofs.BandPlaces.{in-tile, band-place-lt, band-apart, wide-band, spot, spot-column, spot-place}
 
 -- the place of a word by its band and its row there
 pub tile-place : (m n r s b x j : ℕ) → x < part m r b → tilePlace m n r s (b * r + x) j ≡ b * (r * n) + bandPlace (part m r b) n s x j

@@ -2,7 +2,7 @@
 -- next row is, because no two words of a band share a place.
 use Rattle.lists.proofs.Kit.{_≡_, refl, sym, ap₂, _∙_, List, _⊎_, inl, inr, ⊎-elim, ℕ, _+_, _*_, _-_, _/_, _%_, _<_, _≤_, min, div-add-mod', mul-comm, le-mul-of-pos-right, arith, length, getD, eq-or-ne, lt-or-ge}
 use Rattle.moves.specs.Stretch.{Stretch}
-use Rattle.moves.proofs.Filling.{at}
+use Rattle.lists.proofs.Words.{same-word}
 use Rattle.tiles.specs.Tiles.{part, bandPlace}
 use Rattle.tiles.specs.Private.{Aligned, RowsAt, BandSmall, BandFits, PieceAt, Laid, LaidTo}
 use Rattle.tiles.specs.declared.bands.Rows.{Rows}
@@ -111,9 +111,9 @@ module _ {b : Band} {j wide : ℕ} (small : BandSmall b) (piece : PieceAt b j wi
       lays : (y c p : ℕ) → y ≡ x → c ≡ j + p → p < wide → getD zs (b .first + afterwards y c) 0 ≡ getD source (before y c) 0
       lays y c p e here few =
           ap₂ (λ (u v : ℕ). getD zs (b .first + afterwards u v) 0) e here
-          ∙ at zs (sym (goes p few))
+          ∙ same-word zs (sym (goes p few))
           ∙ s .holds p few
-          ∙ at source (from-is .place x p row (omega (arith, piece .before)) (in-row p few))
+          ∙ same-word source (from-is .place x p row (omega (arith, piece .before)) (in-row p few))
           ∙ ap₂ (λ (u v : ℕ). getD source (before u v) 0) (sym e) (sym here)
 
 -- what is laid, told of fewer words

@@ -1,19 +1,10 @@
 -- A block as tiles: what the one relation `Tiled`, read forwards and backwards, fixes. Two blocks as tiles of one block are equal, two blocks of
 -- which one block is the tiles are equal, so the conversions undo each other; a tile as wide as the block moves nothing; a tile taller than the
 -- block is one as tall. From the places, which are one to one.
-use Rattle.lists.proofs.Kit.{_≡_, refl, sym, _∙_, List, ℕ, _+_, _*_, _-_, _/_, _%_, _<_, _≤_, min, mod-lt, div-add-mod', div-lt-iff-lt-mul, div-eq-of-lt, mod-eq-of-lt, mul-comm, zero-mul, zero-add, arith, length, getD, ext-getD}
-use Rattle.moves.proofs.Filling.{at}
+use Rattle.lists.proofs.Kit.{_≡_, refl, sym, _∙_, List, ℕ, _*_, _-_, _<_, _≤_, min, div-eq-of-lt, mod-eq-of-lt, zero-mul, zero-add, arith, length, ext-getD}
+use Rattle.lists.proofs.Words.{same-word, by-cells}
 use Rattle.tiles.specs.Tiles.{part, bandPlace, tilePlace, Tiled}
-use Rattle.tiles.proofs.BandPlaces.{factor-pos}
 use Rattle.tiles.proofs.Places.{cell, wide-place}
-
--- what holds at every row and column holds at every offset of the block
-by-rows : (m n : ℕ) (xs ys : List ℕ) → ((i j : ℕ) → i < m → j < n → getD xs (i * n + j) 0 ≡ getD ys (i * n + j) 0)
-    → (p : ℕ) → p < m * n → getD xs p 0 ≡ getD ys p 0
-by-rows m n xs ys f p low =
-    let wide : 0 < n = factor-pos n m p (omega (arith, mul-comm m n)) in
-    let cell : p ≡ p / n * n + p % n = sym (div-add-mod' p n) in
-    at xs cell ∙ f (p / n) (p % n) (div-lt-iff-lt-mul wide .1 low) (mod-lt p wide) ∙ at ys (sym cell)
 
 module _ {m n r s : ℕ} {xs : List ℕ} (whole : length xs ≡ m * n) where
   -- the tiles of one block are one list
@@ -22,18 +13,18 @@ module _ {m n r s : ℕ} {xs : List ℕ} (whole : length xs ≡ m * n) where
       ext-getD 0 ys zs (t .same ∙ sym (u .same))
       (λ p low.
       let c = cell m n r s high step p (omega (arith, t .same)) in
-      at ys (sym (c .place)) ∙ t .placed (c .i) (c .j) (c .row) (c .column) ∙ sym (u .placed (c .i) (c .j) (c .row) (c .column)) ∙ at zs (c .place))
+      same-word ys (sym (c .place)) ∙ t .placed (c .i) (c .j) (c .row) (c .column) ∙ sym (u .placed (c .i) (c .j) (c .row) (c .column)) ∙ same-word zs (c .place))
 
   -- the block of one list of tiles is one block
   pub one-untiled : {ys zs : List ℕ} → Tiled m n r s ys xs → Tiled m n r s zs xs → ys ≡ zs
   one-untiled {ys} {zs} t u =
       ext-getD 0 ys zs (sym (t .same) ∙ u .same)
-      (λ p low. by-rows m n ys zs (λ i j h g. sym (t .placed i j h g) ∙ u .placed i j h g) p (omega (arith, t .same)))
+      (λ p low. by-cells m n ys zs (λ i j h g. sym (t .placed i j h g) ∙ u .placed i j h g) p (omega (arith, t .same)))
 
 -- a tile at least as wide as the block leaves every word in place
 pub wide-stays : {m n r s : ℕ} {xs ys : List ℕ} → length xs ≡ m * n → 0 < r → 0 < s → n ≤ s → Tiled m n r s xs ys → ys ≡ xs
 wide-stays {m} {n} {r} {s} {xs} whole high step wide t =
-    one-tiled whole high step t (record { same = refl; placed = λ i j h g. at xs (wide-place m n r s i j wide g) })
+    one-tiled whole high step t (record { same = refl; placed = λ i j h g. same-word xs (wide-place m n r s i j wide g) })
 
 -- a word's place where its tile is at least as tall as the block
 tall-place : (m n r s i j : ℕ) → m ≤ r → i < m → tilePlace m n r s i j ≡ bandPlace m n s i j
@@ -48,5 +39,5 @@ pub tall-same : {m n r s : ℕ} {xs ys : List ℕ} → m ≤ r → Tiled m n r s
 tall-same {m} {n} {r} {s} {ys = ys} tall t = record {
   same = t .same;
   placed = λ i j h g.
-      at ys (tall-place m n m s i j (omega arith) h ∙ sym (tall-place m n r s i j tall h)) ∙ t .placed i j h g;
+      same-word ys (tall-place m n m s i j (omega arith) h ∙ sym (tall-place m n r s i j tall h)) ∙ t .placed i j h g;
 }

@@ -7,6 +7,7 @@ use mathlib.Core.Logic.{_⊎_}
 use Prim.Native.Nat.{ℕ, _+_, _*_, _%_, _<_, _≤_}
 use lib.ListN.{length, getD}
 use Rattle.refusals.specs.Scratch.{cleared}
+use Rattle.moves.specs.Stretch.{Past}
 use Rattle.tiles.specs.Tiles.{bandPlace, tilePlace}
 use Rattle.tiles.specs.declared.bands.Rows.{Rows}
 use Rattle.tiles.specs.declared.bands.Band.{Band}
@@ -60,11 +61,6 @@ LaidTo b j = Laid b (λ _ c. c < j)
 pub record PieceLaid (b : Band) (j wide : ℕ) (source : ℕ → ℕ) (ys zs : List ℕ) : Type 0 where
   pub same : length zs ≡ length ys
   pub laid : (xs : List ℕ) → LaidTo b j source xs ys → LaidTo b (j + wide) source xs zs
-
--- scratch past its first words is as it was
-pub record Past (count : ℕ) (before after : List ℕ) : Type 0 where
-  pub same : length after ≡ length before
-  pub rest : (k : ℕ) → count ≤ k → getD after k 0 ≡ getD before k 0
 
 -- the band has moved within the buffer; scratch past its words is as it was
 abbrev pub BandMoved : Band → List ℕ → List ℕ → List ℕ → List ℕ → Type 0

@@ -4,7 +4,8 @@ use Rattle.refusals.specs.FirstOf.{firstOf}
 use Rattle.refusals.specs.Calls.{swapChecks}
 use Rattle.refusals.proofs.Promise.{refused, accepted}
 use Rattle.refusals.proofs.Swap.{Swappable, swappable}
-use Rattle.strips.proofs.Accepted.{swap-blocks, cleared-words}
+use Rattle.moves.proofs.Cleared.{zeroed-cleared}
+use Rattle.strips.proofs.Accepted.{swap-blocks}
 use Rattle.strips.proofs.swap.Statement.{statement}
 use Rattle.strips.proofs.swap.Tie as tie
 
@@ -17,7 +18,7 @@ returns-2 : tie.Need-returns-2
 returns-2 c =
     let z : tie.After-zero = search in let n : tie.After-longest-of = search in let t : tie.After-blocks2 = search in
     let k = checked (search) (search via) in
-    accepted (search via) (t .blocks2 .ensures .0) (cleared-words (n .longest-of .ensures) (k .room) (z .zero .ensures))
+    accepted (search via) (t .blocks2 .ensures .0) (zeroed-cleared (k .room) (rw (n .longest-of .ensures) at (z .zero .ensures)))
 
 pub swap-spec : {M : Type 1} → statement M
 swap-spec = tie.close (tie.spec

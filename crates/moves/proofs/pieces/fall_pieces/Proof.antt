@@ -1,7 +1,8 @@
 -- `fall_pieces` meets its contract: the stretch is filled from the front, eight words at a time; the words that are read lie past what is
 -- filled or apart from it, so they are those of the entry, and so are those of the last two pieces.
 use Rattle.lists.proofs.Kit.{refl, _∙_, _+_, _-_, _≤_, arith, getD, needs}
-use Rattle.moves.proofs.Filling.{Filled, nothing-filled, all-filled, piece-up, still, at}
+use Rattle.lists.proofs.Words.{same-word}
+use Rattle.moves.proofs.Filling.{Filled, nothing-filled, all-filled, piece-up, still}
 use Rattle.moves.proofs.pieces.fall_pieces.Statement.{statement}
 use Rattle.moves.proofs.pieces.fall_pieces.Tie as tie
 
@@ -21,7 +22,7 @@ loop-again c =
           _
           f
           (w .store .ensures)
-          (λ p k. h .held .ensures p k ∙ at (l .loop .buf) (omega arith) ∙ still (s .pre .3) f (l .loop .u + p) (omega arith) (omega arith))
+          (λ p k. h .held .ensures p k ∙ same-word (l .loop .buf) (omega arith) ∙ still (s .pre .3) f (l .loop .u + p) (omega arith) (omega arith))
           (omega arith)
           (omega arith)
           (omega arith)
@@ -38,7 +39,7 @@ returns c =
     _
     f
     (w .two-pieces .ensures)
-    (λ p k. at (l .loop .buf) (omega arith) ∙ still (s .pre .3) f (l .loop .u + p) (omega arith) (omega arith))
+    (λ p k. same-word (l .loop .buf) (omega arith) ∙ still (s .pre .3) f (l .loop .u + p) (omega arith) (omega arith))
     (omega arith)
     (omega arith)
     (omega arith)

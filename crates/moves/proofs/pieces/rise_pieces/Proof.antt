@@ -1,7 +1,8 @@
 -- `rise_pieces` meets its contract: the stretch is filled from the back, eight words at a time; the words that are read lie before what is
 -- filled, so they are those of the entry, and so are those of the first two pieces.
 use Rattle.lists.proofs.Kit.{refl, _∙_, _+_, _-_, _≤_, unary-clauses, arith, getD, needs}
-use Rattle.moves.proofs.Filling.{Filled, nothing-filled, all-filled, piece-down, at}
+use Rattle.lists.proofs.Words.{same-word}
+use Rattle.moves.proofs.Filling.{Filled, nothing-filled, all-filled, piece-down}
 use Rattle.moves.proofs.pieces.rise_pieces.Statement.{statement}
 use Rattle.moves.proofs.pieces.rise_pieces.Tie as tie
 
@@ -19,7 +20,7 @@ loop-again c =
     let from = s .args .from + (l .loop .u - 8) in (
       omega arith,
       omega arith,
-      piece-down f (w .store .ensures) (λ p k. h .held .ensures p k ∙ f .below (from + p) (omega arith) ∙ at (s .args .buf .now) (omega arith)) (omega arith) (omega arith) (omega arith),
+      piece-down f (w .store .ensures) (λ p k. h .held .ensures p k ∙ f .below (from + p) (omega arith) ∙ same-word (s .args .buf .now) (omega arith)) (omega arith) (omega arith) (omega arith),
     )
 
 returns : tie.Need-returns Inv-loop μ-loop
@@ -28,7 +29,7 @@ returns c =
     let s : tie.Start Inv-loop μ-loop = search in
     let f = l .loop .inv .2 in
     all-filled
-    (piece-down {lo = 0} {count = l .loop .u} f (simp unary-clauses (w .two-pieces .ensures)) (λ p k. f .below (s .args .from + p) (omega arith) ∙ at (s .args .buf .now) (omega arith)) (omega arith) (omega arith) (omega arith))
+    (piece-down {lo = 0} {count = l .loop .u} f (simp unary-clauses (w .two-pieces .ensures)) (λ p k. f .below (s .args .from + p) (omega arith) ∙ same-word (s .args .buf .now) (omega arith)) (omega arith) (omega arith) (omega arith))
     refl
     refl
 

@@ -2,7 +2,8 @@
 use Rattle.lists.proofs.Kit.{_≡_, _-_, _<_, _≤_, arith, needs}
 use Rattle.refusals.specs.Scratch.{need}
 use Rattle.flat.specs.Turn.{sides}
-use Rattle.passes.specs.PrivateScratch.{Past, Gone, linesIn, movedFrom}
+use Rattle.moves.specs.Stretch.{Past}
+use Rattle.passes.specs.PrivateScratch.{Gone, linesIn, movedFrom}
 use Rattle.passes.specs.PrivateWalks.{Begins}
 use Rattle.passes.proofs.Fits.{lain-in, lies-in, in-short, past-none, past-more}
 use Rattle.passes.proofs.Gone.{named, gone-still, gone-on}
