@@ -1,13 +1,13 @@
 -- What the checks of removing and of adding tell where none holds, and the two kinds of outcome that a promise has.
-use Rattle.lists.proofs.Kit.{_≡_, refl, sym, ap, _∙_, false, List, [], _∷_, ℕ, suc, _+_, _*_, _-_, _<_, _≤_, arith, eqb, lit<, length, ltb-false, eqb-true, not-false}
+use Rattle.lists.proofs.Kit.{_≡_, sym, ap, _∙_, false, List, [], _∷_, ℕ, suc, _+_, _*_, _-_, _<_, _≤_, arith, eqb, lit<, length, ltb-false, eqb-true, not-false}
 use Rattle.layout.specs.Layout.{volume}
-use Rattle.refusals.specs.FirstOf.{Check, firstOf, Silent}
+use Rattle.refusals.specs.FirstOf.{firstOf, Silent}
 use Rattle.refusals.proofs.FirstOf.{zero-silent}
 use Rattle.refusals.specs.FirstOf.Silent.{none, more}
 use Rattle.refusals.proofs.Conditions.{InRange, in-range, range-in, passed}
 use Rattle.flat.specs.Turn.{sides}
 use Rattle.flat.proofs.Turn.{volume-two}
-use Rattle.cameras.specs.Promises.{badCameras, removeChecks, addChecks, Changed}
+use Rattle.cameras.specs.Promises.{badCameras, removeChecks, addChecks}
 
 -- removing: n cameras are left, at least one
 pub record Removes (frames cameras n k : ℕ) (buffer : List ℕ) : Type 0 where
@@ -77,10 +77,3 @@ adds f n k column buffer e = go (zero-silent (addChecks f n k column buffer) tt 
       fits = omega (arith, volume-two f (n + 1), ltb-false (length buffer) (volume (sides f (n + 1))) seventeen);
       long = eqb-true (length column) f (not-false (eqb (length column) f) twentyfive);
     }
-
--- a refused outcome, and an accepted one
-pub refused : {checks : List Check} {Right : List ℕ → Type 0} {buffer : List ℕ} {r : ℕ} → r ≡ firstOf checks → (r ≡ 0 → ⊥) → Changed checks Right buffer r buffer
-refused e n = record { number-is = e; words = λ z. absurd (n z); kept = λ _. refl }
-
-pub accepted : {checks : List Check} {Right : List ℕ → Type 0} {before after : List ℕ} → firstOf checks ≡ 0 → Right after → Changed checks Right before 0 after
-accepted e w = record { number-is = sym e; words = λ _. w; kept = λ n. absurd (n refl) }

@@ -1,13 +1,14 @@
 -- Any two outcomes that removing or adding allows coincide, and after an accepted removal adding to what is left can be refused by 16 or
 -- 25 only: freed room is always enough.
-use Rattle.lists.proofs.Kit.{_≡_, refl, sym, ap, _∙_, Bool, true, false, cond, List, _⊎_, inl, inr, ⊎-elim, ℕ, suc, _+_, _*_, _-_, _<_, _≤_, arith, length, getD, ext-getD, le-ltb, eq-eqb, lt-or-ge, eq-or-ne}
+use Rattle.lists.proofs.Kit.{_≡_, refl, sym, ap, _∙_, Bool, true, false, cond, List, _⊎_, inl, inr, ⊎-elim, ℕ, suc, _+_, _*_, _-_, _<_, _≤_, arith, length, getD, ext-getD, le-ltb, eq-eqb, lt-or-ge}
 use Rattle.layout.specs.Layout.{volume}
-use Rattle.refusals.specs.FirstOf.{Check, firstOf}
+use Rattle.refusals.specs.FirstOf.{firstOf}
+use Rattle.refusals.proofs.Promise.{one-change}
 use Rattle.flat.specs.Turn.{sides}
 use Rattle.flat.proofs.Turn.{volume-two}
 use Rattle.lists.proofs.Words.{same-word, by-cells}
 use Rattle.cameras.specs.Columns.{Removed, Added}
-use Rattle.cameras.specs.Promises.{removeChecks, addChecks, noColumn, otherLength, Changed, RemovePromise, AddPromise}
+use Rattle.cameras.specs.Promises.{removeChecks, addChecks, noColumn, otherLength, RemovePromise, AddPromise}
 use Rattle.cameras.proofs.Back.{column-is, Other, restored}
 use Rattle.cameras.proofs.Accepted.{removes, lengths-left, adds}
 
@@ -41,16 +42,6 @@ one-added {frames} {n} {k} {column} {xs} {ys} {zs} low r s =
         let e = ap (λ (z : ℕ). i * suc n + z) (o .is) in
         same-word ys (sym e) ∙ r .opened i (o .j) h (o .low) ∙ sym (s .opened i (o .j) h (o .low)) ∙ same-word zs e)
         (column-is n k c low g)
-
--- two outcomes of one promise, where two right ones of an accepted call are equal
-one-change : {checks : List Check} {Right : List ℕ → Type 0} {before ys zs : List ℕ} {r r′ : ℕ} → (firstOf checks ≡ 0 → Right ys → Right zs → ys ≡ zs)
-    → Changed checks Right before r ys → Changed checks Right before r′ zs → (r ≡ r′) × (ys ≡ zs)
-one-change {r = r} {r′} one p q =
-    let e : r ≡ r′ = p .number-is ∙ sym (q .number-is) in
-    ⊎-elim
-    (λ (z : r ≡ 0). (e, one (sym (p .number-is) ∙ z) (p .words z) (q .words (sym e ∙ z))))
-    (λ (n : r ≡ 0 → ⊥). (e, p .kept n ∙ sym (q .kept (λ z. n (e ∙ z)))))
-    (eq-or-ne r 0)
 
 pub remove-once : (frames cameras k : ℕ) {r r′ : ℕ} {xs ys zs : List ℕ} → RemovePromise frames cameras k xs r ys → RemovePromise frames cameras k xs r′ zs
     → (r ≡ r′) × (ys ≡ zs)

@@ -1,11 +1,11 @@
 -- What removing and adding a camera promise. Assumes nothing: these are definitions.
-use mathlib.Core.Path.{_≡_}
 use mathlib.Core.Bool.{Bool, not}
 use mathlib.Core.List.{List, [], _∷_}
 use Prim.Native.Nat.{ℕ, _+_, _-_}
 use lib.Dec.{eqb, ltb}
 use lib.ListN.{length}
-use Rattle.refusals.specs.FirstOf.{Check, check, firstOf}
+use Rattle.refusals.specs.FirstOf.{Check, check}
+use Rattle.refusals.specs.Promise.{Changed}
 use Rattle.refusals.specs.Conditions.{badLength, tooManyWords, shortBuffer}
 use Rattle.flat.specs.Turn.{sides}
 use Rattle.cameras.specs.Columns.{Removed, Added}
@@ -35,12 +35,6 @@ addChecks frames cameras k column buffer =
     check 1 (badCameras frames cameras (cameras + 1)) ∷ check 2 (tooManyWords (sides frames cameras))
     ∷ check 2 (tooManyWords (sides frames (cameras + 1))) ∷ check 3 (shortBuffer (sides frames cameras) buffer)
     ∷ check 16 (noColumn cameras k) ∷ check 17 (shortBuffer (sides frames (cameras + 1)) buffer) ∷ check 25 (otherLength frames column) ∷ []
-
--- the number is the first of the call's checks that holds; accepted, the words are right; refused, not one word has changed
-pub record Changed (checks : List Check) (Right : List ℕ → Type 0) (before : List ℕ) (number : ℕ) (after : List ℕ) : Type 0 where
-  pub number-is : number ≡ firstOf checks
-  pub words : number ≡ 0 → Right after
-  pub kept : (number ≡ 0 → ⊥) → after ≡ before
 
 -- a camera goes dark
 abbrev pub RemovePromise : ℕ → ℕ → ℕ → List ℕ → ℕ → List ℕ → Type 0

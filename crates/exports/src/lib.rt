@@ -2,7 +2,7 @@
 ghost use mathlib.Core.Path.{_≡_};
 ghost use lib.ListN.{take};
 ghost use Rattle.flat.specs.Promises.{TurnPromise, TurnBackPromise};
-ghost use Rattle.recursion.specs.Promise.{TurnPromise as HalvesPromise};
+ghost use Rattle.recursion.specs.Promise.{TurnPromise as RecursionPromise};
 ghost use Rattle.plans.specs.Promise.{PlanPromise};
 ghost use Rattle.axes.specs.Promises.{ChainPromise, RequestPromise};
 ghost use Rattle.reader.specs.Reader.{ReadPromise};
@@ -65,7 +65,7 @@ pub extern "C" fn zib_turn_back_passes(
 // The flat turn of m by n by recursion, with no scratch.
 #[no_mangle]
 pub extern "C" fn zib_turn_halves(buf: &mut [u32], m: usize, n: usize) -> u32
-    ensures { λ r. ⌜ HalvesPromise m n (now (buf .entry)) r (now (buf .exit)) ⌝ }
+    ensures { λ r. ⌜ RecursionPromise m n (now (buf .entry)) r (now (buf .exit)) ⌝ }
 {
     recursion::turn(buf, m, n)
 }

@@ -15,7 +15,7 @@ pub same-words : (one : TurnCall) (other : RecursionCall) → other .m ≡ one .
     → (other .number ≡ 0) × (other .words-after ≡ one .words-after)
 same-words one other e f g z =
     let q : recursion.TurnPromise (one .m) (one .n) (one .words) (other .number) (other .words-after) = rw (← e, ← f, ← g) (other .post) in
-    let y = q .number ∙ block-good (sides (one .m) (one .n)) (one .words) (one .scratch) (sym (one .post .number-is) ∙ z) in
+    let y = q .number-is ∙ block-good (sides (one .m) (one .n)) (one .words) (one .scratch) (sym (one .post .number-is) ∙ z) in
     (y, one-turn (q .words y) (one .post .words z))
 
 -- and where the recursion is accepted and scratch is enough, the passes are
@@ -24,7 +24,7 @@ pub same-words-back : (one : RecursionCall) (other : TurnCall) → other .m ≡ 
 same-words-back one other e f g z room =
     let q : TurnPromise (one .m) (one .n) (one .words) (other .scratch) (other .number) (other .words-after) (other .scratch-after) =
     rw (← e, ← f, ← g) (other .post) in
-    let y = q .number-is ∙ sym (room-passed (sides (one .m) (one .n)) (one .words) (other .scratch) (sym (one .post .number) ∙ z) room) in
+    let y = q .number-is ∙ sym (room-passed (sides (one .m) (one .n)) (one .words) (other .scratch) (sym (one .post .number-is) ∙ z) room) in
     (y, one-turn (q .words y) (one .post .words z))
 
 -- of two turns through scratch, by strips or by passes, one accepts what the other does where its own scratch is enough, and both leave the same words

@@ -40,7 +40,7 @@ swap outer m n chunk b s =
 abbrev pub turn-halves : ℕ → ℕ → List ℕ → Case (Slice ℕ)
 turn-halves m n b =
     replacing {checks = recursionChecks (sides m n) b} (laid-out (sides m n) across (0 ∷ []) b) b (recursion.TurnPromise m n b)
-    (λ o p. record { number-is = p .number; words = p .words; kept = p .kept })
+    (λ o p. p)
 
 -- the calls on axes, with their answers
 abbrev pub chain : ℕ → List ℕ → List ℕ → List ℕ → List ℕ → Case (Block Answer)

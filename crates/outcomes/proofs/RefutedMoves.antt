@@ -3,17 +3,17 @@
 use Rattle.lists.proofs.Kit.{_≡_, refl, sym, ap, _∙_, List, [], _∷_, _++_, ℕ, suc, _+_, _*_, _-_, _/_, _%_, _≤_, arith, length, getD, drop, replicate, getD-drop, upto}
 use Rattle.layout.specs.Layout.{volume}
 use Rattle.flat.specs.Gcd.{gcdOf, euclid}
-use Rattle.refusals.specs.FirstOf.{Check, firstOf}
+use Rattle.refusals.specs.FirstOf.{firstOf}
 use Rattle.refusals.specs.Conditions.{longest}
 use Rattle.refusals.specs.Scratch.{need, cleared}
-use Rattle.refusals.proofs.Promise.{accepted}
+use Rattle.refusals.proofs.Promise.{accepted, changed}
 use Rattle.flat.specs.Turn.{sides}
 use Rattle.flat.specs.Passes.{word, row1, column2, row3}
 use Rattle.tiles.specs.Tiles.{part, bandPlace, tilePlace, Tiled}
 use Rattle.tiles.specs.Promises.{bandNeed, tileChecks, ToTilesPromise, FromTilesPromise}
 use Rattle.tiles.proofs.OneOutcome.{to-tiles-once, from-tiles-once}
 use Rattle.cameras.specs.Columns.{past, Removed, Added}
-use Rattle.cameras.specs.Promises.{removeChecks, addChecks, Changed, RemovePromise, AddPromise}
+use Rattle.cameras.specs.Promises.{removeChecks, addChecks, RemovePromise, AddPromise}
 use Rattle.cameras.proofs.OneOutcome.{remove-once, add-once}
 use Rattle.passes.specs.declared.Ticked.{Ticked}
 use Rattle.passes.specs.Lines.{skipped}
@@ -150,20 +150,16 @@ module _ (frames n k : ℕ) (xs ys : List ℕ) where
       (also (at-each frames (λ i. equal (getD ys (i * suc n + k) 0) (getD column i 0))) tail)))
       (λ f. record { same = f .0; opened = λ i j h g. f .1 .0 i h j g; new = f .1 .1 .0; tail = f .1 .1 .1 })
 
--- an accepted change
-pub done : {checks : List Check} {Right : List ℕ → Type 0} {b ys : List ℕ} → firstOf checks ≡ 0 → Right ys → Changed checks Right b 0 ys
-done e r = record { number-is = sym e; words = λ _. r; kept = λ n. absurd (n refl) }
-
 abbrev pub remove : ℕ → ℕ → ℕ → List ℕ → List ℕ → Case (Slice ℕ)
 remove frames cameras k b ys =
     replacing {checks = removeChecks frames cameras k b}
-    (seen-right (Removed frames (cameras - 1) k b) ys (λ _. removed frames (cameras - 1) k b ys) (λ e zs p q. remove-once frames cameras k (done e p) (done e q) .1)) b
+    (seen-right (Removed frames (cameras - 1) k b) ys (λ _. removed frames (cameras - 1) k b ys) (λ e zs p q. remove-once frames cameras k (changed e p) (changed e q) .1)) b
     (RemovePromise frames cameras k b) (λ o p. p)
 
 abbrev pub add : ℕ → ℕ → ℕ → List ℕ → List ℕ → List ℕ → Case (Slice ℕ)
 add frames cameras k column b ys =
     replacing {checks = addChecks frames cameras k column b}
-    (seen-right (Added frames cameras k column b) ys (λ _. added frames cameras k b ys column) (λ e zs p q. add-once frames cameras k (done e p) (done e q) .1)) b
+    (seen-right (Added frames cameras k column b) ys (λ _. added frames cameras k b ys column) (λ e zs p q. add-once frames cameras k (changed e p) (changed e q) .1)) b
     (AddPromise frames cameras k column b) (λ o p. p)
 
 -- two frames of three cameras, 0 to 5, with two words behind the block: without column 1, and with 6 and 7 added at place 1

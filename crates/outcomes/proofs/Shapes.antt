@@ -7,8 +7,7 @@ use Rattle.orders.specs.Chains.{named}
 use Rattle.orders.proofs.Layouts.{chain-once, chain-laid}
 use Rattle.refusals.specs.FirstOf.{Check, firstOf}
 use Rattle.refusals.specs.Scratch.{cleared}
-use Rattle.refusals.specs.Promise.{Rearranged}
-use Rattle.cameras.specs.Promises.{Changed}
+use Rattle.refusals.specs.Promise.{Changed, Rearranged}
 use Rattle.outcomes.specs.Wrong.{Case}
 use Rattle.outcomes.proofs.Tested.{Tested}
 

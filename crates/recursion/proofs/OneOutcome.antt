@@ -1,12 +1,10 @@
 -- Any two outcomes that the promise allows from the same entry coincide, number and buffer: the number is a function of the entry,
 -- two turns of one block are equal, and a refused buffer is the entry.
-use Rattle.lists.proofs.Kit.{_≡_, sym, _∙_, List, ℕ}
-use Rattle.refusals.proofs.Promise.{either-way}
+use Rattle.lists.proofs.Kit.{_≡_, List, ℕ}
+use Rattle.refusals.proofs.Promise.{one-change}
 use Rattle.flat.proofs.Turn.{one-turn}
 use Rattle.recursion.specs.Promise.{TurnPromise}
 
 pub turn-once : {m n r r′ : ℕ} {before after after′ : List ℕ} → TurnPromise m n before r after → TurnPromise m n before r′ after′
     → (r ≡ r′) × (after ≡ after′)
-turn-once {m} {n} {r} {r′} {before} {after} {after′} p q =
-    let one : r ≡ r′ = p .number ∙ sym (q .number) in
-    (one, either-way 0 one (λ e e′. one-turn {m = m} {n = n} (p .words e) (q .words e′)) (λ k k′. p .kept k ∙ sym (q .kept k′)))
+turn-once {m} {n} p q = one-change (λ _. one-turn {m = m} {n = n}) p q

@@ -1,4 +1,4 @@
--- What a call that rearranges a lent buffer through lent scratch promises. Assumes nothing: these are definitions.
+-- What a call that changes a lent buffer promises, and one that rearranges it through lent scratch. Assumes nothing: these are definitions.
 use mathlib.Core.Path.{_≡_}
 use mathlib.Core.List.{List, [], _∷_}
 use Prim.Native.Nat.{ℕ}
@@ -6,6 +6,12 @@ use Rattle.layout.specs.Layout.{Laid}
 use Rattle.refusals.specs.FirstOf.{Check, firstOf}
 use Rattle.refusals.specs.Calls.{swapBlock, swapChecks}
 use Rattle.refusals.specs.Scratch.{need, cleared}
+
+-- the number is the first of the call's checks that holds; accepted, the words are right; refused, not one word has changed
+pub record Changed (checks : List Check) (Right : List ℕ → Type 0) (before : List ℕ) (number : ℕ) (after : List ℕ) : Type 0 where
+  pub number-is : number ≡ firstOf checks
+  pub words : number ≡ 0 → Right after
+  pub kept : (number ≡ 0 → ⊥) → after ≡ before
 
 -- the number is the first of the call's checks; accepted, the words are right and `needed` first words of scratch are zero, the rest unchanged;
 -- refused, not one word of either has changed

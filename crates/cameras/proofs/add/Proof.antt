@@ -2,7 +2,8 @@
 use Rattle.lists.proofs.Kit.{_≡_, needs, via}
 use Rattle.refusals.specs.FirstOf.{firstOf}
 use Rattle.cameras.specs.Promises.{addChecks}
-use Rattle.cameras.proofs.Accepted.{Adds, adds, refused, accepted}
+use Rattle.refusals.proofs.Promise.{unchanged, changed}
+use Rattle.cameras.proofs.Accepted.{Adds, adds}
 use Rattle.cameras.proofs.add.Statement.{statement}
 use Rattle.cameras.proofs.add.Tie as tie
 
@@ -12,10 +13,10 @@ checked : (s : tie.Start) → let a = s .args in firstOf (addChecks (a .frames) 
 checked s = adds _ _ _ _ _
 
 returns-2 : tie.Need-returns-2
-returns-2 c = let o : tie.After-open = search in accepted (search via) (o .open .ensures)
+returns-2 c = let o : tie.After-open = search in changed (search via) (o .open .ensures)
 
 pub add-spec : {M : Type 1} → statement M
 add-spec = tie.close (tie.spec
-    (search needs) (search needs) (λ c. search refused)
+    (search needs) (search needs) (λ c. search unchanged)
     (λ c κs. let h = checked (search) (search via) in (h .some, h .any, h .low, h .thin, h .fits, h .long))
     (search needs) returns-2)

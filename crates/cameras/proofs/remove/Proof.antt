@@ -2,7 +2,8 @@
 use Rattle.lists.proofs.Kit.{_≡_, _-_, arith, needs, via}
 use Rattle.refusals.specs.FirstOf.{firstOf}
 use Rattle.cameras.specs.Promises.{removeChecks}
-use Rattle.cameras.proofs.Accepted.{Removes, removes, refused, accepted}
+use Rattle.refusals.proofs.Promise.{unchanged, changed}
+use Rattle.cameras.proofs.Accepted.{Removes, removes}
 use Rattle.cameras.proofs.Removed.{removed}
 use Rattle.cameras.proofs.remove.Statement.{statement}
 use Rattle.cameras.proofs.remove.Tie as tie
@@ -21,11 +22,11 @@ returns-2 : tie.Need-returns-2
 returns-2 c =
     let z : tie.After-zero = search in let r : tie.After-close = search in
     let h = checked (search) (search via) in
-    accepted (search via) (removed (r .close .ensures) (z .zero .ensures .inside (omega (arith, h, r .close .ensures .same))))
+    changed (search via) (removed (r .close .ensures) (z .zero .ensures .inside (omega (arith, h, r .close .ensures .same))))
 
 pub remove-spec : {M : Type 1} → statement M
 remove-spec = tie.close (tie.spec
-    (search needs) (search needs) (λ c. search refused)
+    (search needs) (search needs) (λ c. search unchanged)
     (λ c. omega (arith, checked (search) (search via)))
     (λ c κs. let h = checked (search) (search via) in (h .some, h .any, h .low, h .thin, h .fits))
     (λ c. omega (arith, checked (search) (search via)))

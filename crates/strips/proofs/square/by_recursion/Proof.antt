@@ -7,7 +7,7 @@ use Rattle.strips.proofs.square.by_recursion.Tie as tie
 returns : tie.Need-returns
 returns c =
     let k : tie.After-turn = search in let s : tie.Start = search in
-    lent-turned (s .pre) (k .turn .ensures .words (k .turn .ensures .number ∙ lent-accepted (s .pre)))
+    lent-turned (s .pre) (k .turn .ensures .words (k .turn .ensures .number-is ∙ lent-accepted (s .pre)))
 
 pub by-recursion-spec : {M : Type 1} → statement M
 by-recursion-spec = tie.close (tie.spec
