@@ -29,7 +29,7 @@ def compared(line, names):
     """The C of a line with a call and a comment."""
     call, says = re.fullmatch(r"(\w+\(.*\));\s*/\* (.*) \*/", line).groups()
     shown = '"' + line.replace("\\", "\\\\").replace('"', '\\"') + '"'
-    record = re.match(r"zib_(lines|repeats|judge|run|chain|request|plan|read|offset|to_frames|join)", call)
+    record = re.match(r"zib_(lines|repeats|judge|run|chain|request|plan|read|write|job|offset|to_frames|join)", call)
     void = call.startswith("zib_choose(")
     out = [f"{call};" if void else f"__auto_type answer = {call};"]
     for fact in says.split("; "):

@@ -36,10 +36,10 @@ addChecks frames cameras k column buffer =
     ∷ check 2 (tooManyWords (sides frames (cameras + 1))) ∷ check 3 (shortBuffer (sides frames cameras) buffer)
     ∷ check 16 (noColumn cameras k) ∷ check 17 (shortBuffer (sides frames (cameras + 1)) buffer) ∷ check 25 (otherLength frames column) ∷ []
 
--- a camera goes dark
+-- a camera goes dark: accepted, the block is without column k, and the freed words are zero
 abbrev pub RemovePromise : ℕ → ℕ → ℕ → List ℕ → ℕ → List ℕ → Type 0
 RemovePromise frames cameras k buffer = Changed (removeChecks frames cameras k buffer) (Removed frames (cameras - 1) k buffer) buffer
 
--- a camera comes back
+-- a camera comes back: accepted, the block has the column's words as column k
 abbrev pub AddPromise : ℕ → ℕ → ℕ → List ℕ → List ℕ → ℕ → List ℕ → Type 0
 AddPromise frames cameras k column buffer = Changed (addChecks frames cameras k column buffer) (Added frames cameras k column buffer) buffer

@@ -28,7 +28,7 @@ pub record JudgedAfter (checks : List Check) (m n : ℕ) (list : List ℕ) (answ
   pub differs : answered .number ≡ 22 → FirstOther list (cycles m n) (answered .place)
   pub otherwise : (answered .number ≡ 22 → ⊥) → answered .place ≡ 0
 
--- a list judged
+-- a list judged: 1, 2, 22; accepted exactly where it is the right list
 abbrev pub JudgePromise : ℕ → ℕ → List ℕ → Judged → Type 0
 JudgePromise m n list answered = JudgedAfter (cycleChecks m n list) m n list answered
 

@@ -11,11 +11,11 @@ sides m n = m ∷ n ∷ []
 abbrev pub across : List ℕ
 across = 1 ∷ 0 ∷ []
 
--- ys is xs after the turn of m by n
+-- ys is xs after the turn of m by n, its two axes exchanged: the word at offset j·m+i is the one that stood at i·n+j
 abbrev pub Turn : ℕ → ℕ → List ℕ → List ℕ → Type 0
 Turn m n xs ys = Laid (sides m n) across xs ys
 
--- ys is xs after the reverse turn with the same m and n
+-- ys is xs after the reverse turn with the same m and n: the word from j·m+i stands at i·n+j
 abbrev pub TurnBack : ℕ → ℕ → List ℕ → List ℕ → Type 0
 TurnBack m n xs ys = Laid (sides n m) across xs ys
 

@@ -38,7 +38,7 @@ abbrev pub jobPlace : Outcome → ℕ
 jobPlace (Outcome.refused number place) = place
 jobPlace (Outcome.accepted ds chain ws) = 0
 
--- the promise of the whole job: the text stands at the start of the byte buffer and bytes after it stay; it always fits
+-- the whole job: the result sheet or the refusal stands at the start of the byte buffer and bytes after it stay; it always fits
 pub record JobPromise (bytes words₀ scratch₀ out₀ : List ℕ) (number place count : ℕ) (words scratch out : List ℕ) : Type 0 where
   pub words-are : words ≡ jobWords (meaning words₀ bytes) words₀
   pub scratch-is : scratch ≡ jobScratch (meaning words₀ bytes) scratch₀

@@ -32,7 +32,7 @@ tickChecks m n done buffer scratch = passesChecks (sides m n) buffer scratch ++ 
 abbrev pub doneAfter : ℕ → ℕ → ℕ → ℕ
 doneAfter m n done = cond (ltb done (lineCount m n)) (done + 1) done
 
--- one tick of the turn of m by n; a refusal leaves the lines done too
+-- one tick of the turn of m by n: accepted, the line that the lines done name has moved, if one was left, and is counted; a refusal leaves the lines done too
 pub record TickPromise (m n done : ℕ) (buffer₀ scratch₀ : List ℕ) (t : Ticked) (buffer scratch : List ℕ) : Type 0 where
   pub block : Rearranged (tickChecks m n done buffer₀ scratch₀) (need (sides m n)) (LineTicked m n done buffer₀) buffer₀ scratch₀ (t .number) buffer scratch
   pub given : t .number ≡ 0 → t .done ≡ doneAfter m n done

@@ -23,7 +23,7 @@ pub record PlanGiven (r : ℕ) (o : List ℕ) (p : Planned) : Type 0 where
   pub plan : Plan r o chain
   pub answered : p ≡ plannedAs chain
 
--- the plan for an order of r axes by its number
+-- the plan for an order of r axes by its number: 7; accepted, the swap places and the length are those of the plan; refused, they are 0
 pub record PlanPromise (r order : ℕ) (p : Planned) : Type 0 where
   pub number-is : p .number ≡ firstOf (planChecks r order)
   pub given : p .number ≡ 0 → PlanGiven r (orderOf r order) p

@@ -17,7 +17,7 @@ abbrev pub kept : Outcome → List ℕ → List ℕ
 kept (Outcome.refused number place) buffer = buffer
 kept (Outcome.accepted ds chain words) buffer = words ++ drop (length words) buffer
 
--- the promise of the reader
+-- the reader answers what the sheet means, and stores the words of a right one
 pub record ReadPromise (buffer bytes : List ℕ) (answered : Sheet) (buffer′ : List ℕ) : Type 0 where
   pub answers : answered ≡ answer (meaning buffer bytes)
   pub words : buffer′ ≡ kept (meaning buffer bytes) buffer

@@ -15,7 +15,7 @@ abbrev pub resultAnswer : Outcome → ResultSheet
 resultAnswer (Outcome.refused number place) = record { number = number; place = place; lengths = replicate 4 0; release = 0; order = 0 }
 resultAnswer (Outcome.accepted ds numbers words) = record { number = 0; place = 0; lengths = ds; release = lineRelease numbers; order = lineOrder numbers }
 
--- the promise of the reader of result sheets: the words are stored only when the whole sheet is right, as a sheet's are
+-- the reader of result sheets answers what the sheet means, and stores the words of a right one
 pub record ReadResultPromise (buffer bytes : List ℕ) (answered : ResultSheet) (buffer′ : List ℕ) : Type 0 where
   pub answers : answered ≡ resultAnswer (resultMeaning buffer bytes)
   pub words : buffer′ ≡ kept (resultMeaning buffer bytes) buffer

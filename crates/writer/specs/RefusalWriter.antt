@@ -11,7 +11,7 @@ use Rattle.writer.specs.declared.Written.{Written}
 abbrev pub refusalNumber : ℕ → ℕ → List ℕ → ℕ
 refusalNumber number place out = firstOf (check 24 (shortBytes (refusalText number place) out) ∷ [])
 
--- the promise of the writer of a refusal
+-- the writer of a refusal answers the number and the count, and the buffer holds the line `refused`, number, place
 pub record WriteRefusalPromise (number place : ℕ) (out : List ℕ) (answered : Written) (out′ : List ℕ) : Type 0 where
   pub answers : answered ≡ written (refusalNumber number place out) (refusalText number place)
   pub bytes : out′ ≡ writtenTo (refusalNumber number place out) (refusalText number place) out

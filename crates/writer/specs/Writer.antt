@@ -47,13 +47,13 @@ written number text = record { number = number; count = cond (eqb number 0) (len
 abbrev pub writtenTo : ℕ → List ℕ → List ℕ → List ℕ
 writtenTo number text out = cond (eqb number 0) (text ++ drop (length text) out) out
 
--- the promise of the writer; every word that it is lent is one that a sheet can hold
+-- the writer answers the number and the count, and the buffer holds the result sheet; every word that it is lent is one that a sheet can hold
 pub record WriteResultPromise (ds : List ℕ) (order : ℕ) (words out : List ℕ) (answered : Written) (out′ : List ℕ) : Type 0 where
   pub answers : answered ≡ written (writerNumber ds order words out) (resultText ds order words)
   pub bytes : out′ ≡ writtenTo (writerNumber ds order words out) (resultText ds order words) out
   pub held : SheetNumbers words
 
--- the promise of the writer that names a release, likewise
+-- the writer that names a release: the same with the sheet whose second line has the release
 pub record WriteReleasePromise (ds : List ℕ) (release order : ℕ) (words out : List ℕ) (answered : Written) (out′ : List ℕ) : Type 0 where
   pub answers : answered ≡ written (releaseNumber ds release order words out) (resultBy ds release order words)
   pub bytes : out′ ≡ writtenTo (releaseNumber ds release order words out) (resultBy ds release order words) out
