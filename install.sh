@@ -4,7 +4,7 @@ set -eu
 usage() {
     cat <<'USAGE'
 Usage: ./install.sh [--target MACHINE] [PREFIX]    (default: this machine, /usr/local)
-       ./install.sh --uninstall [PREFIX]           removes what was installed, and nothing else
+       ./install.sh --uninstall [PREFIX]           removes what was installed, and its folders where they are empty then
 MACHINE is x86_64 or aarch64. DESTDIR is put before the prefix where it is set.
 Installed are the header, the archive, the shared library, the files for pkg-config and CMake, the Python module, the programs `turn` and `turn-sheet`
 and their manual pages. The first time takes about 8 minutes, for all is proved; what stands proved is not proved again.
@@ -28,8 +28,9 @@ while [ $# -gt 0 ]; do
     esac
     shift
 done
+given=$prefix
 prefix=$(realpath -m -- "$prefix")
-root=${DESTDIR:-}$prefix
+root=${DESTDIR:+$(realpath -m -- "$DESTDIR")}$prefix
 cd "$(dirname "$(readlink -f -- "$0")")"
 python=lib/python3/site-packages/zibsnarda
 files="include/zibsnarda.h lib/libzibsnarda.a lib/libzibsnarda.so.3 lib/pkgconfig/zibsnarda.pc lib/cmake/zibsnarda/zibsnarda-config.cmake
@@ -40,23 +41,24 @@ if [ -n "$uninstall" ]; then
     for file in $files; do
         [ ! -e "$root/$file" ] || { rm -- "$root/$file" && echo "removed $root/$file"; }
     done
-    [ ! -d "$root" ] || find "$root/$python" "$root/lib/cmake" "$root/lib/pkgconfig" "$root/share/man" -depth -type d -empty -delete 2>/dev/null || true
-    for folder in lib/python3/site-packages lib/python3 lib include bin share; do
-        rmdir -- "$root/$folder" 2>/dev/null || true
+    rm -rf -- "$root/$python/__pycache__" # what Python made of the module
+    for file in $files; do
+        (cd -- "$root" && rmdir -p -- "${file%/*}") 2>/dev/null || true
     done
-    rmdir -- "$root" 2>/dev/null || true
+    [ -L "$given" ] || rmdir -- "$root" 2>/dev/null || true
     exit 0
 fi
 
 # all that can be wrong with the words is found before anything is proved
+. tests/machine.sh
 . share/build.sh
 known_target "$target" || stop "no code is made for $target: say --target x86_64 or --target aarch64"
 mkdir -p -- "$root" 2>/dev/null && [ -w "$root" ] || stop "cannot write to $root"
+need_compiler "$target"
 mkdir -p "$made/$target"
 stands "$made/$target/libzibsnarda.a" "$made/$target/turn" || echo "proving: about 8 minutes the first time, a line for each crate" >&2
 make_library "$target"
-cc=$(c_compiler "$target")
-[ "$target" != x86_64 ] && [ -z "$cc" ] || make_program "$target"
+make_program "$target" "$cc"
 
 # put MODE FILE PLACE
 put() {
@@ -76,16 +78,8 @@ put 644 share/zibsnarda-config.cmake lib/cmake/zibsnarda/zibsnarda-config.cmake
 put 644 "$made/$target/zibsnarda-config-version.cmake" lib/cmake/zibsnarda/zibsnarda-config-version.cmake
 put 644 bindings/python/zibsnarda/__init__.py "$python/__init__.py"
 put 644 bindings/python/zibsnarda/py.typed "$python/py.typed"
-if [ -n "$cc" ]; then
-    "$cc" -std=c99 -O2 -Iinclude share/turn-sheet.c "$made/$target/libzibsnarda.a" -o "$made/$target/turn-sheet"
-    put 755 "$made/$target/turn-sheet" bin/turn-sheet
-    put 644 share/turn-sheet.1 share/man/man1/turn-sheet.1
-else
-    echo "no C compiler for $target: $root/bin/turn-sheet is not made"
-fi
-if [ -e "$made/$target/turn" ]; then
-    put 755 "$made/$target/turn" bin/turn
-    put 644 share/turn.1 share/man/man1/turn.1
-else
-    echo "no C compiler for $target: $root/bin/turn is not made"
-fi
+"$cc" -std=c99 -O2 -Iinclude share/turn-sheet.c "$made/$target/libzibsnarda.a" -o "$made/$target/turn-sheet"
+put 755 "$made/$target/turn-sheet" bin/turn-sheet
+put 644 share/turn-sheet.1 share/man/man1/turn-sheet.1
+put 755 "$made/$target/turn" bin/turn
+put 644 share/turn.1 share/man/man1/turn.1

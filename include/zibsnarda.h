@@ -315,7 +315,8 @@ struct zib_line_count {
 
 /*
  * Counts the lines of the turn of m by n.
- * Out:     n + m + n where the sides share a factor, m + n otherwise.
+ * In:      the sides.
+ * Out:     the count that is answered: n + m + n where the sides share a factor, m + n otherwise.
  * Answers 0, or the first of 1, 2 that holds.
  */
 ZIB_MUST_USE
@@ -380,6 +381,8 @@ struct zib_home {
 /*
  * Counts the repeats of a turn with the same m and n, at least one, until every block of that shape
  * is home. It takes a multiplication and a remainder a repeat, at most mn - 2 of them.
+ * In:      the sides.
+ * Out:     nothing but the count that is answered.
  * Answers 0, or the first of 1, 2 that holds.
  */
 ZIB_MUST_USE
@@ -401,6 +404,7 @@ struct zib_judged {
  * length, starts rising. A missing, half or surplus pair differs at its place.
  * In:      the list, which is only read. No memory is used: each offset is followed until its cycle
  *          is home or a smaller offset shows; a step takes no division.
+ * Out:     nothing but the place that is answered.
  * Answers 0, or the first of 1, 2, 22 that holds.
  */
 ZIB_MUST_USE ZIB_NONNULL
@@ -531,17 +535,20 @@ struct zib_answer zib_request(uint32_t *buffer, size_t buffer_words, uint32_t *s
                               size_t order);
 
 /*
- * The shortest chain that names the order with a number in release 1 and, among the shortest, the
- * first in dictionary order.
+ * The shortest chain that names an order and, among the shortest, the first in dictionary order.
+ * In:      the order's number in release 1.
+ * Out:     nothing but the swaps that are answered, which zib_chain takes.
  * Answers 0, or 7 where it holds.
  */
 ZIB_MUST_USE
 struct zib_planned zib_plan(size_t order);
 
 /*
- * The same on five axes: all five lengths are read, a swap above 3 is 6, an order number above 119
- * is 7. Checks, their order and the need of scratch are as above; a chain has at most 32 swaps here
- * too.
+ * The same on five axes.
+ * In:      as above; all five lengths are read, and a chain has at most 32 swaps here too.
+ * Out:     as above.
+ * Answers as above, in the same order of checks; a swap above 3 is 6, an order number above 119 is
+ * 7.
  */
 ZIB_MUST_USE ZIB_NONNULL
 struct zib_answer zib_chain5(uint32_t *buffer, size_t buffer_words, uint32_t *scratch,
@@ -645,7 +652,7 @@ struct zib_result_sheet zib_read_result(const uint8_t *text, size_t text_bytes, 
  * What the whole job answers: number and place of the refusal, 0 and 0 of a right sheet, and how
  * many bytes its text has.
  */
-struct zib_told {
+struct zib_job_answer {
     uint32_t number;
     size_t place;
     size_t count;
@@ -662,8 +669,8 @@ struct zib_told {
  * left over).
  */
 ZIB_MUST_USE ZIB_NONNULL
-struct zib_told zib_job(const uint8_t *text, size_t text_bytes, uint32_t *words, uint32_t *scratch,
-                        uint8_t *out);
+struct zib_job_answer zib_job(const uint8_t *text, size_t text_bytes, uint32_t *words,
+                              uint32_t *scratch, uint8_t *out);
 
 /* ---------------------------------------------------------------- the join desk */
 
@@ -683,6 +690,8 @@ struct zib_measured {
 /*
  * The offset ((T2-T1)+(T3-T4))/2 and the delay (T4-T1)-(T3-T2) of one exchange; a half offset is
  * rounded towards minus infinity. A negative delay is answered too.
+ * In:      a run of four readings, each within 2 to the 60th either side of zero.
+ * Out:     nothing but the offset and the delay that are answered.
  * Answers 0, or the first of 26, 18 that holds.
  */
 ZIB_MUST_USE ZIB_NONNULL
@@ -697,6 +706,8 @@ struct zib_frames {
 /*
  * An offset as the nearest whole number of frames, an exact half towards plus infinity. No offset
  * of zib_offset_delay meets 18 here.
+ * In:      the offset in ticks, and 1 to 1,000,000 ticks a frame.
+ * Out:     nothing but the frames that are answered.
  * Answers 0, or the first of 21, 18 that holds.
  */
 ZIB_MUST_USE
@@ -710,8 +721,9 @@ struct zib_joined {
 };
 
 /*
- * The frames that all cameras have: one shift a camera, each with `frames` frames from its shift
- * on. No shift of zib_to_frames meets 18 here.
+ * The frames that all cameras have. No shift of zib_to_frames meets 18 here.
+ * In:      the shifts, one a camera; each camera has `frames` frames from its shift on.
+ * Out:     nothing but the two ends that are answered.
  * Answers 0, or the first of 1, 18, 20 that holds.
  */
 ZIB_MUST_USE ZIB_NONNULL
@@ -731,12 +743,18 @@ struct zib_part {
  *          the runs.
  * Out:     in *part the four readings, as a part of the run that holds them; where the choice is
  *          refused, the empty start of the first run.
+ * Answers nothing: zib_choose_number has the number of the choice.
  */
 ZIB_NONNULL
 void zib_choose(const int64_t *first, size_t first_count, const int64_t *second,
                 size_t second_count, struct zib_part *part);
 
-/* The number of that choice: 0, or the first of 26, 18, 19 that holds, each for both runs. */
+/*
+ * The number of that choice.
+ * In:      the runs.
+ * Out:     nothing but the number that is answered.
+ * Answers 0, or the first of 26, 18, 19 that holds, each for both runs.
+ */
 ZIB_MUST_USE ZIB_NONNULL
 uint32_t zib_choose_number(const int64_t *first, size_t first_count, const int64_t *second,
                            size_t second_count);
@@ -746,10 +764,16 @@ uint32_t zib_choose_number(const int64_t *first, size_t first_count, const int64
 /*
  * ZIB_VERSION_NUMBER of the library that is linked. Its name has the version: a program whose
  * header is of another version than the library does not link. With ZIB_NO_VERSION_CHECK defined
- * the header does not ask.
+ * the header does not ask, and a compiler without the attribute `retain` does not where the linker
+ * drops what nothing names.
  */
 uint32_t zib_version_3_0(void);
 #if defined(__GNUC__) && !defined(ZIB_NO_VERSION_CHECK)
+#if defined(__has_attribute)
+#if __has_attribute(retain)
+__attribute__((retain)) /* also by a linker that drops what nothing names */
+#endif
+#endif
 __attribute__((used)) static uint32_t (*const zib_linked_version)(void) = zib_version_3_0;
 #endif
 

@@ -91,11 +91,6 @@ objects_for() {
     compiled "$1" share/by-value.ll "$3/by-value.o"
 }
 
-# c_compiler TARGET: the C compiler for a kind of machine, or nothing.
-c_compiler() {
-    if [ "$(uname -m)" = "$1" ]; then command -v cc; else command -v "$1-linux-gnu-gcc"; fi || true
-}
-
 # make_library TARGET: proves the library, and makes the archive and the shared library of it for a kind of machine.
 make_library() {
     into=$made/$1
@@ -118,7 +113,7 @@ make_library() {
     standing "$into/libzibsnarda.a" "$into/libzibsnarda.so.3"
 }
 
-# make_program TARGET: proves the program `turn`, and makes it for a kind of machine.
+# make_program TARGET CC: proves the program `turn`, and makes it for a kind of machine, by its C compiler where that is no x86-64.
 make_program() {
     into=$made/$1
     stands "$into/turn" && return
@@ -132,7 +127,7 @@ make_program() {
         cp target/bin/turn "$into/turn"
     else
         compiled "$1" "$made/turn.bc" "$into/turn.o"
-        "$(c_compiler "$1")" -O2 share/errno.c "$into/turn.o" -o "$into/turn"
+        "$2" -O2 share/errno.c "$into/turn.o" -o "$into/turn"
     fi
     standing "$into/turn"
 }

@@ -24,7 +24,7 @@ static void hint(size_t count)
         fputs("turn-sheet: the sheet has carriage returns: lines end in LF alone\n", stderr);
     if (memchr(text, ' ', count) != NULL)
         fputs("turn-sheet: the sheet has spaces: fields are parted by one tab each\n", stderr);
-    if (count > 0 && text[count - 1] != '\n')
+    if (count > 0 && count <= ZIB_MAX_SHEET_BYTES && text[count - 1] != '\n')
         fputs("turn-sheet: the last line has no LF\n", stderr);
 }
 
@@ -52,14 +52,14 @@ int main(int count, char **word)
     if (ferror(in))
         return trouble(name);
 
-    struct zib_told told = zib_job(text, bytes, words, scratch, out);
+    struct zib_job_answer told = zib_job(text, bytes, words, scratch, out);
     if (fwrite(out, 1, told.count, stdout) != told.count || fflush(stdout) != 0)
         return trouble("standard output");
     if (told.number == ZIB_ACCEPTED)
         return DONE;
     fprintf(stderr, "turn-sheet: %s: %s (number %u, place %zu)\n", name, zib_sentence(told.number),
             (unsigned)told.number, told.place);
-    if (told.number == ZIB_BAD_LINE)
+    if (told.number == ZIB_BAD_LINE || told.number == ZIB_LONG_SHEET)
         hint(bytes);
     return REFUSED;
 }

@@ -142,6 +142,19 @@ def memory():
         zibsnarda.turn(array("f", [0] * 6), scratch, 2, 3)
     except TypeError as error:
         expect("unsigned 32-bit" in str(error) and "'f'" in str(error), "the message says what was wanted and what was got")
+    for call, saying in (
+        (lambda: zibsnarda.read_sheet("text", block), "wanted bytes; got str"),
+        (lambda: zibsnarda.turn([0] * 6, scratch, 2, 3), "got list"),
+        (lambda: zibsnarda.turn(block, scratch, 2.0, 3), "wanted a whole number; got float"),
+        (lambda: zibsnarda.chain(block, scratch, [1, 1, 2, "3"], []), "wanted a whole number; got str"),
+        (lambda: zibsnarda.tick(block, scratch, 0, 2, 3), "wanted a LineRecord; got int"),
+    ):
+        try:
+            call()
+        except TypeError as error:
+            expect(saying in str(error), f"{error} in the place of {saying}")
+        else:
+            expect(False, f"no error in the place of {saying}")
 
 
 def wrong_formats(formats, count):

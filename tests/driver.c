@@ -203,7 +203,7 @@ static struct zib_part choose(void) {
     return part;
 }
 
-static void give_told(struct zib_told told) {
+static void give_told(struct zib_job_answer told) {
     give(told.number);
     give(told.place);
     give(told.count);

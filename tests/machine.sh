@@ -30,23 +30,24 @@ need() {
     command -v "$command" >/dev/null 2>&1 || install_packages "$@"
 }
 
-# need_target MACHINE: a C compiler for a kind of machine (cc), and what runs its programs here (run): nothing, or an emulator.
-need_target() {
-    if [ "$machine" = "$1" ]; then
-        cc=gcc run=
-        need gcc gcc libc6-dev
-        need nm binutils
-        return
-    fi
+# need_compiler MACHINE: a C compiler for a kind of machine (cc).
+need_compiler() {
     case $1 in
+        "$machine") cc=gcc packages="gcc libc6-dev" ;;
         x86_64) cc=x86_64-linux-gnu-gcc packages="gcc-x86-64-linux-gnu libc6-dev-amd64-cross" ;;
         aarch64) cc=aarch64-linux-gnu-gcc packages="gcc-aarch64-linux-gnu libc6-dev-arm64-cross" ;;
         *) echo "no code is made for $1" >&2 && exit 2 ;;
     esac
-    run=qemu-$1
     # shellcheck disable=SC2086
     need "$cc" $packages
-    need "$run" qemu-user
+}
+
+# need_target MACHINE: a C compiler for a kind of machine (cc), and what runs its programs here (run): nothing, or an emulator.
+need_target() {
+    need_compiler "$1"
+    need "${cc%gcc}nm" binutils
+    run=
+    [ "$machine" = "$1" ] || { run=qemu-$1 && need "$run" qemu-user; }
 }
 
 # A Rust compiler for this machine; rustc links by cc.

@@ -24,6 +24,7 @@ from __future__ import annotations
 
 import ctypes
 import itertools
+import operator
 import os
 import pathlib
 import sys
@@ -40,7 +41,7 @@ __all__ = [
     "Measured",
     "ResultSheet",
     "Sheet",
-    "Told",
+    "JobAnswer",
     "turn",
     "turn_back",
     "turn_passes",
@@ -142,7 +143,7 @@ class ResultSheet(NamedTuple):
     order: int
 
 
-class Told(NamedTuple):
+class JobAnswer(NamedTuple):
     """What the whole job answers: how many bytes its text has, and the refusal that it tells, or None."""
 
     count: int
@@ -181,7 +182,7 @@ _Answer = _struct("Answer", number=c_uint32, place=c_size_t, lengths=c_size_t * 
 _Planned = _struct("Planned", number=c_uint32, swaps=c_size_t * 10, count=c_size_t)
 _Sheet = _struct("Sheet", number=c_uint32, place=c_size_t, lengths=c_size_t * 4, swaps=c_size_t * 32, count=c_size_t)
 _ResultSheet = _struct("ResultSheet", number=c_uint32, place=c_size_t, lengths=c_size_t * 4, release=c_size_t, order=c_size_t)
-_Told = _struct("Told", number=c_uint32, place=c_size_t, count=c_size_t)
+_JobAnswer = _struct("JobAnswer", number=c_uint32, place=c_size_t, count=c_size_t)
 _Pair = _struct("Pair", number=c_uint32, first=c_int64, second=c_int64)
 _Frames = _struct("Frames", number=c_uint32, frames=c_int64)
 _Part = _struct("Part", readings=POINTER(c_int64), count=c_size_t)
@@ -216,7 +217,7 @@ _CALLS: dict[str, tuple[Any, list[Any]]] = {
     "write_result": (_Count, [_SheetShape, c_size_t, *_slice, *_slice]),
     "write_release": (_Count, [_SheetShape, c_size_t, c_size_t, *_slice, *_slice]),
     "read_result": (_ResultSheet, [*_slice, *_slice]),
-    "job": (_Told, [*_slice, c_void_p, c_void_p, c_void_p]),
+    "job": (_JobAnswer, [*_slice, c_void_p, c_void_p, c_void_p]),
     "offset_delay": (_Pair, _slice),
     "to_frames": (_Frames, [c_int64, c_size_t]),
     "join": (_Pair, [*_slice, c_size_t]),
@@ -235,6 +236,8 @@ def _loaded() -> ctypes.CDLL:
         library = ctypes.CDLL(named)
     except OSError as error:
         raise ImportError(f"{error}: install it with ./install.sh PREFIX, and put this module under the same prefix or name it in ZIBSNARDA_LIBRARY") from error
+    if not hasattr(library, "zib_version_" + __version__.replace(".", "_")):
+        raise ImportError(f"{named} is of another version than this module, {__version__}")
     for call, (answers, takes) in _CALLS.items():
         function = getattr(library, "zib_" + call)
         function.restype, function.argtypes = answers, takes
@@ -273,6 +276,8 @@ def _tested(view: memoryview, kind: Any) -> None:
 def _lent(items: Any, kind: Any, fixed: int | None = None) -> Any:
     """A buffer as ctypes takes it, without a copy; of what cannot be written to, such as a list or bytes, a copy that is only read."""
     size = ctypes.sizeof(kind)
+    if isinstance(items, str):
+        raise TypeError("wanted bytes; got str")
     try:
         view = memoryview(items)
     except TypeError:
@@ -294,7 +299,11 @@ def _lent(items: Any, kind: Any, fixed: int | None = None) -> Any:
 
 def _written(items: Any, kind: Any, fixed: int | None = None) -> Any:
     """A buffer that the call writes to."""
-    if memoryview(items).readonly:
+    try:
+        readonly = memoryview(items).readonly
+    except TypeError:
+        raise TypeError(f"wanted a buffer that can be written to: {_FORMATS[kind][1]}; got {type(items).__name__}") from None
+    if readonly:
         raise TypeError("the buffer must be writable")
     return _lent(items, kind, fixed)
 
@@ -312,18 +321,26 @@ def _worked(buffer: Any, scratch: Any) -> list[Any]:
     return _apart(_written(buffer, c_uint32), _written(scratch, c_uint32))
 
 
+def _whole(number: Any) -> int:
+    """A whole number, numpy's too."""
+    try:
+        return operator.index(number)
+    except TypeError:
+        raise TypeError(f"wanted a whole number; got {type(number).__name__}") from None
+
+
 def _sizes(*numbers: int) -> list[int]:
-    for n in numbers:
-        if not 0 <= n < 1 << 64:
-            raise ValueError("a size is a number from 0 to 2 to the 64th less 1")
-    return list(numbers)
+    sizes = [_whole(number) for number in numbers]
+    if any(not 0 <= size < 1 << 64 for size in sizes):
+        raise ValueError("a size is a number from 0 to 2 to the 64th less 1")
+    return sizes
 
 
 def _shape(lengths: Sequence[int], axes: int) -> Any:
-    _sizes(*lengths)
-    if len(lengths) != axes:
+    sizes = _sizes(*lengths)
+    if len(sizes) != axes:
         raise ValueError(f"the shape must have {axes} lengths")
-    return _Shape((c_size_t * 5)(*lengths))
+    return _Shape((c_size_t * 5)(*sizes))
 
 
 def _sheet_shape(lengths: Sequence[int]) -> Any:
@@ -375,6 +392,8 @@ def lines(m: int, n: int) -> int:
 def tick(buffer: Any, scratch: Any, record: LineRecord, m: int, n: int) -> None:
     """One line of turn: the line that the record names moves, and the record counts it. Scratch: max(m, n) words, zeroed.
     Refused: 1, 2, 3, 13, 4, 12, which leaves the record too."""
+    if not isinstance(record, LineRecord):
+        raise TypeError(f"wanted a LineRecord; got {type(record).__name__}")
     _accepted(_call("tick", *_worked(buffer, scratch), ctypes.byref(record), *_sizes(m, n)))
 
 
@@ -543,14 +562,14 @@ def read_result(text: Any, words: Any) -> ResultSheet:
     return ResultSheet(list(answer.lengths), answer.release, answer.order)
 
 
-def job(text: Any, words: Any, scratch: Any, out: Any) -> Told:
+def job(text: Any, words: Any, scratch: Any, out: Any) -> JobAnswer:
     """The whole job on a sheet. Words and scratch have 1,024 words each, out 16,384 bytes. A refusal (9, 10, 1, 11, 5, 6) is in the answer and in the
     text."""
     t, tn, w, _, s, _, o, _ = _apart(
         _lent(text, c_uint8), _written(words, c_uint32, 1024), _written(scratch, c_uint32, 1024), _written(out, c_uint8, 16384)
     )
     answer = _call("job", t, tn, w, s, o)
-    return Told(answer.count, Refused(answer.number, answer.place) if answer.number else None)
+    return JobAnswer(answer.count, Refused(answer.number, answer.place) if answer.number else None)
 
 
 def offset_delay(run: Any) -> Measured:
@@ -570,9 +589,10 @@ def to_frames(offset: int, ticks_per_frame: int) -> int:
     >>> to_frames(-3, 2)
     -1
     """
-    if not -(2**63) <= offset < 2**63:
+    whole = _whole(offset)
+    if not -(2**63) <= whole < 2**63:
         raise ValueError("the offset does not fit into 64 bits")
-    answer = _call("to_frames", offset, *_sizes(ticks_per_frame))
+    answer = _call("to_frames", whole, *_sizes(ticks_per_frame))
     _accepted(answer.number)
     return answer.frames
 

@@ -184,7 +184,7 @@ mod c {
     }
 
     #[repr(C)]
-    pub struct Told {
+    pub struct JobAnswer {
         pub number: u32,
         pub place: usize,
         pub count: usize,
@@ -235,7 +235,7 @@ mod c {
         pub fn zib_write_result(shape: SheetShape, order: usize, w: *const u32, wn: usize, t: *mut u8, tn: usize) -> Counted;
         pub fn zib_write_release(shape: SheetShape, release: usize, order: usize, w: *const u32, wn: usize, t: *mut u8, tn: usize) -> Counted;
         pub fn zib_read_result(t: *const u8, tn: usize, w: *mut u32, wn: usize) -> ResultSheet;
-        pub fn zib_job(t: *const u8, tn: usize, w: *mut u32, s: *mut u32, out: *mut u8) -> Told;
+        pub fn zib_job(t: *const u8, tn: usize, w: *mut u32, s: *mut u32, out: *mut u8) -> JobAnswer;
         pub fn zib_offset_delay(run: *const i64, rn: usize) -> Pair;
         pub fn zib_to_frames(offset: i64, ticks: usize) -> Frames;
         pub fn zib_join(shifts: *const i64, sn: usize, frames: usize) -> Pair;
@@ -562,8 +562,9 @@ pub fn read_result(text: &[u8], words: &mut [u32]) -> Answered<ResultSheet> {
 }
 
 /// What the whole job leaves: the bytes of its text, and why the sheet was refused, if it was; the text then says so too.
+#[must_use]
 #[derive(Clone, Copy, Debug, PartialEq, Eq)]
-pub struct Told {
+pub struct JobAnswer {
     pub count: usize,
     pub refused: Option<Refused>,
 }
@@ -577,9 +578,9 @@ pub struct Told {
 /// assert_eq!(&out[..told.count], b"shape\t1\t1\t2\t1\norder\t1\nrow\t7\nrow\t8\n");
 /// assert_eq!(zibsnarda::job(b"", &mut words, &mut scratch, &mut out).refused.unwrap().number, 10);
 /// ```
-pub fn job(text: &[u8], words: &mut [u32; 1024], scratch: &mut [u32; 1024], out: &mut [u8; 16384]) -> Told {
+pub fn job(text: &[u8], words: &mut [u32; 1024], scratch: &mut [u32; 1024], out: &mut [u8; 16384]) -> JobAnswer {
     let d = unsafe { c::zib_job(text.as_ptr(), text.len(), words.as_mut_ptr(), scratch.as_mut_ptr(), out.as_mut_ptr()) };
-    Told { count: d.count, refused: answered(d.number, d.place, ()).err() }
+    JobAnswer { count: d.count, refused: answered(d.number, d.place, ()).err() }
 }
 
 /// The offset and the delay of one exchange of four readings in ticks: sent, received, returned, received back. 26, 18.

@@ -62,23 +62,23 @@ module _ {r order : ℕ} {q : Planned} (few : planPlaces r ≤ 32) (p : PlanProm
   low : order < orderCount r
   low = is-one p z
 
-  plan-length : q .len ≡ length (planOf (orderOf r order))
-  plan-length = ap (λ (t : Planned). t .len) (the-plan p z)
+  plan-length : q .count ≡ length (planOf (orderOf r order))
+  plan-length = ap (λ (t : Planned). t .count) (the-plan p z)
 
   -- its first swaps are the plan
-  pub plan-swaps : take (q .len) (q .swaps) ≡ planOf (orderOf r order)
+  pub plan-swaps : take (q .count) (q .swaps) ≡ planOf (orderOf r order)
   unfolding o
   plan-swaps =
       ap₂ take plan-length (ap (λ (t : Planned). t .swaps) (the-plan p z))
       ∙ take-at (planOf o) (replicate (10 - length (planOf o)) 0) (length (planOf o)) refl
 
-  pub plan-holds : q .len ≤ length (q .swaps)
+  pub plan-holds : q .count ≤ length (q .swaps)
   unfolding o
   plan-holds =
       omega
       (arith, plan-length, ap (λ (t : Planned). length (t .swaps)) (the-plan p z), length-append (planOf o) (replicate (10 - length (planOf o)) 0))
 
-  pub plan-count : q .len ≡ length (take (q .len) (q .swaps))
+  pub plan-count : q .count ≡ length (take (q .count) (q .swaps))
   plan-count = plan-length ∙ ap length (sym plan-swaps)
 
   plan-short : longChain (planOf (orderOf r order)) ≡ false
@@ -103,7 +103,7 @@ module _ {r order : ℕ} {q : Planned} (few : planPlaces r ≤ 32) (p : PlanProm
         same-after (blockChecks ds xs) (namedChecks r 1 order ++ room) room (accepted-so-far room silent)
 
   -- the chain of the plan answers as the request for its number in release 1 does, refused or not
-  pub request-of-chain : {ds xs ss ys ts : List ℕ} {a : Answer} → ChainPromise r ds (take (q .len) (q .swaps)) xs ss a ys ts
+  pub request-of-chain : {ds xs ss ys ts : List ℕ} {a : Answer} → ChainPromise r ds (take (q .count) (q .swaps)) xs ss a ys ts
       → RequestPromise r ds 1 order xs ss a ys ts
   unfolding o
   request-of-chain {ds} {xs} {ss} {ys} {ts} {a} c′ =
@@ -191,7 +191,7 @@ module _ (r release order : ℕ) (e : firstOf (namedChecks r release order) ≡ 
 
   -- the chain of the plan of the order that they name answers as the request does, but for the number
   pub request-named : {n : ℕ} {q : Planned} → planPlaces r ≤ 32 → n ≡ numberBy r release order → PlanPromise r n q → q .number ≡ 0
-      → {ds xs ss ys ts : List ℕ} {a b : Answer} → ChainPromise r ds (take (q .len) (q .swaps)) xs ss a ys ts → b ≡ askedFor order a → RequestPromise r ds release order xs ss b ys ts
+      → {ds xs ss ys ts : List ℕ} {a b : Answer} → ChainPromise r ds (take (q .count) (q .swaps)) xs ss a ys ts → b ≡ askedFor order a → RequestPromise r ds release order xs ss b ys ts
   request-named {n} few own p z {ds} {xs} {ss} {ys} {ts} {a} c asked =
       let done : RequestPromise r ds 1 (numberBy r release order) xs ss a ys ts =
       subst (λ (k : ℕ). RequestPromise r ds 1 k xs ss a ys ts) own (request-of-chain few p z c) in

@@ -250,11 +250,11 @@ request-words {r} {ds} {xs} {ss} {ss′} {release} {k} axes q d h h′ =
 -- than a chain may be
 module _ {r : ℕ} {ds xs ss : List ℕ} {k : ℕ} {plan : Planned} {a a′ : Answer} {ys ts zs us : List ℕ} (axes : length ds ≡ r)
     (few : planPlaces r ≤ 32) (p : PlanPromise r k plan) (z : plan .number ≡ 0) (q : RequestPromise r ds 1 k xs ss a ys ts) where
-  pub plan-leaves : ChainPromise r ds (take (plan .len) (plan .swaps)) xs ss a′ zs us → (a ≡ a′) × (ys ≡ zs) × (ts ≡ us)
+  pub plan-leaves : ChainPromise r ds (take (plan .count) (plan .swaps)) xs ss a′ zs us → (a ≡ a′) × (ys ≡ zs) × (ts ≡ us)
   plan-leaves c = request-once axes q (request-of-chain few p z c)
 
   -- and answer and words also where each has its own scratch, both enough
-  pub plan-leaves-words : {ss′ : List ℕ} → ChainPromise r ds (take (plan .len) (plan .swaps)) xs ss′ a′ zs us → planNeed r ds 1 k ≤ length ss
+  pub plan-leaves-words : {ss′ : List ℕ} → ChainPromise r ds (take (plan .count) (plan .swaps)) xs ss′ a′ zs us → planNeed r ds 1 k ≤ length ss
       → planNeed r ds 1 k ≤ length ss′ → (a ≡ a′) × (ys ≡ zs)
   plan-leaves-words c h h′ = request-words axes q (request-of-chain few p z c) h h′
 
@@ -272,9 +272,9 @@ module _ {r : ℕ} {ds xs ss : List ℕ} (release : ℕ) {k : ℕ} {a a′ : Ans
   releases-agree p = request-once axes q (request-by r release k known low p)
 
   module _ {plan : Planned} (few : planPlaces r ≤ 32) (p : PlanPromise r (numberBy r release k) plan) (z : plan .number ≡ 0) where
-    pub plan-leaves-by : ChainPromise r ds (take (plan .len) (plan .swaps)) xs ss a′ zs us → (a ≡ askedFor k a′) × (ys ≡ zs) × (ts ≡ us)
+    pub plan-leaves-by : ChainPromise r ds (take (plan .count) (plan .swaps)) xs ss a′ zs us → (a ≡ askedFor k a′) × (ys ≡ zs) × (ts ≡ us)
     plan-leaves-by c = releases-agree (request-of-chain few p z c)
 
-    pub plan-leaves-words-by : {ss′ : List ℕ} → ChainPromise r ds (take (plan .len) (plan .swaps)) xs ss′ a′ zs us
+    pub plan-leaves-words-by : {ss′ : List ℕ} → ChainPromise r ds (take (plan .count) (plan .swaps)) xs ss′ a′ zs us
         → planNeed r ds release k ≤ length ss → planNeed r ds release k ≤ length ss′ → (a ≡ askedFor k a′) × (ys ≡ zs)
     plan-leaves-words-by c h h′ = request-words axes q (request-by r release k known low (request-of-chain few p z c)) h h′

@@ -146,7 +146,7 @@ fn request_on(
     }
     let planned = sizes::plan_of(axes, sizes::number_by(axes, release, order));
     let swaps = planned.swaps;
-    let count = planned.len;
+    let count = planned.count;
     let done = chain_on(buf, scratch, shape, axes, &swaps[..count]);
     asked(done, order)
 }

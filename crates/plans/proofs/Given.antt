@@ -23,11 +23,11 @@ refused r order {p} h e =
 
 -- the falling pairs counted, and as many swaps of the plan: the plan
 pub as-planned : (o : List ℕ) {count : ℕ} {swaps : List ℕ} → count ≡ falling o → swaps ≡ planned count o ++ replicate (10 - count) 0
-    → _≡_ {A = Planned} (record { number = 0; swaps = swaps; len = count }) (plannedAs (planOf o))
+    → _≡_ {A = Planned} (record { number = 0; swaps = swaps; count = count }) (plannedAs (planOf o))
 unfolding planOf
 as-planned o {count} e f =
     let long : count ≡ length (planOf o) = e ∙ sym (length-plan o) in
-    ap₂ (λ (s : List ℕ) (l : ℕ). let p : Planned = record { number = 0; swaps = s; len = l } in p)
+    ap₂ (λ (s : List ℕ) (l : ℕ). let p : Planned = record { number = 0; swaps = s; count = l } in p)
     (f ∙ ap₂ (λ (s : List ℕ) (l : ℕ). s ++ replicate (10 - l) 0) (ap (λ (n : ℕ). planned n o) e) long)
     long
 

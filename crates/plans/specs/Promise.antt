@@ -11,11 +11,11 @@ use Rattle.plans.specs.declared.Planned.{Planned}
 
 -- a plan comes back as ten swap places, unused ones 0, and a length
 abbrev pub plannedAs : List ℕ → Planned
-plannedAs chain = record { number = 0; swaps = chain ++ replicate (10 - length chain) 0; len = length chain }
+plannedAs chain = record { number = 0; swaps = chain ++ replicate (10 - length chain) 0; count = length chain }
 
 -- a refused plan is its number, and 0 in every other field
 abbrev pub noPlan : ℕ → Planned
-noPlan number = record { number = number; swaps = replicate 10 0; len = 0 }
+noPlan number = record { number = number; swaps = replicate 10 0; count = 0 }
 
 -- what is given for an order o of r axes: its plan
 pub record PlanGiven (r : ℕ) (o : List ℕ) (p : Planned) : Type 0 where

@@ -8,12 +8,12 @@ ghost use Rattle.plans.specs.Promise.{PlanPromise, plannedAs, noPlan};
 mod steps;
 pub mod tables;
 
-// A plan: its number, ten swap places of which the first `len` are used, and their count.
+// A plan: its number, ten swap places of which the first `count` are used, and their count.
 #[repr(C)]
 pub struct Planned {
     pub number: u32,
     pub swaps: [usize; 10],
-    pub len: usize,
+    pub count: usize,
 }
 
 // The plan of an order that is not one.
@@ -23,7 +23,7 @@ fn no_plan() -> Planned
     Planned {
         number: 7,
         swaps: [0; 10],
-        len: 0,
+        count: 0,
     }
 }
 
@@ -36,8 +36,8 @@ fn plan_of(axes: &mut [usize]) -> Planned
     let swaps = steps::planned_swaps(axes, count);
     Planned {
         number: 0,
-        swaps: swaps,
-        len: count,
+        swaps,
+        count,
     }
 }
 
