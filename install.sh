@@ -53,7 +53,7 @@ fi
 . tests/machine.sh
 . share/build.sh
 known_target "$target" || stop "no code is made for $target: say --target x86_64 or --target aarch64"
-mkdir -p -- "$root" 2>/dev/null && [ -w "$root" ] || stop "cannot write to $root"
+{ mkdir -p -- "$root" && [ -w "$root" ]; } 2>/dev/null || stop "cannot write to $root"
 need_compiler "$target"
 mkdir -p "$made/$target"
 stands "$made/$target/libzibsnarda.a" "$made/$target/turn" || echo "proving: about 8 minutes the first time, a line for each crate" >&2

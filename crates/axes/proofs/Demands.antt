@@ -253,11 +253,6 @@ module _ {r : ℕ} {ds xs ss : List ℕ} {k : ℕ} {plan : Planned} {a a′ : An
   pub plan-leaves : ChainPromise r ds (take (plan .count) (plan .swaps)) xs ss a′ zs us → (a ≡ a′) × (ys ≡ zs) × (ts ≡ us)
   plan-leaves c = request-once axes q (request-of-chain few p z c)
 
-  -- and answer and words also where each has its own scratch, both enough
-  pub plan-leaves-words : {ss′ : List ℕ} → ChainPromise r ds (take (plan .count) (plan .swaps)) xs ss′ a′ zs us → planNeed r ds 1 k ≤ length ss
-      → planNeed r ds 1 k ≤ length ss′ → (a ≡ a′) × (ys ≡ zs)
-  plan-leaves-words c h h′ = request-words axes q (request-of-chain few p z c) h h′
-
 -- the words of a request are what its number says by its release: in release 2 each axis has gone where the order of the number says
 pub said : {r : ℕ} {ds xs ss : List ℕ} {release k : ℕ} {a : Answer} {ys ts : List ℕ} → length ds ≡ r → RequestPromise r ds release k xs ss a ys ts
     → a .number ≡ 0 → LaidBy r release k ds xs ys

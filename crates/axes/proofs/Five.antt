@@ -1,6 +1,6 @@
 -- The five lengths of a shape: the first are those of its axes, the rest are zeros. A swap among the first leaves the rest, and a loop that clears the rest makes
 -- such a shape of any.
-use Rattle.lists.proofs.Kit.{_≡_, refl, sym, ap, ap₂, _∙_, List, [], _∷_, _++_, append-nil, _⊎_, ⊎-elim, ℕ, zero, suc, _+_, _-_, _<_, _≤_, min, not-suc-le-zero, le-of-suc-le-suc, sub-zero, suc-sub-suc, arith, length, getD, take, drop, set, replicate, List·getD-eq-default, take-append-drop, length-take, take-at, take-all, length-take-le, tab, tab-more, tab-getD, drop-end}
+use Rattle.lists.proofs.Kit.{_≡_, refl, sym, ap, ap₂, _∙_, List, [], _∷_, _++_, append-nil, _⊎_, ⊎-elim, ℕ, zero, suc, _+_, _-_, _<_, _≤_, min, not-suc-le-zero, le-of-suc-le-suc, sub-zero, suc-sub-suc, arith, length, getD, take, drop, set, replicate, List·getD-eq-default, take-append-drop, length-take, take-at, take-all, length-take-le, tab, tab-more, tab-getD, drop-end, tab-zero}
 use Rattle.orders.specs.Chains.{exchange}
 use Rattle.orders.proofs.Swaps.{length-exchange, exchange-past}
 use Rattle.axes.specs.Answers.{fiveLengths}
@@ -42,13 +42,9 @@ all-five {r} l e h =
     let none : 5 - length (take r l) ≡ 0 = omega (arith, ap length all) in
     sym (ap₂ (λ (t : List ℕ) (n : ℕ). t ++ replicate n 0) all none ∙ append-nil l)
 
-zeros : (n : ℕ) → tab n (λ _. 0) ≡ replicate n 0
-zeros zero = refl
-zeros (suc n) = ap (λ (t : List ℕ). 0 ∷ t) (zeros n)
-
 -- the entries of a list, then zeros
 filled-up : (l : List ℕ) (n : ℕ) → length l ≤ n → tab n (λ j. getD l j 0) ≡ l ++ replicate (n - length l) 0
-filled-up [] n h = zeros n ∙ ap (λ (m : ℕ). replicate m 0) (sym (sub-zero n))
+filled-up [] n h = tab-zero n ∙ ap (λ (m : ℕ). replicate m 0) (sym (sub-zero n))
 filled-up (x ∷ l) zero h = absurd (not-suc-le-zero h)
 filled-up (x ∷ l) (suc n) h =
     ap (λ (t : List ℕ). x ∷ t) (filled-up l n (le-of-suc-le-suc h) ∙ ap (λ (m : ℕ). l ++ replicate m 0) (sym (suc-sub-suc n (length l))))

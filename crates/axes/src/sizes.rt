@@ -40,7 +40,6 @@ pub(crate) fn number_by(axes: usize, release: usize, order: usize) -> usize
     plans::tables::number_by5(release, order)
 }
 
-// The plan of an order.
 pub(crate) fn plan_of(axes: usize, order: usize) -> plans::Planned
     requires { ⌜ FourOrFive axes ⌝ }
     ensures { λ r. ⌜ PlanPromise axes order r ⌝ }

@@ -6,6 +6,9 @@ ghost use Prim.Native.Nat.{_-_};
 ghost use Rattle.refusals.specs.FirstOf.{firstOf};
 ghost use Rattle.cameras.specs.Promises.{removeChecks, addChecks, RemovePromise, AddPromise};
 
+// The most words of a block.
+const MOST_WORDS: usize = 1048576;
+
 // One camera less; none less than none.
 fn one_less(cameras: usize) -> usize
     ensures { λ r. ⌜ r ≡ cameras - 1 ⌝ }
@@ -27,7 +30,7 @@ fn remove_number(buf: &[u32], frames: usize, cameras: usize, column: usize) -> u
     }
     let sides = [frames, cameras];
     let words = checks::words_of(&sides);
-    if 1048576 < words {
+    if MOST_WORDS < words {
         return 2;
     }
     if buf.len() < words {
@@ -53,7 +56,7 @@ fn add_number(buf: &[u32], frames: usize, cameras: usize, column: usize, words: 
     }
     let size = frames * cameras;
     let room = size + frames;
-    if 1048576 < room {
+    if MOST_WORDS < room {
         return 2;
     }
     if buf.len() < size {

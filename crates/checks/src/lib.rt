@@ -8,10 +8,16 @@ ghost use lib.Dec.{ltb};
 ghost use Rattle.layout.specs.Layout.{volume};
 ghost use Rattle.orders.specs.Needs.{swapNeed, chainNeed};
 ghost use Rattle.refusals.specs.FirstOf.{check, firstOf};
-ghost use Rattle.refusals.specs.Conditions.{outOfRange, badLength, longest, firstPlace, noRelease};
-ghost use Rattle.refusals.specs.Calls.{sizeChecks, blockChecks, passesChecks};
+ghost use Rattle.refusals.specs.Conditions.{outOfRange, badLength, tooManyWords, longest, firstPlace, noRelease};
+ghost use Rattle.refusals.specs.Calls.{sizeChecks, exactChecks, blockChecks, passesChecks};
 ghost use Rattle.sheets.specs.Checks.{sheetChecks};
 ghost use Rattle.checks.specs.Words.{capped};
+
+// The most words of a block.
+const MOST_WORDS: usize = 1048576;
+
+// What a count of words is cut to.
+const CUT: usize = MOST_WORDS + 1;
 
 // Whether no axis may have this length: 0 or above 4,096.
 fn out_of_range(axis: usize) -> bool
@@ -43,12 +49,12 @@ fn times(words: usize, axis: usize) -> usize
     if words == 0 {
         return 0;
     }
-    if 1048576 < axis {
-        return 1048577;
+    if MOST_WORDS < axis {
+        return CUT;
     }
     let product = words * axis;
-    if 1048576 < product {
-        return 1048577;
+    if MOST_WORDS < product {
+        return CUT;
     }
     product
 }
@@ -64,7 +70,6 @@ pub fn words_of(lens: &[usize]) -> usize
     words
 }
 
-// The longer of two lengths.
 fn longer(first: usize, second: usize) -> usize
     ensures { λ r. ⌜ r ≡ max first second ⌝ }
 {
@@ -131,8 +136,25 @@ pub fn size_number(lens: &[usize]) -> u32
         return 1;
     }
     let words = words_of(lens);
-    if 1048576 < words {
+    if MOST_WORDS < words {
         return 2;
+    }
+    0
+}
+
+// The first of the checks 2, 3 and 13 of a block in a buffer of its size that holds, else 0.
+pub(crate) fn words_number(lens: &[usize], buf: &[u32]) -> u32
+    ensures { λ r. ⌜ r ≡ firstOf (check 2 (tooManyWords (now (lens .entry))) ∷ exactChecks (now (lens .entry)) (now (buf .entry))) ⌝ }
+{
+    let words = words_of(lens);
+    if MOST_WORDS < words {
+        return 2;
+    }
+    if buf.len() < words {
+        return 3;
+    }
+    if words < buf.len() {
+        return 13;
     }
     0
 }
@@ -141,18 +163,10 @@ pub fn size_number(lens: &[usize]) -> u32
 pub fn block_number(lens: &[usize], buf: &[u32]) -> u32
     ensures { λ r. ⌜ r ≡ firstOf (blockChecks (now (lens .entry)) (now (buf .entry))) ⌝ }
 {
-    let number = size_number(lens);
-    if number != 0 {
-        return number;
+    if bad_length(lens) {
+        return 1;
     }
-    let words = words_of(lens);
-    if buf.len() < words {
-        return 3;
-    }
-    if words < buf.len() {
-        return 13;
-    }
-    0
+    words_number(lens, buf)
 }
 
 // The first of the checks 1, 2, 3, 13 and 4 of a flat block, turned through scratch, that holds, else 0.

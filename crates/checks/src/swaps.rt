@@ -32,15 +32,9 @@ pub fn swap_number(
         return 1;
     }
     let block = [outer, m, n, chunk];
-    let words = crate::words_of(&block);
-    if 1048576 < words {
-        return 2;
-    }
-    if buf.len() < words {
-        return 3;
-    }
-    if words < buf.len() {
-        return 13;
+    let number = crate::words_number(&block, buf);
+    if number != 0 {
+        return number;
     }
     let sides = [m, n];
     if scratch.len() < crate::longest_of(&sides) {

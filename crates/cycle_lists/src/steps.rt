@@ -22,7 +22,6 @@ pub(crate) fn step(m: usize, n: usize, inverse: usize, x: usize) -> usize
     x * m - row * (m * n - 1)
 }
 
-// A word as a count.
 pub(crate) fn as_count(word: u32) -> usize
     ensures { λ r. ⌜ r ≡ word ⌝ }
 {

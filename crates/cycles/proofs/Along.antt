@@ -1,6 +1,6 @@
 -- Moving the words along the cycles of the right list leaves the flat turn. One cycle: each of its words goes one step on, and no other
 -- word moves. All of them: each offset is visited once, so the cycle that holds it is the only one that moves its word.
-use Rattle.lists.proofs.Kit.{_≡_, refl, sym, ap, _∙_, Bool, true, false, cond, List, [], _∷_, _++_, _⊎_, ⊎-elim, ℕ, zero, suc, _+_, _*_, _-_, _<_, _≤_, not-suc-le-zero, arith, length, getD, set, length-set, getD-set-same, getD-set-other, lt-or-ge}
+use Rattle.lists.proofs.Kit.{_≡_, refl, sym, ap, _∙_, Bool, true, false, cond, List, [], _∷_, _++_, ⊎-elim, ℕ, zero, suc, _+_, _*_, _<_, _≤_, not-suc-le-zero, arith, length, getD, set, length-set, getD-set-same, getD-set-other, lt-or-ge}
 use Rattle.flat.specs.Turn.{Turn}
 use Rattle.cycles.specs.Orbit.{iter, Permutes, period}
 use Rattle.cycles.specs.Sent.{Sent}

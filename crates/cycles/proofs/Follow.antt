@@ -1,12 +1,10 @@
 -- The loop that follows a cycle of a one-to-one map from offset x: it stands at the offset of its count, every offset between was above x, and it has not
 -- passed the period; so it ends at x, or at the first offset below x.
-use Rattle.lists.proofs.Kit.{_≡_, sym, ap, _∙_, true, false, ⊎-elim, ℕ, zero, suc, _+_, _-_, _<_, _≤_, add-one, arith, eqb, eqb-true, eq-eqb, eq-or-ne}
-use Rattle.cycles.specs.Orbit.{iter, Permutes, first, period}
+use Rattle.lists.proofs.Kit.{_≡_, sym, ap, _∙_, true, false, ⊎-elim, ℕ, zero, suc, _+_, _<_, _≤_, add-one, arith, eq-or-ne}
+use Rattle.cycles.specs.Orbit.{iter, Permutes, period}
 use Rattle.cycles.specs.Cycles.{isLeast}
-use Rattle.cycles.proofs.First.{first-holds, first-le}
-use Rattle.cycles.proofs.Orbit.{iter-add, iter-within, period-le, period-is, period-first}
+use Rattle.cycles.proofs.Orbit.{iter-within, period-le, period-is, period-first}
 use Rattle.cycles.proofs.Least.{not-least, least-is}
-use Rattle.cycles.proofs.Along.{iter-shift}
 
 pub record Followed (go : ℕ → ℕ) (N x at count : ℕ) : Type 0 where
   pub some : 0 < count
@@ -14,15 +12,7 @@ pub record Followed (go : ℕ → ℕ) (N x at count : ℕ) : Type 0 where
   pub is : at ≡ iter go count x
   pub above : (h : ℕ) → 0 < h → h < count → x < iter go h x
 
--- how many steps it is from an offset home to x
-abbrev pub homeward : (ℕ → ℕ) → ℕ → ℕ → ℕ → ℕ
-homeward go N x at = first N (λ h. eqb (iter go h at) x)
-
 module _ {N : ℕ} {go : ℕ → ℕ} (p : Permutes N go) (x : ℕ) (small : x < N) where
-  -- the period is at most mn
-  pub most : period go N x ≤ N
-  most = period-le p x small
-
   pub starts : {at : ℕ} → at ≡ go x → Followed go N x at 1
   unfolding iter
   starts e = record {
@@ -52,29 +42,9 @@ module _ {N : ℕ} {go : ℕ → ℕ} (p : Permutes N go) (x : ℕ) (small : x <
       above = λ h a b. ⊎-elim (λ q. omega (arith, up, f .is, ap (λ (k : ℕ). iter go k x) q)) (λ o. f .above h a (omega (arith, o))) (eq-or-ne h count);
     }
 
-    -- one step more is one step nearer home
-    pub nearer : {next : ℕ} → x < at → next ≡ go at → homeward go N x next < homeward go N x at
-    unfolding iter
-    nearer {next} up e =
-        let rest = period go N x - count in
-        let whole : rest + count ≡ period go N x = omega (arith, f .before) in
-        let back : iter go rest at ≡ x =
-        ap (iter go rest) (f .is)
-        ∙ sym (iter-add go rest count x)
-        ∙ ap (λ (h : ℕ). iter go h x) whole
-        ∙ period-is p x small .home in
-        let soon : homeward go N x at ≤ rest = first-le N (λ h. eqb (iter go h at) x) rest (eq-eqb _ _ back) in
-        closer (homeward go N x at) (eqb-true _ _ (first-holds N (λ h. eqb (iter go h at) x) (omega (arith, f .some, f .before, most))))
-      where
-        closer : (h : ℕ) → iter go h at ≡ x → homeward go N x next < h
-        closer zero z = absurd (omega arith)
-        closer (suc h) z =
-            let on : iter go h next ≡ x = ap (iter go h) e ∙ iter-shift go h at ∙ z in
-            omega (arith, first-le N (λ k. eqb (iter go k next) x) h (eq-eqb _ _ on))
-
     -- a smaller offset showed
     pub below-not-least : at < x → isLeast go N x ≡ false
-    below-not-least down = not-least go N x count (omega (arith, most, not-home (λ e. omega arith))) (omega (arith, f .is))
+    below-not-least down = not-least go N x count (omega (arith, period-le p x small, not-home (λ e. omega arith))) (omega (arith, f .is))
 
     -- it is home
     pub home-whole : at ≡ x → count ≡ period go N x

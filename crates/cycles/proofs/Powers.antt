@@ -1,9 +1,9 @@
 -- The map of offsets, applied h times, multiplies by m to the power h; so the period of offset 1 is the order of m modulo mn − 1.
-use Rattle.lists.proofs.Kit.{_≡_, refl, sym, ap, _∙_, _↔_, ℕ, zero, suc, _*_, _-_, _%_, _^_, _<_, _≤_, _∣_, mod-eq-of-lt, mul-one, one-mul, mul-assoc, mul-comm, pow-zero, pow-suc, arith}
+use Rattle.lists.proofs.Kit.{_≡_, refl, sym, ap, _∙_, _↔_, ℕ, zero, suc, _*_, _-_, _%_, _^_, _<_, _≤_, mod-eq-of-lt, mul-one, one-mul, mul-assoc, mul-comm, pow-zero, pow-suc, arith}
 use Rattle.cycles.specs.Orbit.{iter, Period, first, period}
 use Rattle.cycles.specs.Sent.{goes}
 use Rattle.cycles.specs.Turns.{LeavesOne, Order}
-use Rattle.cycles.proofs.Orbit.{period-le, period-is, home-iff, one-period}
+use Rattle.cycles.proofs.Orbit.{period-le, period-is, one-period}
 use Rattle.cycles.proofs.Goes.{mod-mul, goes-permutes}
 
 -- h applications multiply by m to the power h
@@ -48,10 +48,6 @@ module _ (m n : ℕ) (big : 3 ≤ m * n) where
 
   pub one-order : (p : ℕ) → Order m n p → p ≡ period (goes m n) (m * n - 1) 1
   one-order p o = one-period (order-iff p .0 o) (period-is (goes-permutes m n) 1 (omega arith))
-
-  -- and the period of every offset divides it
-  pub every-period : (p x : ℕ) → Order m n p → x < m * n - 1 → period (goes m n) (m * n - 1) x ∣ p
-  every-period p x o l = home-iff (period-is (goes-permutes m n) x l) p .0 (all-home p m n (o .one) x l)
 
 -- two rows of three words are back after four turns
 pub two-by-three : period (goes 2 3) 5 1 ≡ 4

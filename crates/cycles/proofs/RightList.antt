@@ -9,7 +9,7 @@ use Rattle.cycles.proofs.Takes.{takes-permutes}
 use Rattle.cycles.proofs.Pairs.{pair-next, first-pair}
 use Rattle.cycles.proofs.Once.{In, Distinct}
 use Rattle.cycles.proofs.Roots.{root, one-root}
-use Rattle.cycles.proofs.Visits.{visited, visited-once, visited-low, lengths-all, visits, lengthsOf}
+use Rattle.cycles.proofs.Visits.{visited, visited-once, lengths-all, visits, lengthsOf}
 
 -- a list that is empty, and a pair that is not there
 nothing : (list : List ℕ) → pairAt 0 list ≡ [] → list ≡ []
@@ -231,10 +231,6 @@ module _ (m n : ℕ) where
   pub no-offset-twice : Distinct (visits (takes m n) (cycles m n))
   unfolding cycles
   no-offset-twice = visited-once (takes-permutes m n)
-
-  pub no-other-offset : {x : ℕ} → In x (visits (takes m n) (cycles m n)) → x < m * n
-  unfolding cycles
-  no-other-offset i = visited-low (takes-permutes m n) i
 
   pub lengths-add-up : lengthsOf (cycles m n) ≡ m * n
   unfolding cycles

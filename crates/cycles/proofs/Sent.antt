@@ -1,5 +1,6 @@
 -- The flat turn is the map of offsets. For mn = 1, and where a side is 0, both say that every word stays.
-use Rattle.lists.proofs.Kit.{_≡_, sym, ap, _∙_, List, _↔_, _⊎_, inl, inr, ⊎-elim, ℕ, _+_, _*_, _-_, _/_, _%_, _<_, mod-lt, div-add-mod', div-lt-iff-lt-mul, eq-zero-or-pos, arith, getD, ext-getD, lt-or-ge}
+use Rattle.lists.proofs.Kit.{_≡_, sym, ap, _∙_, List, _↔_, _⊎_, inl, inr, ⊎-elim, ℕ, _+_, _*_, _-_, _/_, _%_, _<_, mod-lt, div-add-mod', div-lt-iff-lt-mul, arith, getD, ext-getD, lt-or-ge}
+use Rattle.lists.proofs.Words.{rest-pos}
 use Rattle.flat.specs.Turn.{Turn}
 use Rattle.flat.proofs.Turn.{literally, from-literal, volume-two}
 use Rattle.cycles.specs.Sent.{Carried, goes, Sent}
@@ -18,7 +19,7 @@ module _ (m n : ℕ) (xs ys : List ℕ) where
   sent-to : Turn m n xs ys → (x : ℕ) → x < m * n
       → ((x < m * n - 1) × (getD ys (goes m n x) 0 ≡ getD xs x 0)) ⊎ ((x ≡ m * n - 1) × (getD ys x 0 ≡ getD xs x 0))
   sent-to t x h =
-      let hn : 0 < n = ⊎-elim (λ e. absurd (omega (arith, ap (λ (z : ℕ). m * z) e))) (λ k. k) (eq-zero-or-pos n) in
+      let hn : 0 < n = rest-pos m n x h in
       let i = x / n in
       let j = x % n in
       let hi : i < m = div-lt-iff-lt-mul hn .1 h in

@@ -2,7 +2,7 @@
 ghost use mathlib.Core.Path.{_≡_};
 ghost use lib.ListN.{take};
 ghost use Rattle.flat.specs.Promises.{TurnPromise, TurnBackPromise};
-ghost use Rattle.recursion.specs.Promise.{TurnPromise as RecursionPromise};
+ghost use Rattle.recursion.specs.Promise.{RecursionPromise};
 ghost use Rattle.plans.specs.Promise.{PlanPromise};
 ghost use Rattle.axes.specs.Promises.{ChainPromise, RequestPromise};
 ghost use Rattle.reader.specs.Reader.{ReadPromise};

@@ -1,6 +1,7 @@
 -- The chunks while two mirrored cycles are followed: those of the free place and of its mirrored one have gone, a place of a marked pair has that
 -- of its source, one of a pair that is not marked its own.
-use Rattle.lists.proofs.Kit.{_≡_, refl, sym, ap, subst, _∙_, true, false, List, inl, inr, ⊎-elim, ℕ, _+_, _*_, _-_, _<_, _≤_, mul-le-mul-right, add-mul, one-mul, arith, length, getD, eq-or-ne, lt-or-ge}
+use Rattle.lists.proofs.Kit.{_≡_, refl, sym, ap, subst, _∙_, true, false, List, inl, inr, ⊎-elim, ℕ, _+_, _*_, _-_, _<_, _≤_, arith, length, getD, eq-or-ne, lt-or-ge}
+use Rattle.lists.proofs.Words.{next-run}
 use Rattle.cycles.specs.Cycles.{takes}
 use Rattle.cycles.proofs.Takes.{takes-permutes}
 use Rattle.moves.specs.Stretch.{Stretch, Outside, Traded}
@@ -11,12 +12,6 @@ use Rattle.grids.proofs.Bits.{both}
 use Rattle.grids.proofs.Mirror.{takes-mirror, fold-mirror, pair-goes, one-pair, pairs-permute}
 use Rattle.grids.proofs.Chasing.{free, Chasing, marked-now, still-free, chase-begins, chase-on, on-free, fewer-free, chase-ends}
 
--- chunks one after the other: each ends where the next begins, or before
-next-chunk : (w : ℕ) {p q : ℕ} → p < q → p * w + w ≤ q * w
-next-chunk w {p} {q} h =
-    let s : (p + 1) * w ≤ q * w = mul-le-mul-right w (omega arith) in
-    omega (arith, add-mul p 1 w, one-mul w)
-
 -- the source of a place is a place
 pub next-place : (n m : ℕ) {p x : ℕ} → x ≡ takes n m p → p < n * m → x < n * m
 next-place n m {p} e h = omega (arith, takes-permutes n m .within p h)
@@ -24,13 +19,13 @@ next-place n m {p} e h = omega (arith, takes-permutes n m .within p h)
 -- the chunk of a place lies in the words, apart from that of another place
 module _ {g : Grid} {xs : List ℕ} (f : Fits g xs) where
   pub chunk-inside : {p : ℕ} → p < g .n * g .m → p * g .chunk + g .chunk ≤ length xs
-  chunk-inside h = omega (arith, next-chunk (g .chunk) h, f .inside)
+  chunk-inside h = omega (arith, next-run (g .chunk) h, f .inside)
 
   pub chunk-apart : (p x : ℕ) → (p ≡ x → ⊥) → Apart (p * g .chunk) (x * g .chunk) (g .chunk)
   chunk-apart p x ne =
       ⊎-elim
-      (λ (h : x < p). inr (omega (arith, next-chunk (g .chunk) h)))
-      (λ (h : p ≤ x). inl (omega (arith, next-chunk (g .chunk) {p = p} {q = x} (omega arith))))
+      (λ (h : x < p). inr (omega (arith, next-run (g .chunk) h)))
+      (λ (h : p ≤ x). inl (omega (arith, next-run (g .chunk) {j = p} {k = x} (omega arith))))
       (lt-or-ge x p)
 
   -- a grid that fits in words fits in as many
@@ -121,8 +116,8 @@ module _ (n m w : ℕ) where
   -- the chunk of another place, and what is outside the chunks, lies outside that of place p
   other-outside : (p q u : ℕ) → u < w → (q ≡ p → ⊥) → Outside (p * w) w (q * w + u)
   other-outside p q u k ne = ⊎-elim
-      (λ (h : q < p). inl (omega (arith, next-chunk w h)))
-      (λ (h : p ≤ q). inr (omega (arith, next-chunk w {p = p} {q = q} (omega arith))))
+      (λ (h : q < p). inl (omega (arith, next-run w h)))
+      (λ (h : p ≤ q). inr (omega (arith, next-run w {j = p} {k = q} (omega arith))))
       (lt-or-ge q p)
 
   beside-outside : (p : ℕ) → p < n * m → (k : ℕ) → Beside (n * m) w k → Outside (p * w) w k

@@ -3,7 +3,7 @@
 use crate::marks;
 ghost use mathlib.Core.Bool.{false};
 ghost use mathlib.Core.Path.{_≡_};
-ghost use Prim.Native.Nat.{_+_, _*_, _-_, _<_, _≤_, min};
+ghost use Prim.Native.Nat.{_+_, _*_, _-_, _<_, _≤_};
 ghost use lib.ListN.{length, getD};
 ghost use Rattle.cycles.specs.Cycles.{takes};
 ghost use Rattle.cycles.specs.Private.{Reciprocal};

@@ -4,7 +4,6 @@ ghost use Prim.Native.Nat.{_*_, _<_};
 ghost use lib.ListN.{length};
 ghost use Rattle.grids.specs.Private.{bitAt, MarkedToo};
 
-// Whether a place is marked.
 pub(crate) fn marked(marks: &[u32], place: usize) -> bool
     requires { ⌜ place < 32 * length (now marks) ⌝ }
     ensures { λ r. ⌜ r ≡ bitAt (now (marks .entry)) place ⌝ }
@@ -13,7 +12,6 @@ pub(crate) fn marked(marks: &[u32], place: usize) -> bool
     (word >> (place & 31)) & 1 == 1
 }
 
-// Marks a place.
 pub(crate) fn mark(marks: &mut [u32], place: usize)
     requires { ⌜ place < 32 * length (now marks) ⌝ }
     ensures { λ _. ⌜ MarkedToo place (now (marks .entry)) (now (marks .exit)) ⌝ }

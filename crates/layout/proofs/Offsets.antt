@@ -1,6 +1,6 @@
 -- Offsets and coordinates correspond one to one below the volume. By induction on the lengths, each axis being one digit.
-use Rattle.lists.proofs.Kit.{_≡_, refl, sym, ap, ap₂, _∙_, List, [], _∷_, ℕ, suc, _+_, _*_, _/_, _%_, _<_, zero-le, suc-le-suc, mod-lt, div-add-mod', div-lt-iff-lt-mul, mul-comm, arith, length, digits-div, digits-mod, digits-lt, lt-one}
-use Rattle.lists.proofs.Words.{factor-pos}
+use Rattle.lists.proofs.Kit.{_≡_, refl, sym, ap, ap₂, _∙_, List, [], _∷_, ℕ, suc, _+_, _*_, _/_, _%_, _<_, zero-le, suc-le-suc, mod-lt, div-add-mod', div-lt-iff-lt-mul, arith, length, digits-div, digits-mod, digits-lt, lt-one}
+use Rattle.lists.proofs.Words.{rest-pos}
 use Rattle.layout.specs.Layout.{volume, Within, at, coords}
 use Rattle.layout.specs.Layout.Within.{none, more}
 
@@ -12,10 +12,6 @@ pub at-lt : {ds x : List ℕ} → Within ds x → at ds x < volume ds
 unfolding at volume
 at-lt none = suc-le-suc zero-le
 at-lt (more h w) = digits-lt h (at-lt w)
-
--- the block has a word, so what follows the first axis has one
-rest-pos : (d v p : ℕ) → p < d * v → 0 < v
-rest-pos d v p h = factor-pos v d p (omega (arith, mul-comm d v))
 
 pub within-coords : (ds : List ℕ) (p : ℕ) → p < volume ds → Within ds (coords ds p)
 unfolding coords volume

@@ -22,7 +22,7 @@ pub use borrow.Author.Tests.{le-ltb, lt-ltb, ne-eqb, ltb-false, eq-eqb, eqb-true
 pub use borrow.Author.Needs.{needs}
 pub use Rattle.lists.proofs.Decide.{lt-or-ge, eq-or-ne, decided}
 pub use Rattle.lists.proofs.Via.{via}
-pub use Rattle.lists.proofs.Tab.{length-tab, getD-tab, map-tab, tab-more, tab-getD, overlaid-rest, overlaid-length, overlaid-front, tab-ext}
+pub use Rattle.lists.proofs.Tab.{length-tab, getD-tab, map-tab, tab-more, tab-getD, overlaid-rest, overlaid-length, overlaid-front, tab-ext, tab-zero}
 pub use Rattle.lists.proofs.Front.{drop-end, drop-next, drop-next-or}
 pub use Rattle.lists.proofs.Test.{same→eq, eq→same, both-left, both-right, at-entry, at-number, below}
 pub use Rattle.lists.proofs.Copied.{copied-more}

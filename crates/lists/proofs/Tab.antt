@@ -5,7 +5,7 @@ use Prim.Native.Nat.{ℕ, zero, suc, _+_, _-_, _<_, _≤_, zero-le, suc-le-suc}
 use native.Mathlib.Nat.{not-suc-le-zero, le-of-suc-le-suc}
 use native.Mathlib.Numerals.{add-one}
 use native.Mathlib.Omega.{arith}
-use lib.ListN.{length, getD, set, drop, List·getD-append, length-append, length-drop}
+use lib.ListN.{length, getD, set, drop, replicate, List·getD-append, length-append, length-drop}
 use lib.Seq.{getD-append-add, getD-drop}
 use Rattle.lists.specs.Tab.{tab}
 
@@ -24,6 +24,11 @@ tab-ext zero f g h = refl
 tab-ext (suc n) f g h =
     ap (λ (x : ℕ). x ∷ tab n (λ k. f (suc k))) (h 0 (suc-le-suc zero-le))
     ∙ ap (λ (l : List ℕ). g 0 ∷ l) (tab-ext n (λ k. f (suc k)) (λ k. g (suc k)) (λ k l. h (suc k) (suc-le-suc l)))
+
+-- a table of zeros
+pub tab-zero : (n : ℕ) → tab n (λ k. 0) ≡ replicate n 0
+tab-zero zero = refl
+tab-zero (suc n) = ap (λ (l : List ℕ). 0 ∷ l) (tab-zero n)
 
 -- a list is the table of its own entries
 pub tab-getD : (l : List ℕ) → tab (length l) (λ k. getD l k 0) ≡ l

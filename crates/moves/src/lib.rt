@@ -18,7 +18,6 @@ fn past(len: usize, at: usize, count: usize) -> bool
     len - count < at
 }
 
-// The smaller of two counts.
 pub fn smaller(x: usize, y: usize) -> usize
     ensures { λ r. ⌜ r ≡ min x y ⌝ }
 {
@@ -28,7 +27,6 @@ pub fn smaller(x: usize, y: usize) -> usize
     y
 }
 
-// The larger of two offsets.
 fn larger(x: usize, y: usize) -> usize
     ensures { λ r. ⌜ r ≡ max x y ⌝ }
 {

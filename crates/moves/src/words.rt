@@ -36,7 +36,6 @@ pub(crate) fn rise_words(buf: &mut [u32], to: usize, from: usize, count: usize)
     }
 }
 
-// Zeroes words.
 pub(crate) fn zero_words(buf: &mut [u32], from: usize, count: usize)
     requires { ⌜ from + count ≤ length (now buf) ⌝ }
     ensures { λ _. ⌜ Stretch from count (λ u. 0) (now (buf .entry)) (now (buf .exit)) ⌝ }

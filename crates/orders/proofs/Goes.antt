@@ -52,10 +52,6 @@ module _ (r k : ℕ) (h : k < orderCount r) where
       let u : Undone r (named r c) (places (named r c)) = rw (places-undo (undoes r c)) (undoes r c) in
       subst (λ (o : List ℕ). Undone r o (places o)) e u
 
-  -- one list alone has every axis where the order of the number says that it goes
-  pub goes-is : (l t : List ℕ) → length l ≡ r → Goes (orderOf r k) l t ↔ (t ≡ pick (orderBy r 2 k) l)
-  goes-is l t e = (goes-only undo-each l t e, λ q. rw q (goes undo-each l e))
-
   so : (second : Bool) {ds xs ys : List ℕ} → length ds ≡ r
       → cond second (LaidTo ds (orderOf r k) xs ys) (Laid ds (orderOf r k) xs ys) ↔ Laid ds (cond second (orderBy r 2 k) (orderOf r k)) xs ys
   so true {ds} e = laid-to undo-each ds e
@@ -78,7 +74,7 @@ first-second r k h {ds} {xs} {ys} e =
     (g .1, g .0)
 
 -- order 9 is 1230: axis 0 goes to place 1, axis 1 to place 2, axis 2 to place 3 and axis 3 to place 0
-goes-9 : (x0 x1 x2 x3 : ℕ) → Goes (orderOf 4 9) (x0 ∷ x1 ∷ x2 ∷ x3 ∷ []) (x3 ∷ x0 ∷ x1 ∷ x2 ∷ [])
+pub goes-9 : (x0 x1 x2 x3 : ℕ) → Goes (orderOf 4 9) (x0 ∷ x1 ∷ x2 ∷ x3 ∷ []) (x3 ∷ x0 ∷ x1 ∷ x2 ∷ [])
 unfolding orderOf orders arrangements
 goes-9 x0 x1 x2 x3 = record { long = refl; there = at-axis }
   where

@@ -11,7 +11,6 @@ use Rattle.orders.specs.Needs.{swapNeed, chainNeed, planNeed}
 use Rattle.orders.proofs.Swaps.{exchange-exchange, length-exchange, exchange-past}
 use Rattle.orders.proofs.Chains.{length-follow, follow-home, pick-named, undoes}
 use Rattle.orders.proofs.Counts.{equal-none, count, pairs}
-use Rattle.orders.proofs.Numbers.{order-named}
 use Rattle.orders.proofs.Relabels.{Label, label, relabel-low, relabel-high, relabel-other, map-relabel-twice, named-front, named-past}
 use Rattle.orders.proofs.Relabels.Label.{low, high, other}
 use Rattle.orders.proofs.Falling.{upper-first, falling-upto}
@@ -245,8 +244,5 @@ module _ {r : ℕ} where
 
 -- the same of orders by number
 module _ (r k : ℕ) (h : k < orderCount r) (ds : List ℕ) (e : length ds ≡ r) where
-  pub number-need : planNeed r ds 1 k ≡ longestFalling ds (orderOf r k)
-  number-need = let (c, q) = order-named r k h in rw q at (plan-need ds c e)
-
   pub number-least : (c : List ℕ) → named r c ≡ orderOf r k → planNeed r ds 1 k ≤ chainNeed ds c
   number-least c q = rw q at (plan-least ds c e)

@@ -1,5 +1,5 @@
 -- Demand 1 of every call's list of checks: it answers 0 exactly when no condition holds, and a number exactly when its condition is the first that holds. That no
--- number of a list is 0 is computed. The readers of sheets have no list of checks: sheet/proofs/Refused says it of them.
+-- number of a list is 0 is computed. The readers of sheets have no list of checks: sheets/proofs/Refused says it of them.
 use Rattle.lists.proofs.Kit.{List, ℕ}
 use lib.IntN.{ℤ}
 use Rattle.refusals.specs.FirstOf.{Exactly}

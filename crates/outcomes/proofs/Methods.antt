@@ -7,14 +7,14 @@ use Rattle.refusals.specs.Scratch.{need}
 use Rattle.refusals.proofs.Calls.{block-good, room-passed}
 use Rattle.flat.specs.Promises.{TurnPromise, TurnBackPromise}
 use Rattle.passes.proofs.ThereAndBack as passes
-use Rattle.recursion.specs.Promise as recursion
+use Rattle.recursion.specs.Promise.{RecursionPromise}
 use Rattle.outcomes.specs.Calls.{TurnCall, TurnBackCall, RecursionCall}
 
 -- where the passes are accepted, the recursion on the same buffer is, and leaves the same words
 pub same-words : (one : TurnCall) (other : RecursionCall) → other .m ≡ one .m → other .n ≡ one .n → other .words ≡ one .words → one .number ≡ 0
     → (other .number ≡ 0) × (other .words-after ≡ one .words-after)
 same-words one other e f g z =
-    let q : recursion.TurnPromise (one .m) (one .n) (one .words) (other .number) (other .words-after) = rw (← e, ← f, ← g) (other .post) in
+    let q : RecursionPromise (one .m) (one .n) (one .words) (other .number) (other .words-after) = rw (← e, ← f, ← g) (other .post) in
     let y = q .number-is ∙ block-good (sides (one .m) (one .n)) (one .words) (one .scratch) (sym (one .post .number-is) ∙ z) in
     (y, one-turn (q .words y) (one .post .words z))
 

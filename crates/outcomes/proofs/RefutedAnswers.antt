@@ -41,8 +41,8 @@ plan r k =
 abbrev swaps : Planned → List ℕ
 swaps p = p .swaps
 
-abbrev count : Planned → List ℕ
-count p = p .count ∷ []
+abbrev planned-count : Planned → List ℕ
+planned-count p = p .count ∷ []
 
 -- the plan of order 16 (2301) is 1, 0, 2, 1, that of order 9 (1230) is 0, 1, 2, that of order 0 is empty
 abbrev pub plans : List (Row Planned)
@@ -54,13 +54,13 @@ plans =
     -- pairs counted
     ∷ wrong "plan/later-chain" (plan 4 16) swaps (1 ∷ 2 ∷ 0 ∷ 1 ∷ 0 ∷ 0 ∷ 0 ∷ 0 ∷ 0 ∷ 0 ∷ [])
     ∷ wrong "plan/plan-of-the-inverse" (plan 4 9) swaps (2 ∷ 1 ∷ 0 ∷ 0 ∷ 0 ∷ 0 ∷ 0 ∷ 0 ∷ 0 ∷ 0 ∷ [])
-    ∷ wrong "plan/longer-chain" (plan 4 0) count (2 ∷ [])
-    ∷ wrong "plan/rising-pairs" (plan 4 23) count (0 ∷ [])
+    ∷ wrong "plan/longer-chain" (plan 4 0) planned-count (2 ∷ [])
+    ∷ wrong "plan/rising-pairs" (plan 4 23) planned-count (0 ∷ [])
     -- refused because it is as long as a plan can be: order 23 has six swaps
     ∷ gives "plan/longest-plan-refused" (plan 4 23) 8
     ∷ gives "plan/order-23-refused" (plan 4 23) 7
     ∷ gives "plan/order-24-accepted" (plan 4 24) 0
-    ∷ wrong "plan/refusal-with-a-length" (plan 4 24) count (3 ∷ [])
+    ∷ wrong "plan/refusal-with-a-length" (plan 4 24) planned-count (3 ∷ [])
     -- an unused place that is not 0, of the first six and of the others
     ∷ wrong "plan/unused-place-filled" (plan 4 9) swaps (0 ∷ 1 ∷ 2 ∷ 3 ∷ 0 ∷ 0 ∷ 0 ∷ 0 ∷ 0 ∷ 0 ∷ [])
     ∷ wrong "plan/seventh-place-filled" (plan 4 23) swaps (0 ∷ 1 ∷ 0 ∷ 2 ∷ 1 ∷ 0 ∷ 3 ∷ 0 ∷ 0 ∷ 0 ∷ [])
@@ -69,7 +69,7 @@ plans =
     ∷ wrong "plan5/order-1-of-four" (plan 5 1) swaps (2 ∷ 0 ∷ 0 ∷ 0 ∷ 0 ∷ 0 ∷ 0 ∷ 0 ∷ 0 ∷ 0 ∷ [])
     -- order 119 has ten swaps
     ∷ wrong "plan5/plan-cut-at-six" (plan 5 119) swaps (0 ∷ 1 ∷ 0 ∷ 2 ∷ 1 ∷ 0 ∷ 0 ∷ 0 ∷ 0 ∷ 0 ∷ [])
-    ∷ wrong "plan5/plan-counted-to-six" (plan 5 119) count (6 ∷ [])
+    ∷ wrong "plan5/plan-counted-to-six" (plan 5 119) planned-count (6 ∷ [])
     ∷ gives "plan5/ten-swaps-refused" (plan 5 119) 8
     ∷ []
 

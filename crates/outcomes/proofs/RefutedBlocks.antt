@@ -13,7 +13,7 @@ use Rattle.refusals.specs.Calls.{swapBlock, passesChecks, recursionChecks, swap
 use Rattle.refusals.specs.Scratch.{need}
 use Rattle.refusals.specs.Promise.{middle, SwapPromise}
 use Rattle.flat.specs.Turn.{sides, across}
-use Rattle.recursion.specs.Promise as recursion
+use Rattle.recursion.specs.Promise.{RecursionPromise}
 use Rattle.flat.specs.Promises.{TurnPromise, TurnBackPromise}
 use Rattle.axes.specs.declared.Answer.{Answer}
 use Rattle.axes.specs.Answers.{accepted, refused, refusedPlace}
@@ -39,7 +39,7 @@ swap outer m n chunk b s =
 -- those without scratch
 abbrev pub turn-halves : ℕ → ℕ → List ℕ → Case (Slice ℕ)
 turn-halves m n b =
-    replacing {checks = recursionChecks (sides m n) b} (laid-out (sides m n) across (0 ∷ []) b) b (recursion.TurnPromise m n b)
+    replacing {checks = recursionChecks (sides m n) b} (laid-out (sides m n) across (0 ∷ []) b) b (RecursionPromise m n b)
     (λ o p. p)
 
 -- the calls on axes, with their answers

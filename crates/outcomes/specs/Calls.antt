@@ -5,7 +5,7 @@ use mathlib.Core.List.{List}
 use Prim.Native.Nat.{ℕ}
 use lib.ListN.{length}
 use Rattle.flat.specs.Promises.{TurnPromise, TurnBackPromise}
-use Rattle.recursion.specs.Promise as recursion
+use Rattle.recursion.specs.Promise.{RecursionPromise}
 use Rattle.axes.specs.declared.Answer.{Answer}
 use Rattle.axes.specs.Promises.{ChainPromise, RequestPromise}
 use Rattle.writer.specs.declared.Written.{Written}
@@ -42,7 +42,7 @@ pub record RecursionCall : Type 0 where
   pub words : List ℕ
   pub number : ℕ
   pub words-after : List ℕ
-  pub post : recursion.TurnPromise m n words number words-after
+  pub post : RecursionPromise m n words number words-after
 
 -- a call of a chain of swaps on r axes, with the lengths that it reads
 pub record ChainCall (r : ℕ) : Type 0 where

@@ -1,5 +1,5 @@
 -- What the calls' checks tell where none holds, and what the block's turn and the cleared scratch are then.
-use Rattle.lists.proofs.Kit.{_≡_, _∙_, Bool, List, ℕ, _-_, arith, le-trans}
+use Rattle.lists.proofs.Kit.{_≡_, _∙_, Bool, List, ℕ, arith, le-trans}
 use Rattle.refusals.specs.FirstOf.{firstOf}
 use Rattle.refusals.specs.Calls.{passesChecks}
 use Rattle.refusals.specs.Scratch.{need, cleared}

@@ -1,6 +1,7 @@
 -- The lines of a pass, one after the other, whether they receive their words or go home: they share no word, all of them are the pass, and the three passes
 -- are the turn.
-use Rattle.lists.proofs.Kit.{_≡_, refl, sym, ap, _∙_, Bool, true, false, not, cond, List, ℕ, _+_, _*_, _/_, _%_, _<_, _≤_, arith, mul-comm, div-eq-of-lt, add-zero, mod-eq-of-lt, digits-div, digits-mod, digits-lt}
+use Rattle.lists.proofs.Kit.{_≡_, refl, sym, ap, _∙_, Bool, true, false, not, cond, List, ℕ, _+_, _*_, _%_, _<_, _≤_, arith, mul-comm, div-eq-of-lt, add-zero, mod-eq-of-lt, digits-lt}
+use Rattle.lists.proofs.Words.{one-cell}
 use Rattle.flat.specs.Turn.{Turn}
 use Rattle.flat.specs.Passes.{columnGroup, row1, column2, row3}
 use Rattle.flat.proofs.Turn.{turn-home}
@@ -24,11 +25,6 @@ column-at m n p j i = omega (arith, mul-comm i n)
 pub row-at : (n i j : ℕ) → posOn (row n i) j ≡ i * n + j
 row-at n i j = omega arith
 
--- no two words stand at one offset
-cells-apart : {n : ℕ} (i j i′ j′ : ℕ) → j < n → j′ < n → i * n + j ≡ i′ * n + j′ → (i ≡ i′) × (j ≡ j′)
-cells-apart {n} i j i′ j′ h h′ q =
-    (sym (digits-div i h) ∙ ap (λ (z : ℕ). z / n) q ∙ digits-div i′ h′, sym (digits-mod i h) ∙ ap (λ (z : ℕ). z % n) q ∙ digits-mod i′ h′)
-
 module _ (m n : ℕ) where
   -- a line of a pass: its pass and its number, and that it is of that pass
   pub named : (p : Pass) (t : ℕ) → (lineIn m n p t .pass ≡ p) × (lineIn m n p t .index ≡ t) × (lineIn m n p t .count ≡ wordsIn m n p)
@@ -43,12 +39,12 @@ module _ (m n : ℕ) where
 
   -- where its words stand
   columns-apart : (p : Pass) (t k u j : ℕ) → t < n → u < n → posOn (column m n p t) k ≡ posOn (column m n p u) j → t ≡ u
-  columns-apart p t k u j ht hu e = cells-apart k t j u ht hu (sym (column-at m n p t k) ∙ e ∙ column-at m n p u j) .1
+  columns-apart p t k u j ht hu e = one-cell n k t j u ht hu (sym (column-at m n p t k) ∙ e ∙ column-at m n p u j) .1
 
   lines-apart : (p : Pass) (t k u j : ℕ) → t < linesIn m n p → k < wordsIn m n p → u < linesIn m n p → j < wordsIn m n p
       → posOn (lineIn m n p t) k ≡ posOn (lineIn m n p u) j → t ≡ u
   lines-apart First t k u j ht hk hu hj e = columns-apart First t k u j ht hu e
-  lines-apart Second t k u j ht hk hu hj e = cells-apart t k u j hk hj (sym (row-at n t k) ∙ e ∙ row-at n u j) .0
+  lines-apart Second t k u j ht hk hu hj e = one-cell n t k u j hk hj (sym (row-at n t k) ∙ e ∙ row-at n u j) .0
   lines-apart Third t k u j ht hk hu hj e = columns-apart Third t k u j ht hu e
 
   pub lines-lt : (p : Pass) (t k : ℕ) → t < linesIn m n p → k < wordsIn m n p → posOn (lineIn m n p t) k < m * n

@@ -4,7 +4,6 @@
 use Rattle.lists.proofs.Kit.{_≡_, refl, sym, ap, _∙_, subst, List, ⊎-elim, ℕ, suc, _+_, _*_, _<_, _≤_, arith, eq-of-mul-eq-mul-left, length, eq-or-ne}
 use Rattle.refusals.specs.FirstOf.{firstOf}
 use Rattle.refusals.specs.Calls.{blockChecks, passesChecks}
-use Rattle.refusals.specs.Scratch.{cleared}
 use Rattle.refusals.proofs.Calls.{block-good, room-passed}
 use Rattle.flat.specs.Turn.{sides}
 use Rattle.flat.proofs.Turn.{one-turn}

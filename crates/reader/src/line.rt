@@ -1,7 +1,7 @@
 // Lines at a place of the bytes: private to the library.
 use crate::field;
 ghost use mathlib.Core.Path.{_≡_};
-ghost use Prim.Native.Nat.{_+_, _≤_};
+ghost use Prim.Native.Nat.{_≤_};
 ghost use lib.ListN.{length, take, drop, getD};
 ghost use Rattle.lists.specs.Same.{same};
 ghost use Rattle.sheets.specs.Read.{readFields, readLine, tabs};

@@ -1,15 +1,12 @@
 -- The exchange across the diagonal in tiles. A tile is read row by row into an array and stored from it column by column; two tiles that mirror
 -- each other have so traded places, turned, and a tile on the diagonal is turned where it lies. Tile by tile the columns grow that stand exchanged, and
 -- band by band the rows. Rows a and c lie apart where a < c: (a + 1)·n ≤ c·n.
-use Rattle.lists.proofs.Kit.{_≡_, refl, ap, _∙_, List, ⊎-elim, ℕ, _+_, _*_, _-_, _≤_, _<_, arith, add-mul, one-mul, mul-le-mul-right, le-mul-of-pos-right, eq-zero-or-pos, length, getD, lt-or-ge}
+use Rattle.lists.proofs.Kit.{_≡_, refl, ap, _∙_, List, ⊎-elim, ℕ, _+_, _*_, _-_, _≤_, _<_, arith, le-mul-of-pos-right, eq-zero-or-pos, length, getD, lt-or-ge}
+use Rattle.lists.proofs.Words.{next-run}
 use Rattle.flat.specs.Turn.{Turn}
 use Rattle.moves.specs.Stretch.{Stretch}
 use Rattle.recursion.specs.PrivateTiles.{Tile, Lifted, Stored, Across}
 use Rattle.recursion.proofs.Turns.{filled-turn}
-
--- a row ends where the next one begins, or before
-pub next-row : (n : ℕ) {a c : ℕ} → a < c → a * n + n ≤ c * n
-next-row n {a} {c} h = let k : (a + 1) * n ≤ c * n = mul-le-mul-right n (omega arith) in omega (arith, add-mul a 1 n, one-mul n)
 
 -- a side is no more than the words of its square
 pub side-few : (n : ℕ) → n ≤ n * n
@@ -17,7 +14,7 @@ side-few n = ⊎-elim (λ (e : n ≡ 0). omega arith) (λ (h : 0 < n). le-mul-of
 
 -- row r of a tile lies in the block
 pub row-inside : {n i j h w r : ℕ} {xs : List ℕ} → Tile n i j h w xs → r < h → (i + r) * n + j + w ≤ n * n
-row-inside {n} {i} {r = r} t k = omega (arith, t .columns, next-row n {a = i + r} {c = n} (omega (arith, t .rows)))
+row-inside {n} {i} {r = r} t k = omega (arith, t .columns, next-run n {j = i + r} {k = n} (omega (arith, t .rows)))
 
 -- the tile that mirrors a tile
 pub mirrored : {n i j h w : ℕ} {xs : List ℕ} → Tile n i j h w xs → Tile n j i w h xs
@@ -56,7 +53,7 @@ pub stored-more : {n i j r w : ℕ} {tile xs ys zs : List ℕ} → j + w ≤ n �
 stored-more {n} {i} {j} {r} {w} {tile} {xs} {ys} {zs} inside d s = record {
   same = s .same ∙ d .same;
   placed = λ a b p q x y. ⊎-elim
-      (λ (k : a < i + r). s .below (a * n + b) (omega (arith, next-row n k)) ∙ d .placed a b p k x y)
+      (λ (k : a < i + r). s .below (a * n + b) (omega (arith, next-run n k)) ∙ d .placed a b p k x y)
       (λ (k : i + r ≤ a).
       let e : a ≡ i + r = omega arith in
       ap (λ (z : ℕ). getD zs z 0) (omega (arith, ap (λ (z : ℕ). z * n) e))
@@ -68,9 +65,9 @@ stored-more {n} {i} {j} {r} {w} {tile} {xs} {ys} {zs} inside d s = record {
   where
     outside : (a b : ℕ) → b < n → (i ≤ a → a < i + (r + 1) → j ≤ b → b < j + w → ⊥) → getD zs (a * n + b) 0 ≡ getD ys (a * n + b) 0
     outside a b h f = ⊎-elim
-        (λ (k : a < i + r). s .below (a * n + b) (omega (arith, next-row n k)))
+        (λ (k : a < i + r). s .below (a * n + b) (omega (arith, next-run n k)))
         (λ (k : i + r ≤ a). ⊎-elim
-        (λ (l : i + r < a). s .above (a * n + b) (omega (arith, next-row n l)))
+        (λ (l : i + r < a). s .above (a * n + b) (omega (arith, next-run n l)))
         (λ (l : a ≤ i + r).
         let e : a * n ≡ (i + r) * n = ap (λ (z : ℕ). z * n) (omega arith) in
         ⊎-elim

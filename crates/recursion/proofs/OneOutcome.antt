@@ -3,8 +3,8 @@
 use Rattle.lists.proofs.Kit.{_≡_, List, ℕ}
 use Rattle.refusals.proofs.Promise.{one-change}
 use Rattle.flat.proofs.Turn.{one-turn}
-use Rattle.recursion.specs.Promise.{TurnPromise}
+use Rattle.recursion.specs.Promise.{RecursionPromise}
 
-pub turn-once : {m n r r′ : ℕ} {before after after′ : List ℕ} → TurnPromise m n before r after → TurnPromise m n before r′ after′
+pub turn-once : {m n r r′ : ℕ} {before after after′ : List ℕ} → RecursionPromise m n before r after → RecursionPromise m n before r′ after′
     → (r ≡ r′) × (after ≡ after′)
 turn-once {m} {n} p q = one-change (λ _. one-turn {m = m} {n = n}) p q

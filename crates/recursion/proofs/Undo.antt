@@ -1,13 +1,14 @@
 -- Split undoes merge, and merge undoes split: every offset of the merged words, and every offset of the split ones, is one of those
 -- that the relation names, so what it relates to one list is one list.
-use Rattle.lists.proofs.Kit.{_≡_, sym, _∙_, subst, List, ⊎-elim, ℕ, _+_, _-_, _*_, _/_, _%_, _≤_, _<_, arith, mod-lt, div-add-mod', div-lt-iff-lt-mul, mul-zero, mul-add, eq-zero-or-pos, not-suc-le-zero, length, getD, ext-getD, lt-or-ge}
+use Rattle.lists.proofs.Kit.{_≡_, sym, _∙_, subst, List, ⊎-elim, ℕ, _+_, _-_, _*_, _/_, _%_, _≤_, _<_, arith, mod-lt, div-add-mod', div-lt-iff-lt-mul, mul-add, length, getD, ext-getD, lt-or-ge}
+use Rattle.lists.proofs.Words.{rest-pos}
 use Rattle.recursion.specs.Merge.{Merged}
 use Rattle.recursion.specs.Private.{Runs}
 
 -- an offset below n · d in its two digits
 module _ (n d : ℕ) {k : ℕ} (h : k < n * d) where
   some : 0 < d
-  some = ⊎-elim (λ (e : d ≡ 0). let z : k < 0 = rw (e, mul-zero) at h in absurd (not-suc-le-zero z)) (λ (u : 0 < d). u) (eq-zero-or-pos d)
+  some = rest-pos n d k h
 
   high : k / d < n
   high = div-lt-iff-lt-mul some .1 h

@@ -6,5 +6,5 @@ use Rattle.refusals.specs.Promise.{Changed}
 use Rattle.flat.specs.Turn.{sides, Turn}
 
 -- the number is that of the first check that holds, or 0; where it is 0 the block is turned; where it is not, the buffer is as it was
-abbrev pub TurnPromise : ℕ → ℕ → List ℕ → ℕ → List ℕ → Type 0
-TurnPromise m n before = Changed (recursionChecks (sides m n) before) (Turn m n before) before
+abbrev pub RecursionPromise : ℕ → ℕ → List ℕ → ℕ → List ℕ → Type 0
+RecursionPromise m n before = Changed (recursionChecks (sides m n) before) (Turn m n before) before

@@ -5,7 +5,7 @@ use Rattle.layout.specs.Layout.{volume, Laid}
 use Rattle.orders.specs.Chains.{named, follow, exchange}
 use Rattle.orders.proofs.Layouts.{chain-once}
 use Rattle.refusals.specs.FirstOf.{check, firstOf}
-use Rattle.refusals.specs.Conditions.{badLength, tooManyWords, shortScratch, longest}
+use Rattle.refusals.specs.Conditions.{badLength, tooManyWords, shortScratch}
 use Rattle.refusals.specs.Calls.{exactChecks, swapBlock, noBlock, swapChecks}
 use Rattle.refusals.specs.Scratch.{need}
 use Rattle.refusals.specs.Promise.{middle, SwapPromise}
@@ -59,11 +59,6 @@ swappable outer m n chunk buffer scratch e =
       exact = exact;
       room = room;
     }
-
--- the scratch that it needs: some, and no more than an axis may have
-pub swap-need : {outer m n chunk : ℕ} {buffer scratch : List ℕ} → Swappable outer m n chunk buffer scratch → (0 < need (m ∷ n ∷ [])) × (need (m ∷ n ∷ []) ≤ 4096)
-unfolding longest
-swap-need a = (omega (arith, a .m-pos), omega (arith, a .m-few, a .n-few))
 
 -- two outcomes of an adjacent swap's layout are equal
 one-swap : {outer m n chunk : ℕ} {xs : List ℕ} (ys zs : List ℕ)

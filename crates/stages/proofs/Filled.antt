@@ -1,5 +1,5 @@
 -- Stores in rising place into one list, and what the list then holds: by induction over how many they are.
-use Rattle.lists.proofs.Kit.{_≡_, refl, sym, ap, _∙_, List, [], _∷_, _++_, ⊎-elim, ℕ, zero, suc, _+_, _<_, _≤_, min, arith, add-one, not-suc-le-zero, eq-or-lt-of-le, min-eq-left, min-eq-right, length, getD, set, take, drop, length-append, length-set, take-all, take-append-le, getD-set-same, getD-set-other, tab, tab-more, lt-or-ge, eq-or-ne}
+use Rattle.lists.proofs.Kit.{_≡_, refl, sym, ap, _∙_, List, [], _∷_, _++_, ⊎-elim, ℕ, zero, suc, _<_, _≤_, min, arith, add-one, not-suc-le-zero, eq-or-lt-of-le, min-eq-left, min-eq-right, length, getD, set, take, drop, length-append, length-set, take-all, take-append-le, getD-set-same, getD-set-other, tab, tab-more, lt-or-ge, eq-or-ne}
 use Rattle.stages.specs.Stages.{Memory, Store, withBuffer, withScratch, put, after}
 use Rattle.stages.specs.Stages.Store.{toBuffer, toScratch}
 use Rattle.stages.specs.Lines.{each}
@@ -42,10 +42,6 @@ into-buffer (suc n) p v m = after-append (each n (λ k. toBuffer (p k) (v k))) (
 pub length-filled : (n : ℕ) (p v : ℕ → ℕ) (xs : List ℕ) → length (filled n p v xs) ≡ length xs
 length-filled zero p v xs = refl
 length-filled (suc n) p v xs = length-set (filled n p v xs) (p n) (v n) ∙ length-filled n p v xs
-
--- a loop that stores: one store more
-pub filled-more : (n : ℕ) (p v : ℕ → ℕ) (xs ys : List ℕ) → ys ≡ filled n p v xs → set ys (p n) (v n) ≡ filled (n + 1) p v xs
-filled-more n p v xs ys e = rw add-one (ap (λ (l : List ℕ). set l (p n) (v n)) e)
 
 -- a front that is filled is a table
 pub filled-front : (n : ℕ) (v : ℕ → ℕ) (xs : List ℕ) → n ≤ length xs → filled n (λ k. k) v xs ≡ tab n v ++ drop n xs

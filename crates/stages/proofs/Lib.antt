@@ -6,8 +6,6 @@ pub mod Torn
 pub mod Calls
 -- stops of which the order of stages alone is kept are made good
 pub mod Stops
--- calls stopped anywhere whose last is not leave what one uncut call leaves
-pub mod Restart
 -- stores in rising place into one list, and what it then holds
 pub mod Filled
 -- the stages of lines can be begun again, and what the first words of one leave

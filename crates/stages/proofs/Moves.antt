@@ -1,11 +1,10 @@
 -- The stages of lines, uncut: every line has moved, one after the other, and scratch is cleared.
-use Rattle.lists.proofs.Kit.{_≡_, refl, sym, ap, ap₂, _∙_, subst, List, _∷_, _++_, ℕ, zero, suc, _+_, _*_, _/_, _%_, _<_, _≤_, arith, digits-div, digits-mod, length, getD, drop, replicate, drop-set-lt, tab}
-use Rattle.stages.specs.Stages.{Memory, Store, withBuffer, withScratch, put, after, stage, remaining, call, finish, run}
+use Rattle.lists.proofs.Kit.{_≡_, refl, sym, ap, ap₂, _∙_, subst, List, _++_, ℕ, zero, suc, _+_, _*_, _/_, _%_, _<_, _≤_, arith, digits-div, digits-mod, length, getD, drop, replicate, drop-set-lt, tab-zero}
+use Rattle.stages.specs.Stages.{Memory, Store, withBuffer, withScratch, put, after, stage, finish}
 use Rattle.stages.specs.Stages.Store.{toProgress}
 use Rattle.stages.specs.Lines.{Lines, lifting, returning, stagesOf}
 use Rattle.stages.proofs.Calls.{after-stage, remaining-none, finish-stage}
-use Rattle.stages.proofs.Restart.{restart}
-use Rattle.stages.proofs.Lines.{steady, words-lift, words-return, words-clear}
+use Rattle.stages.proofs.Lines.{words-lift, words-return, words-clear}
 use Rattle.stages.proofs.Filled.{filled, into-scratch, into-buffer, length-filled, filled-front, filled-at, filled-others}
 
 -- the lines lie in the buffer, the places of each apart, and scratch has room
@@ -20,10 +19,6 @@ pub record LineMoved (l : Lines) (t : ℕ) (xs ys : List ℕ) : Type 0 where
   pub same : length ys ≡ length xs
   pub placed : (k : ℕ) → k < l .count t → getD ys (l .pos t k) 0 ≡ getD xs (l .pos t (l .src t k)) 0
   pub others : (p : ℕ) → ((k : ℕ) → k < l .count t → l .pos t k ≡ p → ⊥) → getD ys p 0 ≡ getD xs p 0
-
-pub tab-zero : (n : ℕ) → tab n (λ k. 0) ≡ replicate n 0
-tab-zero zero = refl
-tab-zero (suc n) = ap (λ (l : List ℕ). 0 ∷ l) (tab-zero n)
 
 -- stores below place n leave what lies past it
 past-filled : (n c : ℕ) (v : ℕ → ℕ) (xs : List ℕ) → c ≤ n → drop n (filled c (λ k. k) v xs) ≡ drop n xs
@@ -133,8 +128,3 @@ module _ {l : Lines} {b₀ sc₀ : List ℕ} (fit : Fit l b₀ sc₀) where
     -- an uncut turn: what each line's move carries on holds of the buffer, scratch is cleared, and every stage is counted
     pub turn-ends : P 0 b₀ → End (finish (stagesOf l) (record { buffer = b₀; scratch = sc₀; progress = 0 }))
     turn-ends p = going (l .lines) 0 (record { buffer = b₀; scratch = sc₀; progress = 0 }) (omega arith) (record { at = refl; same = refl; same′ = refl; past = refl }) p
-
-    -- so too after any run of budgets whose last one is enough
-    pub restart-ends : (bs : List ℕ) (b : ℕ) → length (remaining (stagesOf l) (run (stagesOf l) bs (record { buffer = b₀; scratch = sc₀; progress = 0 }))) ≤ b
-        → P 0 b₀ → End (call (stagesOf l) b (run (stagesOf l) bs (record { buffer = b₀; scratch = sc₀; progress = 0 })))
-    restart-ends bs b h p = subst End (sym (restart (steady l) bs b (record { buffer = b₀; scratch = sc₀; progress = 0 }) h)) (turn-ends p)

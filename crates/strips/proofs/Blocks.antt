@@ -104,9 +104,3 @@ module _ {m n chunk : ℕ} where
           ap (λ (z : ℕ). getD ys z 0) (swap-at outer n m chunk e j i u ∙ ap (λ (z : ℕ). e * (z * chunk) + ((j * m + i) * chunk + u)) (mul-comm n m))
           ∙ a .placed e i j u he hi hj hu
           ∙ ap (λ (z : ℕ). getD xs z 0) (sym (swap-at outer m n chunk e i j u))
-
--- block e of `outer` blocks of so many words ends where the last one does, or before
-pub block-ends : (size : ℕ) {e outer : ℕ} → e < outer → e * size + size ≤ outer * size
-block-ends size {e} {outer} h =
-    let k : (e + 1) * size ≤ outer * size = mul-le-mul-right size (omega arith) in
-    omega (arith, add-mul e 1 size, one-mul size)

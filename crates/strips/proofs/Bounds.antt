@@ -1,13 +1,12 @@
 -- The sizes of strips: a tile takes 8 to 64 lines, the long side is cut in as many lines and a rest, and what is left over, the tiles and the marks have room.
-use Rattle.lists.proofs.Kit.{_≡_, refl, ap, subst, _∙_, List, _++_, _⊎_, inl, inr, ⊎-elim, ℕ, _+_, _*_, _-_, _/_, _%_, _<_, _≤_, mod-lt, div-add-mod', div-lt-iff-lt-mul, mul-le-mul, mul-le-mul-right, le-mul-of-pos-right, mul-pos, arith, length, getD, take, drop, replicate, length-replicate, length-take-le, lt-or-ge}
+use Rattle.lists.proofs.Kit.{_≡_, ap, subst, _∙_, List, _++_, _⊎_, inl, inr, ⊎-elim, ℕ, _+_, _*_, _-_, _/_, _%_, _<_, _≤_, mod-lt, div-add-mod', div-lt-iff-lt-mul, mul-le-mul, mul-le-mul-right, le-mul-of-pos-right, mul-pos, arith, length, take, drop, replicate, length-replicate, length-take-le, lt-or-ge}
 use borrow.Rule.Slice.PartMut.{midOf, mid-len}
 use Rattle.grids.specs.Promises.{Turnable}
 use Rattle.lists.proofs.Parts.{whole}
 use Rattle.strips.specs.PrivateBounds.{Held, From, Lines, Strip, Narrow}
 use Rattle.grids.specs.Grids.{GridTurned}
 use Rattle.strips.specs.PrivateSteps.{BlocksTurned, PartTurned, Widened}
-use Rattle.lists.proofs.Words.{same-word}
-use Rattle.strips.proofs.Strips.{from-words, grid-home, by-rows, by-columns, joined-turn, parted-turn}
+use Rattle.strips.proofs.Strips.{by-rows, by-columns, joined-turn, parted-turn}
 
 -- as many lines as fit, and no more than 64
 pub lines-all : {x : ℕ} → 0 < x → x ≤ 64 → 512 / x < 64 → Lines x (512 / x)
@@ -157,16 +156,7 @@ pub wide-turned : {m n g s y q : ℕ} {xs vs ws ys zs : List ℕ} → y * s + q 
     → GridTurned m y (s * g) ws ys → BlocksTurned y m s g ys zs → GridTurned m n g xs zs
 wide-turned {m} {g = g} {xs = xs} {zs = zs} whole w a t b = subst (λ (k : ℕ). GridTurned m k g xs zs) whole (parted-turn w a (by-columns t b))
 
--- what one strip is: a single line is turned as it stands, and else it is a grid, small, tall or wide
-pub row-turned : {m n g : ℕ} {xs : List ℕ} → m ≡ 1 → GridTurned m n g xs xs
-row-turned {m} {n} {g} {xs} one = from-words m n g refl (λ i j u hi hj hu. stands i j u (omega arith)) (λ k h. refl)
-  where
-    stands : (i j u : ℕ) → i ≡ 0 → getD xs ((j * m + i) * g + u) 0 ≡ getD xs ((i * n + j) * g + u) 0
-    stands i j u z = rw (z, one) (same-word xs (omega arith))
-
-pub column-turned : {m n g : ℕ} {xs : List ℕ} → n ≡ 1 → GridTurned m n g xs xs
-column-turned one = grid-home (row-turned one)
-
+-- what one strip is: a grid, small, tall or wide
 module _ {y m n g : ℕ} {xs tile : List ℕ} (t : Narrow y m n g xs tile) where
   pub narrow-places : m * n ≤ 1048576
   narrow-places = omega (arith, t .few, le-mul-of-pos-right (m * n) (t .words))

@@ -13,9 +13,8 @@ use Rattle.moves.specs.Stretch.{Outside, Traded}
 use Rattle.grids.specs.Grids.{GridTurned}
 use Rattle.strips.specs.PrivateBounds.{Square}
 use Rattle.strips.specs.PrivateMoves.{RowCrossed}
-use Rattle.lists.proofs.Words.{same-word}
+use Rattle.lists.proofs.Words.{same-word, next-run}
 use Rattle.strips.proofs.Strips.{from-words, turn-flat}
-use Rattle.strips.proofs.Tiles.{next-run}
 
 -- a word of another element lies outside an element
 outside : (p r g u : ℕ) → (r ≡ p → ⊥) → u < g → Outside (p * g) g (r * g + u)

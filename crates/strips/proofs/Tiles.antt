@@ -1,6 +1,6 @@
 -- A small block is lifted into the tile, its rows apart, and written back row by row or column by column: column j of the tile is the stretch of m words
 -- from j·m on. Blocks so turned one after the other, each a part of the buffer, are the layout whose two axes in the middle are exchanged.
-use Rattle.lists.proofs.Kit.{_≡_, refl, sym, ap, ap₂, _∙_, ⊎-elim, List, ℕ, _+_, _*_, _-_, _/_, _%_, _<_, _≤_, zero-mul, mul-comm, mul-le-mul-right, add-mul, one-mul, le-mul-of-pos-right, arith, digits-div, digits-mod, digits-lt, length, getD, eq-or-ne}
+use Rattle.lists.proofs.Kit.{_≡_, refl, sym, ap, ap₂, _∙_, ⊎-elim, List, ℕ, _+_, _*_, _-_, _/_, _%_, _<_, _≤_, zero-mul, mul-comm, add-mul, one-mul, le-mul-of-pos-right, arith, digits-div, digits-mod, digits-lt, length, getD, eq-or-ne}
 use borrow.Rule.Slice.PartMut.{midOf, putMid, mid-len}
 use Rattle.strips.proofs.Blocks.{laid-turned, part-turned, TurnedTo, turned-more, all-turned}
 use Rattle.moves.specs.Stretch.{Stretch}
@@ -9,7 +9,7 @@ use Rattle.strips.specs.PrivateBounds.{Held, From}
 use Rattle.grids.specs.Grids.{GridTurned}
 use Rattle.strips.specs.PrivateSteps.{BlocksTurned}
 use Rattle.moves.proofs.Filling.{Filled, nothing-filled, piece-up}
-use Rattle.lists.proofs.Words.{same-word}
+use Rattle.lists.proofs.Words.{same-word, next-run}
 use Rattle.strips.proofs.Strips.{from-words}
 
 -- word k of a tile of m by n words that begins at an offset, once it is turned
@@ -35,12 +35,6 @@ column-inside {m} {n} {j} {size} room h u k = omega (arith, digits-lt {q = u} {r
 
 pub column-from : (at : ℕ) {m n j size : ℕ} → at + m * n ≤ size → j < n → (u : ℕ) → u < m → at + j + u * n < size
 column-from at {m} {n} {j} {size} room h u k = omega (arith, digits-lt {q = u} {r = j} k h)
-
--- runs one after the other: run j ends where the next begins, or before
-pub next-run : (size : ℕ) {j k : ℕ} → j < k → j * size + size ≤ k * size
-next-run size {j} {k} h =
-    let s : (j + 1) * size ≤ k * size = mul-le-mul-right size (omega arith) in
-    omega (arith, add-mul j 1 size, one-mul size)
 
 -- rows lifted, one by one, and all at once where an element is a word
 pub lifted-none : {n g : ℕ} {xs tile : List ℕ} → Lifted 0 n g xs tile tile

@@ -4,7 +4,7 @@ use Rattle.lists.proofs.Kit.{_≡_, refl, sym, ap, _∙_, List, ⊎-elim, ℕ, 
 use Rattle.moves.specs.Stretch.{Stretch, Past}
 use Rattle.lists.proofs.Words.{same-word}
 use Rattle.tiles.specs.Tiles.{part, bandPlace, tilePlace}
-use Rattle.tiles.specs.Private.{BandFits, LaidTo, BandMoved, Converts, BlockMoved}
+use Rattle.tiles.specs.Private.{BandFits, BandLaidTo, BandMoved, Converts, BlockMoved}
 use Rattle.tiles.specs.declared.bands.Band.{Band}
 use Rattle.tiles.specs.declared.bands.Tiling.{Tiling}
 use Rattle.tiles.proofs.BandPlaces.{band-place-lt}
@@ -12,7 +12,7 @@ use Rattle.tiles.proofs.Places.{tile-place, before-band}
 
 -- lifted, then laid: the band has moved
 pub band-moved : {b : Band} {xs ys scratch held : List ℕ} → 0 < b .from → Stretch 0 (b .rows * b .columns) (λ u. getD xs (b .first + u) 0) scratch held
-    → LaidTo b (b .columns) (λ p. getD held p 0) xs ys → BandMoved b xs ys scratch held
+    → BandLaidTo b (b .columns) (λ p. getD held p 0) xs ys → BandMoved b xs ys scratch held
 band-moved {b} {held = held} step lifted laid = (
   record {
     same = laid .same;

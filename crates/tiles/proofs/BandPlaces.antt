@@ -1,9 +1,9 @@
 -- A band as tiles. An offset is h·u·s + x·w + c: tile u of width w, row x and column c of the tile. Every offset of the band is of this kind, by
 -- division, and of one word only. In tiles as wide as the band a word stands where its row has it.
 use Rattle.lists.proofs.Kit.{_≡_, sym, ap, ap₂, _∙_, ⊎-elim, ℕ, _+_, _*_, _-_, _/_, _%_, _<_, _≤_, min, mod-lt, div-add-mod', div-lt-iff-lt-mul, mul-add, mul-pos, mul-le-mul-left, lt-of-mul-lt-mul-left, mul-left-comm, div-eq-of-lt, mod-eq-of-lt, mul-zero, zero-mul, arith, digits-lt, lt-or-ge}
-use Rattle.lists.proofs.Words.{factor-pos}
+use Rattle.lists.proofs.Words.{factor-pos, one-cell}
 use Rattle.tiles.specs.Tiles.{part, bandPlace}
-use Rattle.tiles.proofs.Parts.{part-le, part-within, part-pos, in-part, of-part, at-part, part-last, part-whole, one-cell}
+use Rattle.tiles.proofs.Parts.{part-le, part-within, part-pos, in-part, of-part, at-part, part-last, part-whole}
 
 -- the place of a word in its band, by its tile
 pub band-place : (h n s u x c : ℕ) → c < part n s u → bandPlace h n s x (u * s + c) ≡ h * (u * s) + (x * part n s u + c)

@@ -1,6 +1,6 @@
 -- A side cut into parts: no part is longer than the step, none passes the side, and each place of the side lies in its part. By `omega`; a
 -- product of two variables is an atom to it.
-use Rattle.lists.proofs.Kit.{_≡_, sym, ap, _∙_, ℕ, _+_, _*_, _/_, _%_, _<_, _≤_, mod-lt, div-add-mod', arith, digits-div, digits-mod}
+use Rattle.lists.proofs.Kit.{_≡_, ℕ, _+_, _*_, _/_, _%_, _<_, _≤_, mod-lt, div-add-mod', arith, digits-div, digits-mod}
 use Rattle.tiles.specs.Tiles.{part}
 
 pub part-le : (side step k : ℕ) → part side step k ≤ step
@@ -37,10 +37,3 @@ module _ (side step k c : ℕ) (h : c < part side step k) where
 
   pub at-part : (k * step + c) % step ≡ c
   at-part = digits-mod k (omega (arith, part-le side step k))
-
--- an offset row by row has one row and one column
-pub one-cell : (n i j i′ j′ : ℕ) → j < n → j′ < n → i * n + j ≡ i′ * n + j′ → (i ≡ i′) × (j ≡ j′)
-one-cell n i j i′ j′ a b e = (
-  sym (digits-div i a) ∙ ap (λ (z : ℕ). z / n) e ∙ digits-div i′ b,
-  sym (digits-mod i a) ∙ ap (λ (z : ℕ). z % n) e ∙ digits-mod i′ b,
-)

@@ -1,9 +1,9 @@
 -- The places of a block as tiles are one to one: each word has its place in the block, each offset of the block is the place of one word, and no
 -- two words share one. Band by band, from the places of a band: the offsets of band b are those from b·r·n on.
 use Rattle.lists.proofs.Kit.{_≡_, sym, ap, ap₂, _∙_, ℕ, _+_, _*_, _/_, _%_, _<_, _≤_, mod-lt, div-add-mod', mul-assoc, mul-comm, add-mul, mul-pos, mul-le-mul-right, lt-of-mul-lt-mul-right, div-lt-iff-lt-mul, arith}
-use Rattle.lists.proofs.Words.{factor-pos}
+use Rattle.lists.proofs.Words.{one-cell, rest-pos}
 use Rattle.tiles.specs.Tiles.{part, bandPlace, tilePlace}
-use Rattle.tiles.proofs.Parts.{part-le, part-within, in-part, of-part, at-part, one-cell}
+use Rattle.tiles.proofs.Parts.{part-le, part-within, in-part, of-part, at-part}
 use Rattle.tiles.proofs.BandPlaces.{in-tile, band-place-lt, band-apart, wide-band, spot, spot-column, spot-place}
 
 -- the place of a word by its band and its row there
@@ -24,7 +24,7 @@ band m n r high p low =
     let b = p / (r * n) in
     let k = p % (r * n) in
     let p-is : b * (r * n) + k ≡ p = div-add-mod' p (r * n) in
-    let wide : 0 < n = factor-pos n m p (omega (arith, mul-comm m n)) in
+    let wide : 0 < n = rest-pos m n p low in
     let few : k < r * n = mod-lt p (mul-pos high wide) in
     let first : b * r < m = lt-of-mul-lt-mul-right n (omega (arith, mul-assoc b r n)) in
     let inside : k < n * part m r b = in-tile n m r b k (omega arith) (omega (arith, mul-comm r n)) (omega (arith, mul-assoc b r n, mul-comm (b * r) n, mul-comm m n)) in

@@ -4,7 +4,7 @@ use Rattle.lists.proofs.Kit.{_≡_, refl, sym, ap₂, _∙_, List, _⊎_, inl, 
 use Rattle.moves.specs.Stretch.{Stretch}
 use Rattle.lists.proofs.Words.{same-word}
 use Rattle.tiles.specs.Tiles.{part, bandPlace}
-use Rattle.tiles.specs.Private.{Aligned, RowsAt, BandSmall, BandFits, PieceAt, Laid, LaidTo}
+use Rattle.tiles.specs.Private.{Aligned, RowsAt, BandSmall, BandFits, PieceAt, BandLaid, BandLaidTo}
 use Rattle.tiles.specs.declared.bands.Rows.{Rows}
 use Rattle.tiles.specs.declared.bands.Band.{Band}
 use Rattle.tiles.proofs.BandPlaces.{band-place, wide-band, band-place-lt, band-apart}
@@ -79,8 +79,8 @@ module _ {b : Band} {j wide : ℕ} (small : BandSmall b) (piece : PieceAt b j wi
 
   -- one row more
   pub row-more : (source : List ℕ) {from to : Rows} {x : ℕ} {xs ys zs : List ℕ} → RowsAt (b .rows) (b .columns) (b .from) j from → RowsAt (b .rows) (b .columns) (b .to) j to → x < b .rows
-      → Laid b (Until j wide x) (λ p. getD source p 0) xs ys → Stretch (b .first + to .at + x * to .step) wide (λ c. getD source (from .at + x * from .step + c) 0) ys zs
-      → Laid b (Until j wide (x + 1)) (λ p. getD source p 0) xs zs
+      → BandLaid b (Until j wide x) (λ p. getD source p 0) xs ys → Stretch (b .first + to .at + x * to .step) wide (λ c. getD source (from .at + x * from .step + c) 0) ys zs
+      → BandLaid b (Until j wide (x + 1)) (λ p. getD source p 0) xs zs
   row-more source {from} {to} {x} {xs} {ys} {zs} from-is to-is row f s = record {
     same = s .same ∙ f .same;
     placed = λ y c high low u. ⊎-elim
@@ -118,17 +118,17 @@ module _ {b : Band} {j wide : ℕ} (small : BandSmall b) (piece : PieceAt b j wi
 
 -- what is laid, told of fewer words
 pub laid-as : {b : Band} {Done Fewer : ℕ → ℕ → Type 0} {source : ℕ → ℕ} {xs ys : List ℕ} → ((x j : ℕ) → x < b .rows → j < b .columns → Fewer x j → Done x j)
-    → Laid b Done source xs ys → Laid b Fewer source xs ys
+    → BandLaid b Done source xs ys → BandLaid b Fewer source xs ys
 laid-as fewer f = record { same = f .same; placed = λ x j row low d. f .placed x j row low (fewer x j row low d); below = f .below; above = f .above }
 
-pub laid-none : {b : Band} {source : ℕ → ℕ} {xs : List ℕ} → LaidTo b 0 source xs xs
+pub laid-none : {b : Band} {source : ℕ → ℕ} {xs : List ℕ} → BandLaidTo b 0 source xs xs
 laid-none = record { same = refl; placed = λ x j row low h. absurd (omega arith); below = λ q h. refl; above = λ q h. refl }
 
 -- a piece of which no row is laid, and one of which all rows are
-pub piece-none : {b : Band} {j wide : ℕ} {source : ℕ → ℕ} {xs ys : List ℕ} → LaidTo b j source xs ys → Laid b (Until j wide 0) source xs ys
+pub piece-none : {b : Band} {j wide : ℕ} {source : ℕ → ℕ} {xs ys : List ℕ} → BandLaidTo b j source xs ys → BandLaid b (Until j wide 0) source xs ys
 piece-none f = laid-as (λ x c row low u. ⊎-elim (λ h. h) (λ h. absurd (omega arith)) (u .either)) f
 
-pub piece-all : {b : Band} {j wide x : ℕ} {source : ℕ → ℕ} {xs ys : List ℕ} → x ≡ b .rows → Laid b (Until j wide x) source xs ys → LaidTo b (j + wide) source xs ys
+pub piece-all : {b : Band} {j wide x : ℕ} {source : ℕ → ℕ} {xs ys : List ℕ} → x ≡ b .rows → BandLaid b (Until j wide x) source xs ys → BandLaidTo b (j + wide) source xs ys
 piece-all e f = laid-as (λ x c row low h. record { either = inr (omega arith, h) }) f
 
 -- a band that fits goes on fitting

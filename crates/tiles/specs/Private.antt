@@ -46,7 +46,7 @@ pub record PieceAt (b : Band) (j wide : ℕ) : Type 0 where
   pub to-first : Aligned (b .columns) (b .to) j
 
 -- the words of these rows and columns have received their new places from a source, where the band stands; words outside the band stand
-pub record Laid (b : Band) (Done : ℕ → ℕ → Type 0) (source : ℕ → ℕ) (xs ys : List ℕ) : Type 0 where
+pub record BandLaid (b : Band) (Done : ℕ → ℕ → Type 0) (source : ℕ → ℕ) (xs ys : List ℕ) : Type 0 where
   pub same : length ys ≡ length xs
   pub placed : (x j : ℕ) → x < b .rows → j < b .columns → Done x j
       → getD ys (b .first + bandPlace (b .rows) (b .columns) (b .to) x j) 0 ≡ source (bandPlace (b .rows) (b .columns) (b .from) x j)
@@ -54,17 +54,17 @@ pub record Laid (b : Band) (Done : ℕ → ℕ → Type 0) (source : ℕ → ℕ
   pub above : (q : ℕ) → b .first + b .rows * b .columns ≤ q → getD ys q 0 ≡ getD xs q 0
 
 -- the columns before j have
-abbrev pub LaidTo : Band → ℕ → (ℕ → ℕ) → List ℕ → List ℕ → Type 0
-LaidTo b j = Laid b (λ _ c. c < j)
+abbrev pub BandLaidTo : Band → ℕ → (ℕ → ℕ) → List ℕ → List ℕ → Type 0
+BandLaidTo b j = BandLaid b (λ _ c. c < j)
 
 -- if the columns before j had, then those before j + wide have
 pub record PieceLaid (b : Band) (j wide : ℕ) (source : ℕ → ℕ) (ys zs : List ℕ) : Type 0 where
   pub same : length zs ≡ length ys
-  pub laid : (xs : List ℕ) → LaidTo b j source xs ys → LaidTo b (j + wide) source xs zs
+  pub laid : (xs : List ℕ) → BandLaidTo b j source xs ys → BandLaidTo b (j + wide) source xs zs
 
 -- the band has moved within the buffer; scratch past its words is as it was
 abbrev pub BandMoved : Band → List ℕ → List ℕ → List ℕ → List ℕ → Type 0
-BandMoved b xs ys scratch held = LaidTo b (b .columns) (λ p. getD xs (b .first + p) 0) xs ys × Past (b .rows * b .columns) scratch held
+BandMoved b xs ys scratch held = BandLaidTo b (b .columns) (λ p. getD xs (b .first + p) 0) xs ys × Past (b .rows * b .columns) scratch held
 
 -- a block and its tiles, where the buffer is the block and scratch has room for a band
 pub record Converts (t : Tiling) (buf scratch : List ℕ) : Type 0 where

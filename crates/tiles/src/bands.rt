@@ -1,10 +1,9 @@
 // Bands of a block, as many rows as a tile is high: lifted into scratch and laid back, from tiles of one width to tiles of another. Tiles at least as
 // wide as the block are its rows, so that a block goes into tiles and back by one way.
-ghost use mathlib.Core.Path.{_≡_};
-ghost use Prim.Native.Nat.{_+_, _*_, _<_, _≤_, min};
+ghost use Prim.Native.Nat.{_+_, _*_, _<_, _≤_};
 ghost use lib.ListN.{length, getD};
 ghost use Rattle.moves.specs.Stretch.{Stretch};
-ghost use Rattle.tiles.specs.Private.{Aligned, RowsAt, BandFits, PieceAt, LaidTo, PieceLaid, BandMoved, Converts, BlockMoved, Converted};
+ghost use Rattle.tiles.specs.Private.{Aligned, RowsAt, BandFits, PieceAt, BandLaidTo, PieceLaid, BandMoved, Converts, BlockMoved, Converted};
 
 // A block that is tiled anew: its sides, how high its tiles are, and how wide before and afterwards.
 pub(crate) struct Tiling {
@@ -77,7 +76,7 @@ fn lay_piece(buf: &mut [u32], scratch: &[u32], b: Band, j: usize, wide: usize)
 // The columns of the band receive their words from scratch, tile by tile of the narrower tiles.
 fn lay(buf: &mut [u32], scratch: &[u32], b: Band)
     requires { ⌜ BandFits b (now buf) (now scratch) ⌝ }
-    ensures { λ _. ⌜ LaidTo b (b .columns) (λ p. getD (now (scratch .entry)) p 0) (now (buf .entry)) (now (buf .exit)) ⌝ }
+    ensures { λ _. ⌜ BandLaidTo b (b .columns) (λ p. getD (now (scratch .entry)) p 0) (now (buf .entry)) (now (buf .exit)) ⌝ }
 {
     let step = moves::smaller(b.from, b.to);
     let mut j = 0;

@@ -18,8 +18,8 @@ use Rattle.writer.specs.Writer.{shortBytes, nothingWritten, written, wri
 use Rattle.writer.proofs.InFull.{none-written, all-written}
 
 -- what is promised of a text, whichever the number
-abbrev Told : ℕ → List ℕ → List ℕ → Written → List ℕ → Type 0
-Told k text out answered out′ = (answered ≡ written k text) × (out′ ≡ writtenTo k text out)
+abbrev Answered : ℕ → List ℕ → List ℕ → Written → List ℕ → Type 0
+Answered k text out answered out′ = (answered ≡ written k text) × (out′ ≡ writtenTo k text out)
 
 -- the checks of a block, those of the second line's numbers, and the room for the text
 module _ (ds words : List ℕ) (middle : List Check) (text out : List ℕ) where
@@ -29,11 +29,11 @@ module _ (ds words : List ℕ) (middle : List Check) (text out : List ℕ) where
   abbrev all : ℕ
   all = firstOf (sheetChecks ds words ++ (middle ++ room-check))
 
-  refused-so : {k : ℕ} {answered : Written} → all ≡ k → (k ≡ 0 → ⊥) → answered ≡ nothingWritten k → Told all text out answered out
+  refused-so : {k : ℕ} {answered : Written} → all ≡ k → (k ≡ 0 → ⊥) → answered ≡ nothingWritten k → Answered all text out answered out
   refused-so e z a = rw e (none-written text out z a)
 
   -- by one of the checks of the block
-  told-block : {k : ℕ} {answered : Written} → k ≡ firstOf (sheetChecks ds words) → (k ≡ 0 → ⊥) → answered ≡ nothingWritten k → Told all text out answered out
+  told-block : {k : ℕ} {answered : Written} → k ≡ firstOf (sheetChecks ds words) → (k ≡ 0 → ⊥) → answered ≡ nothingWritten k → Answered all text out answered out
   told-block e z a = refused-so (refused-first (sheetChecks ds words) (middle ++ room-check) (λ o. z (e ∙ o)) ∙ sym e) z a
 
   -- the block is right
@@ -42,14 +42,14 @@ module _ (ds words : List ℕ) (middle : List Check) (text out : List ℕ) where
     left = through (sheetChecks ds words) (middle ++ room-check) tt b
 
     -- by one of the numbers of the second line
-    told-middle : {k : ℕ} {answered : Written} → k ≡ firstOf middle → (k ≡ 0 → ⊥) → answered ≡ nothingWritten k → Told all text out answered out
+    told-middle : {k : ℕ} {answered : Written} → k ≡ firstOf middle → (k ≡ 0 → ⊥) → answered ≡ nothingWritten k → Answered all text out answered out
     told-middle e z a = refused-so (left ∙ refused-first middle room-check (λ o. z (e ∙ o)) ∙ sym e) z a
 
     -- the numbers are right, too: the room decides
     only-room : T (refusing middle) → firstOf middle ≡ 0 → all ≡ roomNumber text out
     only-room r m = left ∙ through middle room-check r m
 
-    told-text : {answered : Written} {out′ : List ℕ} → T (refusing middle) → firstOf middle ≡ 0 → TextWritten text out answered out′ → Told all text out answered out′
+    told-text : {answered : Written} {out′ : List ℕ} → T (refusing middle) → firstOf middle ≡ 0 → TextWritten text out answered out′ → Answered all text out answered out′
     told-text r m t = rw (only-room r m) (t .answers, t .bytes)
 
     all-zero : T (refusing middle) → firstOf middle ≡ 0 → length text ≤ length out → all ≡ 0
@@ -72,7 +72,7 @@ module _ (text out : List ℕ) where
 
 -- the writer that names no release
 module _ {ds : List ℕ} {order : ℕ} {words out : List ℕ} {answered : Written} (held : SheetNumbers words) where
-  told : {out′ : List ℕ} → Told (writerNumber ds order words out) (resultText ds order words) out answered out′ → WriteResultPromise ds order words out answered out′
+  told : {out′ : List ℕ} → Answered (writerNumber ds order words out) (resultText ds order words) out answered out′ → WriteResultPromise ds order words out answered out′
   told t = record { answers = t .0; bytes = t .1; held = held }
 
   pub refused-block : {k : ℕ} → k ≡ firstOf (sheetChecks ds words) → (k ≡ 0 → ⊥) → answered ≡ nothingWritten k → WriteResultPromise ds order words out answered out
@@ -89,7 +89,7 @@ module _ {ds : List ℕ} {order : ℕ} {words out : List ℕ} {answered : Writte
 
 -- the writer that names one
 module _ {ds : List ℕ} {release order : ℕ} {words out : List ℕ} {answered : Written} (held : SheetNumbers words) where
-  told-by : {out′ : List ℕ} → Told (releaseNumber ds release order words out) (resultBy ds release order words) out answered out′
+  told-by : {out′ : List ℕ} → Answered (releaseNumber ds release order words out) (resultBy ds release order words) out answered out′
       → WriteReleasePromise ds release order words out answered out′
   told-by t = record { answers = t .0; bytes = t .1; held = held }
 

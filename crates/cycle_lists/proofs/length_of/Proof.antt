@@ -2,8 +2,9 @@
 use Rattle.lists.proofs.Kit.{true, false, _≡_, refl, ℕ, _*_, _-_, arith}
 use Rattle.cycles.specs.Orbit.{period}
 use Rattle.cycles.specs.Cycles.{takes, isLeast}
+use Rattle.cycles.proofs.Orbit.{period-le}
 use Rattle.cycles.proofs.Takes.{takes-permutes}
-use Rattle.cycles.proofs.Follow.{Followed, most, low, starts, goes-on, below-not-least, home-least, home-whole}
+use Rattle.cycles.proofs.Follow.{Followed, low, starts, goes-on, below-not-least, home-least, home-whole}
 use Rattle.cycle_lists.specs.Private.{lengthOf}
 use Rattle.cycle_lists.proofs.length_of.Statement.{statement}
 use Rattle.cycle_lists.proofs.length_of.Tie as tie
@@ -37,7 +38,7 @@ step-requires-2 c κs =
 add-count : tie.Need-add-count Inv-loop μ-loop
 add-count c =
     let l : tie.At-loop Inv-loop μ-loop = search in let s : tie.Start Inv-loop μ-loop = search in
-    omega (arith, l .loop .inv .before, most (takes-permutes (s .args .m) (s .args .n)) (s .args .x) (s .pre .2))
+    omega (arith, l .loop .inv .before, period-le (takes-permutes (s .args .m) (s .args .n)) (s .args .x) (s .pre .2))
 
 loop-less : tie.Need-loop-less Inv-loop μ-loop
 loop-less c =

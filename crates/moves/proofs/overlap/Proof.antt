@@ -1,5 +1,5 @@
 -- `overlap` meets its contract: two runs lie apart where they lie as far apart as they are long.
-use Rattle.lists.proofs.Kit.{_⊎_, inl, inr, ⊎-elim, _<_, _≤_, arith, needs, ltb-true, ltb-false, lt-or-ge}
+use Rattle.lists.proofs.Kit.{inl, inr, ⊎-elim, _<_, _≤_, arith, needs, ltb-true, ltb-false, lt-or-ge}
 use Rattle.moves.proofs.overlap.Statement.{statement}
 use Rattle.moves.proofs.overlap.Tie as tie
 

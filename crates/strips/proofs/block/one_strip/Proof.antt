@@ -1,4 +1,4 @@
--- `block::one_strip` meets its contract.
+-- `block::one_strip` meets its contract: long elements are few enough for a grid or make long lines both ways, short ones have a short line or none.
 use Rattle.lists.proofs.Kit.{true≢false, inl, inr, _*_, mul-le-mul, arith, needs, leb-true, leb-false}
 use Rattle.strips.proofs.Accepted.{long-lines}
 use Rattle.strips.proofs.block.one_strip.Statement.{statement}

@@ -1,4 +1,4 @@
--- `lines::batch` meets its contract.
+-- `lines::batch` meets its contract: as many rows as have room, or all that are left if these are fewer.
 use borrow.Author.Needs.{needs}
 use Rattle.strips.proofs.Widening.{batch-most, batch-all}
 use Rattle.strips.proofs.lines.batch.Statement.{statement}

@@ -1,12 +1,13 @@
 -- `strip::turned` meets its contract: in each case what is called asks no more than is known there.
 use Rattle.lists.proofs.Kit.{refl, arith, needs}
-use Rattle.strips.proofs.Bounds.{row-turned, column-turned, narrow-places, narrow-grid, narrow-small, narrow-tall, narrow-wide}
+use Rattle.grids.proofs.Turned.{one-row, one-column}
+use Rattle.strips.proofs.Bounds.{narrow-places, narrow-grid, narrow-small, narrow-tall, narrow-wide}
 use Rattle.strips.proofs.strip.turned.Statement.{statement}
 use Rattle.strips.proofs.strip.turned.Tie as tie
 
 pub turned-spec : {M : Type 1} → statement M
 turned-spec = tie.close (tie.spec
-    (λ c. (row-turned (search), refl)) (λ c. (column-turned (search), refl))
+    (λ c. (one-row _ _ (search), refl)) (λ c. let s : tie.Start = search in (one-column _ _ (s .pre .rows) (search), refl))
     (λ c κs. let s : tie.Start = search in narrow-grid (s .pre) (search))
     (search needs) (search needs)
     (λ c. let k : tie.After-turned = search in k .turned .ensures)

@@ -1,7 +1,8 @@
 -- `tile::lifted` meets its contract: elements of one word are copied at once, others row by row; the loop keeps that the rows passed stand in the tile.
 use Rattle.lists.proofs.Kit.{_≡_, _*_, _-_, _≤_, arith, needs}
+use Rattle.lists.proofs.Words.{next-run}
 use Rattle.strips.specs.PrivateMoves.{Lifted}
-use Rattle.strips.proofs.Tiles.{lifted-none, lifted-more, lifted-words, sizes, next-run}
+use Rattle.strips.proofs.Tiles.{lifted-none, lifted-more, lifted-words, sizes}
 use Rattle.strips.proofs.tile.lifted.Statement.{statement}
 use Rattle.strips.proofs.tile.lifted.Tie as tie
 

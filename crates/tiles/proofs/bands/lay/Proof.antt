@@ -1,12 +1,12 @@
 -- `lay` meets its contract: piece after piece is laid; the piece that comes next starts at a multiple of the narrower tiles' width.
 use Rattle.lists.proofs.Kit.{_≡_, _∙_, _-_, _%_, add-mod-right, zero-mod, arith, getD, needs}
-use Rattle.tiles.specs.Private.{LaidTo}
+use Rattle.tiles.specs.Private.{BandLaidTo}
 use Rattle.tiles.proofs.TileByTile.{columns-few, piece, laid-none, laid-as, fits-on}
 use Rattle.tiles.proofs.bands.lay.Statement.{statement}
 use Rattle.tiles.proofs.bands.lay.Tie as tie
 
 abbrev Inv-loop : tie.InvT-loop
-Inv-loop buf₀ scratch b step j₀ buf j = (j % step ≡ 0) × LaidTo b j (λ p. getD scratch p 0) buf₀ buf
+Inv-loop buf₀ scratch b step j₀ buf j = (j % step ≡ 0) × BandLaidTo b j (λ p. getD scratch p 0) buf₀ buf
 
 abbrev μ-loop : tie.MeasureT-loop
 μ-loop buf₀ scratch b step j₀ buf j = b .columns - j

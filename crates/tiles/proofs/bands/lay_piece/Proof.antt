@@ -1,6 +1,6 @@
 -- `lay_piece` meets its contract: row after row is copied from its place in the band to its new place.
 use Rattle.lists.proofs.Kit.{_≡_, _∙_, List, ℕ, _+_, _*_, _-_, _<_, _≤_, arith, length, getD, needs}
-use Rattle.tiles.specs.Private.{LaidTo, Laid}
+use Rattle.tiles.specs.Private.{BandLaidTo, BandLaid}
 use Rattle.tiles.proofs.TileByTile.{Until, row-within, row-more, piece-none, piece-all}
 use Rattle.tiles.proofs.bands.lay_piece.Statement.{statement}
 use Rattle.tiles.proofs.bands.lay_piece.Tie as tie
@@ -11,7 +11,7 @@ words l p = getD l p 0
 
 abbrev Inv-loop : tie.InvT-loop
 Inv-loop buf₀ scratch b j wide from to x₀ x-end buf x =
-    (x ≤ b .rows) × (length buf ≡ length buf₀) × ((xs : List ℕ) → LaidTo b j (words scratch) xs buf₀ → Laid b (Until j wide x) (words scratch) xs buf)
+    (x ≤ b .rows) × (length buf ≡ length buf₀) × ((xs : List ℕ) → BandLaidTo b j (words scratch) xs buf₀ → BandLaid b (Until j wide x) (words scratch) xs buf)
 
 abbrev μ-loop : tie.MeasureT-loop
 μ-loop buf₀ scratch b j wide from to x₀ x-end buf x = b .rows - x
