@@ -1,4 +1,6 @@
 // Four and five axes: swaps, chains of swaps, and direct requests for an order by its number.
+#![tactic(auto)]
+
 ghost use Rattle.std.specs.Prelude.{◌≡◌, ◌+◌, ◌<◌, length, take};
 ghost use Rattle.orders.specs.Chains.{exchange};
 ghost use Rattle.axes.specs.Answers.{five_lengths, refused, asked_for};

@@ -1,4 +1,6 @@
 // A camera's column taken out of a frames by cameras block within its buffer, and one put in.
+#![tactic(auto)]
+
 mod rows;
 
 ghost use Rattle.std.specs.Prelude.{◌≡◌, ◌-◌};

@@ -1,4 +1,6 @@
 // The checks that every call on a block makes, on lengths and counts. Each function is total: no caller needs to have tested anything.
+#![tactic(auto)]
+
 pub mod swaps;
 
 ghost use Rattle.std.specs.Prelude.{◌≡◌, [], ◌∷◌, ◌*◌, ◌≤◌, max, ltb};

@@ -1,4 +1,6 @@
 // The cycles of a flat turn: lists of them, bought from elsewhere, judged and run, start and length of every cycle in rising order.
+#![tactic(auto)]
+
 mod along;
 mod steps;
 

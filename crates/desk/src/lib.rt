@@ -1,4 +1,6 @@
 // The join desk: the offset and the delay of an exchange, an offset in frames, the frames that are common to all cameras.
+#![tactic(auto)]
+
 mod extremes;
 mod limits;
 mod parts;

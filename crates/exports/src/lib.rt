@@ -1,4 +1,6 @@
 // The C interface: each public call under a C name, with the promise of the call below it.
+#![tactic(auto)]
+
 ghost use Rattle.std.specs.Prelude.{◌≡◌, take};
 ghost use Rattle.flat.specs.Promises.{TurnPromise, TurnBackPromise};
 ghost use Rattle.recursion.specs.Promise.{RecursionPromise};

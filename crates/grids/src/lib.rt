@@ -1,4 +1,6 @@
 // A block of chunks turned within its buffer.
+#![tactic(auto)]
+
 mod chunks;
 mod marks;
 

@@ -1,4 +1,6 @@
 // How often a flat turn with the same sides is repeated until every block of that shape is home.
+#![tactic(auto)]
+
 ghost use Rattle.std.specs.Prelude.{◌*◌, ◌<◌, ◌≤◌};
 ghost use Rattle.home.specs.Promise.{Counts, RepeatsPromise};
 

@@ -1,4 +1,6 @@
 // The whole job of `turn`: a sheet read, its chain run, its result sheet or its refusal written.
+#![tactic(auto)]
+
 ghost use Rattle.std.specs.Prelude.{◌≤◌, length};
 ghost use Rattle.layout.specs.Layout.{volume};
 ghost use Rattle.job.specs.Job.{JobPromise};

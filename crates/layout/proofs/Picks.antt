@@ -23,10 +23,13 @@ pub pick_at : (o l : List ℕ) (k : ℕ) → k < length o → get_or (pick o l) 
 unfolding pick
 pick_at o l k h = get_d_map (λ a. get_or l a 0) o k h
 
-pub pick-pick : (o₂ o₁ l : List ℕ) → Below (length o₁) o₂ → pick o₂ (pick o₁ l) ≡ pick (pick o₂ o₁) l
+picked_twice : (o₁ l o₂ : List ℕ) → Below (length o₁) o₂ → pick o₂ (pick o₁ l) ≡ pick (pick o₂ o₁) l
 unfolding pick
-pick-pick o₂ o₁ l empty = refl
-pick-pick o₂ o₁ l (next {a} {o} h b) = ap₂ ◌∷◌ (get_d_map _ o₁ a h) (pick-pick o o₁ l b)
+picked_twice o₁ l o₂ empty = refl
+picked_twice o₁ l o₂ (next {a} {o} h b) = ap₂ ◌∷◌ (get_d_map _ o₁ a h) (picked_twice o₁ l o b)
+
+pub pick-pick : (o₂ o₁ l : List ℕ) → Below (length o₁) o₂ → pick o₂ (pick o₁ l) ≡ pick (pick o₂ o₁) l
+pick-pick o₂ o₁ l b = picked_twice o₁ l o₂ b
 
 pub pick-upto : (l : List ℕ) → pick (upto (length l)) l ≡ l
 unfolding pick
@@ -37,7 +40,7 @@ within_at a none h = absurd (not-suc-le-zero h)
 within_at zero (more h w) k = h
 within_at (suc a) (more h w) k = within_at a w (le_of_suc-le-suc k)
 
-pub within_pick : {o ds x : List ℕ} → Below (length ds) o → Within ds x → Within (pick o ds) (pick o x)
+pub within_pick : {ds o x : List ℕ} → Below (length ds) o → Within ds x → Within (pick o ds) (pick o x)
 unfolding pick
 within_pick empty w = none
 within_pick (next {a} h b) w = more (within_at a w h) (within_pick b w)

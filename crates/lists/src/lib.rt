@@ -1,1 +1,2 @@
 // Definitions and laws of lists: no function stands here.
+#![tactic(auto)]

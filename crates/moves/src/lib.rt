@@ -1,4 +1,6 @@
 // Stretches of words moved, zeroed and traded within their buffer, or copied from another. A call that names words outside changes nothing.
+#![tactic(auto)]
+
 mod pieces;
 mod runs;
 mod words;

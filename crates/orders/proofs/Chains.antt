@@ -19,8 +19,8 @@ volume-follow l (k ∷ c) = volume-follow (exchange k l) c ∙ volume-exchange k
 
 pub below_follow : {n : ℕ} {l : List ℕ} (c : List ℕ) → Below n l → Below n (follow l c)
 unfolding follow
-below_follow [] b = b
-below_follow (k ∷ c) b = below_follow c (below_exchange k b)
+below_follow {n} {l} [] b = b
+below_follow {n} {l} (k ∷ c) b = below_follow {l = exchange k l} c (below_exchange k b)
 
 -- one chain after another
 pub follow-append : (l s t : List ℕ) → follow l (s ++ t) ≡ follow (follow l s) t

@@ -50,8 +50,8 @@ arranged_exchange (suc k) (first t s) = first t (arranged_exchange k s)
 
 arranged_follow : {o axes : List ℕ} (c : List ℕ) → Arranged o axes → Arranged (follow o c) axes
 unfolding follow
-arranged_follow [] s = s
-arranged_follow (k ∷ c) s = arranged_follow c (arranged_exchange k s)
+arranged_follow {o} {axes} [] s = s
+arranged_follow {o} {axes} (k ∷ c) s = arranged_follow {o = exchange k o} c (arranged_exchange k s)
 
 itself : (l : List ℕ) → Arranged l l
 itself [] = none

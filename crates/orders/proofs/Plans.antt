@@ -171,12 +171,20 @@ plan_is r c = record {
   first = λ d e l. planned_sooner r (falling (named r c)) c d refl e (l ∙ length_plan (named r c));
 }
 
+either_first : {c d d' c' : List ℕ} → Sooner c d → Sooner d' c' → d ≡ d' → c ≡ c' → c ≡ d
+either_first ends ends e f = sym e
+either_first ends (less h) e f = cc
+either_first ends (then t) e f = cc
+either_first (less h) ends e f = cc
+either_first (less {j} {k} h) (less {j = j'} {k = k'} g) e f = let p : k ≡ j' = cc in let q : j ≡ k' = cc in absurd (omega arith)
+either_first (less {j} {k} h) (then {k = k'} t) e f = let p : k ≡ k' = cc in let q : j ≡ k' = cc in absurd (omega arith)
+either_first (then s) ends e f = cc
+either_first (then {k} s) (less {j = j'} {k = k'} g) e f = let p : k ≡ j' = cc in let q : k ≡ k' = cc in absurd (omega arith)
+either_first (then {k} {c} {d} s) (then {c = c'} {d = d'} t) e f =
+    ap (λ (l : List ℕ). k ∷ l) (either_first s t (cc) (cc))
+
 sooner_both : {c d : List ℕ} → Sooner c d → Sooner d c → c ≡ d
-sooner_both ends ends = refl
-sooner_both (less h) (less g) = absurd (omega arith)
-sooner_both (less h) (then s) = absurd (omega arith)
-sooner_both (then s) (less h) = absurd (omega arith)
-sooner_both (then {k} s) (then t) = ap (λ (l : List ℕ). k ∷ l) (sooner_both s t)
+sooner_both s t = either_first s t refl refl
 
 -- an order has one plan
 pub one_plan : {r : ℕ} {o c d : List ℕ} → Plan r o c → Plan r o d → c ≡ d

@@ -1,1 +1,2 @@
 // Orders of axes, chains of swaps and plans: definitions and laws, no function.
+#![tactic(auto)]

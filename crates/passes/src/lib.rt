@@ -1,4 +1,6 @@
 // The flat turn by passes, in one call, one line a call or stages that a stop may cut, and its reverse.
+#![tactic(auto)]
+
 mod first;
 mod gcd;
 mod line;

@@ -1,4 +1,6 @@
 // The orders of four and of five axes as tables, and the plan of an order.
+#![tactic(auto)]
+
 ghost use Rattle.std.specs.Prelude.{◌≡◌, ◌≤◌, length};
 ghost use Rattle.orders.specs.Plans.{falling, plan_of};
 ghost use Rattle.plans.specs.Promise.{PlanPromise, planned_as, no_plan};

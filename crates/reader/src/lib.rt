@@ -1,4 +1,6 @@
 // The readers of sheets and of result sheets: they differ in line 2.
+#![tactic(auto)]
+
 mod field;
 mod head;
 mod line;

@@ -1,4 +1,6 @@
 // The turn by recursion: rotation by block swaps, merge and split of runs, the tall and the wide case, and the call.
+#![tactic(auto)]
+
 mod recursion;
 mod rotation;
 mod runs;

@@ -1,1 +1,2 @@
 // The numbers that come back: definitions and laws, no function.
+#![tactic(auto)]

@@ -1,4 +1,6 @@
 // A block stored as tiles within its buffer, and tiles as a block.
+#![tactic(auto)]
+
 mod bands;
 mod refusal;
 

@@ -1,4 +1,6 @@
 // Reads a sheet from standard input, runs its chain and prints the result sheet, or one line: `refused`, number, place.
+#![tactic(auto)]
+
 ghost use Rattle.std.specs.Prelude.{◌≤◌, length};
 
 use libc::{STDIN_FILENO, STDOUT_FILENO};

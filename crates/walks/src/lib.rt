@@ -1,1 +1,2 @@
 // Lines walked without a division: definitions and laws, no function.
+#![tactic(auto)]

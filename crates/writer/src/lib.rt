@@ -1,4 +1,6 @@
 // The writers of result sheets and of the refusal line.
+#![tactic(auto)]
+
 mod page;
 mod put;
 mod writer;
