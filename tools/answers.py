@@ -115,10 +115,12 @@ class Turner:
     def __init__(self, crate, entry):
         self.crate, self.e = crate, entry
         self.places = {}
+        self.lts = {}
         self.fields = {}
         self.callee = {}
         for p, new in zip(entry["places"], entry["places_by_name"]):
             self.places[norm(p[0])] = new
+            self.lts[new] = p[0]
             if p[1] is not None or p[2][0]:
                 self.fields[norm(p[2][0])] = p[2][1]
                 if len(p) > 3 and p[3]:
@@ -292,11 +294,28 @@ def turn(crate, path, entry):
                 + ["%s-%s l =%s" % (m[1], new, rhs), ""]
             )
     # helpers and answers
+    heads_open = {}
     for d in rest:
         if d.get("inv"):
             continue
         if not d["name"]:
-            ans.append(d["comment"] + ["-- LEFT: a block"] + d["lines"] + [""])
+            text = "\n".join(d["lines"])
+            heads = dict(re.findall(r"\(([^\s():]+) : tie\.([^\s()]+)", d["lines"][0]))
+            if d["lines"][0].startswith("module"):
+                heads_open.clear()
+                heads_open.update(heads)
+            for v in heads_open:
+
+                def bpath(mm, v=v):
+                    if mm[1] != v:
+                        return mm[0]
+                    new = t.fields_of(mm[2][1:].split("."))
+                    return mm[0] if new is None else v + "." + ".".join(new)
+
+                text = PATH.sub(bpath, text)
+            text = t.types(text)
+            mark = [] if heads_open and "tie." not in text and "search in" not in text else ["-- LEFT: a block"]
+            ans.append(d["comment"] + mark + text.split("\n") + [""])
             continue
         m = re.match(r"tie\.Need-([^\s]+)", d["type"])
         if m:
@@ -410,13 +429,14 @@ def turn(crate, path, entry):
         places = []
         loops = " ".join("goal.the-invariant-%s goal.the-decreases-%s" % (n, n) for _, n, _ in t.loops)
         for p in sorted(t.used):
-            places += ["abbrev %s : Type 0" % p, "%s = tie.%s%s" % (p, p, " " + loops if loops else ""), ""]
+            known = "tie.the-claims reads.Pre reads.Post" + (" " + loops if loops else "")
+            places += ["abbrev %s : Type 0" % p, "%s = lts.%s %s" % (p, t.lts.get(p, p), known), ""]
         text = "\n".join(sum(ans, []))
         words = set(TOKEN.findall(text))
         out = (header if not inv else [])
         out = header + needed(uses, words) + ["use %s.Goals as goal" % full]
         if places:
-            out.append("use %s.Tie as tie" % full)
+            out += ["use %s.%s as %s" % (full, m, m.lower()) for m in ("Lts", "Reads", "Tie")]
         out += [""] + places + ["-- LEFT: " + x for x in t.left] + sum(ans, [])
         with open(os.path.join(folder, "Answers.antt"), "w", encoding="utf-8") as f:
             f.write("\n".join(out).rstrip("\n") + "\n")

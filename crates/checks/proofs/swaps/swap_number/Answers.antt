@@ -1,14 +1,19 @@
 -- `swaps::swap_number` meets its contract: where there is a block the words decide, and where they pass, scratch does.
-use Rattle.lists.proofs.Kit.{◌≡◌, sym, ◌∙◌, true, false, List, [], ◌∷◌, ℕ, ◌<◌, ◌≤◌, arith, length, needs, lt-ltb, le-ltb, via}
+use Rattle.lists.proofs.Kit.{◌≡◌, sym, ◌∙◌, true, false, List, [], ◌∷◌, ℕ, ◌<◌, ◌≤◌, arith, length, lt-ltb, le-ltb, via}
 use Rattle.refusals.specs.FirstOf.{Check, check, first_of}
 use Rattle.refusals.specs.Conditions.{too_many_words, short_scratch}
 use Rattle.refusals.specs.Calls.{exact_checks, swap_block, swap_checks, no_block}
 use Rattle.refusals.specs.Scratch.{need}
 use Rattle.refusals.proofs.FirstOf.{refused_by, through}
-use Rattle.checks.proofs.swaps.swap_number.Statement.{statement}
+use Rattle.checks.proofs.swaps.swap_number.Goals as goal
+use Rattle.checks.proofs.swaps.swap_number.Lts as lts
+use Rattle.checks.proofs.swaps.swap_number.Reads as reads
 use Rattle.checks.proofs.swaps.swap_number.Tie as tie
 
-module _ (x : tie.Start) where
+abbrev Start : Type 0
+Start = lts.Start tie.the-claims reads.Pre reads.Post
+
+module _ (x : Start) where
   abbrev none : Type 0
   none = no_block x.args.outer x.args.m x.args.n x.args.chunk ≡ true
 
@@ -39,18 +44,14 @@ module _ (x : tie.Start) where
   accepted : some → first_of words ≡ 0 → needed ≤ length x.args.scratch.now → 0 ≡ first_of checks
   accepted s e l = sym (scratch_decides s e ∙ rw (le-ltb (length x.args.scratch.now) needed l))
 
-returns : tie.Need-returns
-returns c = let s : tie.Start = search in let e : none s = search via in rw e
+pub returns-then-no_block : goal.returns-then-no_block
+returns-then-no_block c = let e : none (search) = search via in rw e
 
-returns_2 : tie.Need-returns-2
-returns_2 c = let w : tie.After-words-number = search in refused_words (search) (search via) w.words-number.ensures c.if2.true
+pub returns-then-number-ne0 : goal.returns-then-number-ne0
+returns-then-number-ne0 c = refused_words (search) (search via) c.words_number-number.ensures c.if-number-ne0.true
 
-returns_3 : tie.Need-returns-3
-returns_3 c = short_scratch_lem (search) (search via) (search via) (omega arith)
+pub returns-then-scratch-longest_of : goal.returns-then-scratch-longest_of
+returns-then-scratch-longest_of c = short_scratch_lem (search) (search via) (search via) (omega arith)
 
-returns-4 : tie.Need-returns-4
-returns-4 c = accepted (search) (search via) (search via) (omega arith)
-
-pub swap_number_spec : {M : Type 1} → statement M
-swap_number_spec = tie.close (tie.spec
-    (search needs) returns (search needs) (λ c κs. search needs) returns_2 (search needs) (λ c κs. search needs) returns_3 returns-4)
+pub returns : goal.returns
+returns c = accepted (search) (search via) (search via) (omega arith)
