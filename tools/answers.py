@@ -390,10 +390,10 @@ def turn(crate, path, entry):
                 t.left.append("spec gives %d, goals are %d: %s" % (len(args), len(t.needs), [n for n, _ in t.needs]))
             given = {d.get("goal") for d in rest}
             for a, (old, new) in zip(args, t.needs):
-                if re.fullmatch(r"\((?:λ c(?: κs)?\. )?\(?search needs\)?\)|search", a):
+                if re.fullmatch(r"\((?:λ c(?: κs)?\. )?\(?search (?:needs|rules)\)?\)|search", a):
                     continue
                 if a.startswith("("):
-                    mm = re.match(r"\(λ ([^\s.]+)((?: [^\s.]+)*)\. (.*)\)$", a, re.S)
+                    mm = re.match(r"\(λ ([^\s.]+)((?: [^\s.]+)*)\.\s+(.*)\)$", a, re.S)
                     if not mm:
                         t.left.append("given in place: " + a)
                         continue
@@ -408,7 +408,7 @@ def turn(crate, path, entry):
                     ans.append(
                         [
                             "pub %s : goal.%s" % (new, new),
-                            "%s %s = %s" % (new, " ".join([p] + extra), body),
+                            "%s %s =%s%s" % (new, " ".join([p] + extra), "\n    " if "\n" in body else " ", body),
                             "",
                         ]
                     )
