@@ -162,7 +162,7 @@ class Turner:
         elif f in ("args", "requires", "lifetimes", "ranges", "well_formed", "type_inv"):
             out.append(f)
         else:
-            new = self.fields.get(norm(f))
+            new = self.fields.get(norm(f)) or self.fields.get(re.sub("-lem$", "", norm(f)))
             if new is None:
                 out.append(f)
                 self.left.append("no field " + f)
@@ -429,14 +429,16 @@ def turn(crate, path, entry):
         places = []
         loops = " ".join("goal.the-invariant-%s goal.the-decreases-%s" % (n, n) for _, n, _ in t.loops)
         for p in sorted(t.used):
-            known = "tie.the-claims reads.Pre reads.Post" + (" " + loops if loops else "")
+            claims = "tie.the-claims " if any(len(q) > 3 and q[3] for q in entry["places"]) else ""
+            known = claims + "reads.Pre reads.Post" + (" " + loops if loops else "")
             places += ["abbrev %s : Type 0" % p, "%s = lts.%s %s" % (p, t.lts.get(p, p), known), ""]
         text = "\n".join(sum(ans, []))
         words = set(TOKEN.findall(text))
         out = (header if not inv else [])
         out = header + needed(uses, words) + ["use %s.Goals as goal" % full]
         if places:
-            out += ["use %s.%s as %s" % (full, m, m.lower()) for m in ("Lts", "Reads", "Tie")]
+            called = any(len(q) > 3 and q[3] for q in entry["places"])
+            out += ["use %s.%s as %s" % (full, m, m.lower()) for m in ("Lts", "Reads") + (("Tie",) if called else ())]
         out += [""] + places + ["-- LEFT: " + x for x in t.left] + sum(ans, [])
         with open(os.path.join(folder, "Answers.antt"), "w", encoding="utf-8") as f:
             f.write("\n".join(out).rstrip("\n") + "\n")

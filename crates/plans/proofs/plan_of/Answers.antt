@@ -1,0 +1,7 @@
+-- `plans::plan_of` meets its contract: the swaps computed are the plan's, as many as there are falling pairs.
+use Rattle.plans.proofs.Given.{as_planned}
+use Rattle.plans.proofs.plan_of.Goals as goal
+
+pub returns : goal.returns
+returns c =
+    as_planned _ c.falling_pairs-count.ensures c.planned_swaps-swaps.ensures
