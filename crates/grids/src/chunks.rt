@@ -11,7 +11,7 @@ ghost use Rattle.grids.specs.Private.{mirror, fold, half, pairs, bit_at, Follows
 use crate::marks;
 
 // A block of m rows and n columns of chunks, the inverse of m that a step multiplies by, and how many words a chunk has.
-#[derive(Drop)]
+#[derive(Clone, Copy)]
 pub(crate) struct Grid {
     pub m: usize,
     pub n: usize,
@@ -96,7 +96,7 @@ fn keep_both(kept: &mut [u32], buf: &[u32], g: Grid, p: usize)
 // Place p receives the chunk of place x, and its mirrored place that of the mirrored one.
 fn carry_both(buf: &mut [u32], g: Grid, p: usize, x: usize)
     requires fits { Fits g buf.old × (p < g.n * g.m) × (x < g.n * g.m) }
-    requires fact { (p ≡ x → ⊥) × (p ≡ mirror (g.n * g.m) p → ⊥) × (mirror (g.n * g.m) x ≡ p → ⊥) }
+    requires apart { (p ≡ x → ⊥) × (p ≡ mirror (g.n * g.m) p → ⊥) × (mirror (g.n * g.m) x ≡ p → ⊥) }
     ensures { BothFrom (g.n * g.m) g.chunk p x buf.old buf.new }
 {
     carry(buf, g, p, x);
@@ -106,7 +106,7 @@ fn carry_both(buf: &mut [u32], g: Grid, p: usize, x: usize)
 // The same, and the pair of x is marked: its places are free then.
 fn advance(buf: &mut [u32], marks: &mut [u32], g: Grid, p: usize, x: usize)
     requires fits { Fits g buf.old × (p < g.n * g.m) × (x < g.n * g.m) × (g.n * g.m ≤ 64 * length marks.old) }
-    requires fact { (p ≡ x → ⊥) × (p ≡ mirror (g.n * g.m) p → ⊥) × (mirror (g.n * g.m) x ≡ p → ⊥) }
+    requires apart { (p ≡ x → ⊥) × (p ≡ mirror (g.n * g.m) p → ⊥) × (mirror (g.n * g.m) x ≡ p → ⊥) }
     ensures both_from { BothFrom (g.n * g.m) g.chunk p x buf.old buf.new }
     ensures marked_too { MarkedToo (fold (g.n * g.m) x) marks.old marks.new }
 {
@@ -164,7 +164,7 @@ fn trade(buf: &mut [u32], g: Grid, p: usize, x: usize)
 // Places p and x trade their chunks, and their mirrored places trade theirs.
 fn trade_both(buf: &mut [u32], g: Grid, p: usize, x: usize)
     requires fits { Fits g buf.old × (p < g.n * g.m) × (x < g.n * g.m) × (x ≡ mirror (g.n * g.m) x → ⊥) }
-    requires fact { (p ≡ x → ⊥) × (p ≡ mirror (g.n * g.m) p → ⊥) × (mirror (g.n * g.m) x ≡ p → ⊥) }
+    requires apart { (p ≡ x → ⊥) × (p ≡ mirror (g.n * g.m) p → ⊥) × (mirror (g.n * g.m) x ≡ p → ⊥) }
     ensures { BothTraded (g.n * g.m) g.chunk p x buf.old buf.new }
 {
     trade(buf, g, p, x);
@@ -174,7 +174,7 @@ fn trade_both(buf: &mut [u32], g: Grid, p: usize, x: usize)
 // The same, and the pair of x is marked.
 fn trade_on(buf: &mut [u32], marks: &mut [u32], g: Grid, p: usize, x: usize)
     requires fits { Fits g buf.old × (p < g.n * g.m) × (x < g.n * g.m) × (x ≡ mirror (g.n * g.m) x → ⊥) × (g.n * g.m ≤ 64 * length marks.old) }
-    requires fact { (p ≡ x → ⊥) × (p ≡ mirror (g.n * g.m) p → ⊥) × (mirror (g.n * g.m) x ≡ p → ⊥) }
+    requires apart { (p ≡ x → ⊥) × (p ≡ mirror (g.n * g.m) p → ⊥) × (mirror (g.n * g.m) x ≡ p → ⊥) }
     ensures both_traded { BothTraded (g.n * g.m) g.chunk p x buf.old buf.new }
     ensures marked_too { MarkedToo (fold (g.n * g.m) x) marks.old marks.new }
 {

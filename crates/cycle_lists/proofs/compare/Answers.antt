@@ -1,5 +1,5 @@
 -- `compare` meets its contract. The loop's invariant: the pairs so far agree, and what follows them decides; the measure is the offsets left.
-use Rattle.lists.proofs.Kit.{arith, not-true, not-false, via}
+use Rattle.lists.proofs.Kit.{arith, via}
 use Rattle.cycles.proofs.Stepping.{columns}
 use Rattle.cycle_lists.proofs.Comparing.{starts, passed_over, found, another, surplus, whole}
 use Rattle.cycle_lists.proofs.compare.Goals as goal
@@ -19,14 +19,14 @@ pair_is-requires c = omega (arith, c.loop-x.invariant.few, c.loop-x.invariant.wi
 
 pub returns-then-not-pair_is : goal.returns-then-not-pair_is
 returns-then-not-pair_is c =
-    another c.args.m c.args.n c.args.list.now c.loop-x.invariant (search) _ c.length_of-length.ensures (search) (via (not-true _ c.if-not-pair_is.true) c.pair_is.ensures)
+    another c.args.m c.args.n c.args.list.now c.loop-x.invariant (search) _ c.length_of-length.ensures (search) (via c.if-not-pair_is.true c.pair_is.ensures)
 
 pub overflow_add-place : goal.overflow_add-place
 overflow_add-place c = omega (arith, c.loop-x.invariant.few, c.loop-x.invariant.within)
 
 pub loop-x-preserved : goal.loop-x-preserved
 loop-x-preserved c =
-    found c.args.m c.args.n c.args.list.now c.loop-x.invariant (search) _ c.length_of-length.ensures (search) (via (not-false _ c.if-not-pair_is.false) c.pair_is.ensures)
+    found c.args.m c.args.n c.args.list.now c.loop-x.invariant (search) _ c.length_of-length.ensures (search) (via c.if-not-pair_is.false c.pair_is.ensures)
 
 pub overflow_mul-place : goal.overflow_mul-place
 overflow_mul-place c = record { fits = omega (arith, c.loop-x.invariant.few, c.loop-x.invariant.within) }
