@@ -132,7 +132,7 @@ small {z} h = let s = size z in fits (omega arith) (omega arith)
 
 -- what a call gave, as a local or a field holds it
 pub back : {z : ℤ} → mag z < 2 ^ 63 → to_z w64 (of_z w64 z) ≡ z
-back h = to_z-of_z (record { sfits = h })
+back h = to_z-of_z {w = w64} (record { sfits = h })
 
 pub record Room (z : ℤ) : Type 0 where
   pub up : above z < 2 ^ 63

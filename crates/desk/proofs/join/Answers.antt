@@ -1,21 +1,19 @@
 -- `join` meets its contract: refused by its counts or shifts, or by the two ends; the ends of near shifts fit 64 bits, so the machine's are these.
-use Rattle.lists.proofs.Kit.{◌≡◌, sym, ap, ap₂, ◌∙◌, Bool, true, false, cond, List, [], ◌∷◌, ℕ, ◌≤◌, ◌^◌, arith, needs, via}
+use Rattle.lists.proofs.Kit.{◌≡◌, sym, ap, ap₂, ◌∙◌, Bool, true, false, cond, List, ℕ, ◌≤◌, ◌^◌, arith, via}
 use lib.Signed.{lt_z, le_z}
 use lib.IntN.{ℤ, pos, nat_abs, ◌+ℤ◌}
 use mir.Syntax.{w64}
 use mir.Val.{SFits, to_z, of_z}
 use mir.Facts.{to_z-of_z, to_z_pos}
-use Rattle.refusals.specs.FirstOf.{check, first_of}
-use Rattle.refusals.proofs.FirstOf.{refused_by}
+use Rattle.refusals.specs.FirstOf.{first_of}
 use Rattle.desk.proofs.Ends.{near_sum, small}
 use Rattle.desk.specs.Exchange.{reading}
-use Rattle.desk.specs.Conditions.{no_common, shift_checks, join_checks}
+use Rattle.desk.specs.Conditions.{no_common, join_checks}
 use Rattle.desk.specs.Shifts.{higher_of, lower_of, through, smallest, largest, end_of}
 use Rattle.desk.proofs.Answers.{refused, accepted}
 use Rattle.desk.proofs.Accepted.{ShiftsNear, shifted, all_near}
 use Rattle.desk.proofs.Through.{through-all}
-use Rattle.desk.proofs.join.Statement.{statement}
-use Rattle.desk.proofs.join.Tie as tie
+use Rattle.desk.proofs.join.Goals as goal
 
 -- one of two numbers lies within what both lie within
 chosen : (n : ℕ) (t : Bool) (a b : ℤ) → nat_abs a ≤ n → nat_abs b ≤ n → nat_abs (cond t b a) ≤ n
@@ -72,43 +70,19 @@ module _ (shifts : List ℤ) (frames : ℕ) (good : ShiftsNear shifts frames) wh
         pair : ℤ → ℤ → ℤ × ℤ
         pair a b = (a, b)
 
-returns : tie.Need-returns
+pub overflow_add-end : goal.overflow_add-end
+overflow_add-end c =
+    let e = c.span_of-s.ensures in
+    sum_fits _ _ (shifted c.args.shifts.now c.args.frames (search via)) _ _ e.0 e.1
+
+pub returns-then-end-first : goal.returns-then-end-first
+returns-then-end-first c =
+    let e = c.span_of-s.ensures in
+    let g = shifted c.args.shifts.now c.args.frames (search via) in
+    refused (sym (number _ _ g true (tested _ _ g _ _ e.0 e.1 true c.if-end-first.true))) (λ z. omega arith)
+
+pub returns : goal.returns
 returns c =
-    let n : tie.After-shifts-number = search in let s : tie.Start = search in
-    let last = check 20 (no_common s.args.shifts.now s.args.frames) ∷ [] in
-    refused (refused_by (shift_checks s.args.shifts.now s.args.frames) last n.shifts-number.ensures c.if1.true) c.if1.true
-
-span-of-requires : tie.Need-span-of-requires
-span-of-requires c κs =
-    let s : tie.Start = search in
-    (shifted s.args.shifts.now s.args.frames (search via)).cameras
-
-cast-end : tie.Need-overflow-cast-end
-cast-end c =
-    let s : tie.Start = search in
-    let g = shifted s.args.shifts.now s.args.frames (search via) in
-    small (omega (arith, g.frames_few))
-
-add-end : tie.Need-overflow-add-end
-add-end c =
-    let p : tie.After-span-of = search in let s : tie.Start = search in
-    let e = p.Span-of.ensures in
-    sum_fits _ _ (shifted s.args.shifts.now s.args.frames (search via)) _ _ e.0 e.1
-
-returns_2 : tie.Need-returns-2
-returns_2 c =
-    let p : tie.After-span-of = search in let s : tie.Start = search in
-    let e = p.Span-of.ensures in
-    let g = shifted s.args.shifts.now s.args.frames (search via) in
-    refused (sym (number _ _ g true (tested _ _ g _ _ e.0 e.1 true c.if2.true))) (λ z. omega arith)
-
-returns_3 : tie.Need-returns-3
-returns_3 c =
-    let p : tie.After-span-of = search in let s : tie.Start = search in
-    let e = p.Span-of.ensures in
-    let g = shifted s.args.shifts.now s.args.frames (search via) in
-    accepted (number _ _ g false (tested _ _ g _ _ e.0 e.1 false c.if2.false)) (ends_kept _ _ g _ _ e.0 e.1)
-
-pub join_spec : {M : Type 1} → statement M
-join_spec = tie.close (tie.spec
-    (search needs) returns span-of-requires cast-end add-end returns_2 returns_3)
+    let e = c.span_of-s.ensures in
+    let g = shifted c.args.shifts.now c.args.frames (search via) in
+    accepted (number _ _ g false (tested _ _ g _ _ e.0 e.1 false c.if-end-first.false)) (ends_kept _ _ g _ _ e.0 e.1)

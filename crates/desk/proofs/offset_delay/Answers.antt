@@ -1,6 +1,6 @@
 -- `offset_delay` meets its contract: refused by its number, or given from the four readings. The checks have found them near, so no difference
 -- or sum overflows, and what the machine reads back from the bits of each is what it is.
-use Rattle.lists.proofs.Kit.{◌≡◌, List, ℕ, ◌^◌, ◌<◌, ◌≤◌, arith, lit<, length, needs, via}
+use Rattle.lists.proofs.Kit.{◌≡◌, List, ℕ, ◌^◌, ◌≤◌, via}
 use lib.IntN.{ℤ, nat_abs, ◌+ℤ◌, ◌-ℤ◌}
 use mir.Syntax.{w64}
 use mir.Val.{SFits, to_z, of_z}
@@ -8,11 +8,10 @@ use mir.Facts.{to_z-of_z}
 use Rattle.refusals.specs.FirstOf.{first_of}
 use Rattle.desk.specs.Exchange.{reading}
 use Rattle.desk.specs.Conditions.{measure_checks}
-use Rattle.desk.proofs.Answers.{refused, accepted}
+use Rattle.desk.proofs.Answers.{accepted}
 use Rattle.desk.proofs.Accepted.{measured}
 use Rattle.desk.proofs.Readings.{reading-kept, difference_kept, difference_fits, twice_fits, offset_fits, delay_fits}
-use Rattle.desk.proofs.offset_delay.Statement.{statement}
-use Rattle.desk.proofs.offset_delay.Tie as tie
+use Rattle.desk.proofs.offset_delay.Goals as goal
 
 -- what the checks tell of the four readings, read back from their bits
 module _ (run : List ℤ) (e : first_of (measure_checks run) ≡ 0) where
@@ -25,9 +24,6 @@ module _ (run : List ℤ) (e : first_of (measure_checks run) ≡ 0) where
   near : (k : ℕ) → nat_abs (reading run k) ≤ 2 ^ 60
   near = (measured run e).near
 
-  place : (k : ℕ) → k < 4 → k < length run
-  place k h = omega (arith, (measured run e).four)
-
   apart_fits : (j k : ℕ) → SFits w64 (kept j -ℤ kept k)
   apart_fits j k = simp (reading-kept run near) (difference_fits run near j k)
 
@@ -37,25 +33,27 @@ module _ (run : List ℤ) (e : first_of (measure_checks run) ≡ 0) where
   rest-fits : SFits w64 (apart 3 0 -ℤ apart 2 1)
   rest-fits = simp (reading-kept run near, difference_kept run near) (delay_fits run near)
 
-returns_2 : tie.Need-returns-2
-returns_2 c =
-    let s : tie.Start = search in
-    let run = s.args.run.now in
+pub returns : goal.returns
+returns c =
+    let run = c.args.run.now in
     let n = near run (search via) in
     accepted (search via)
     (simp (reading-kept run n, difference_kept run n, to_z-of_z (twice_fits run n), to_z-of_z (offset_fits run n), to_z-of_z (delay_fits run n)))
 
-pub offset_delay_spec : {M : Type 1} → statement M
-offset_delay_spec = tie.close (tie.spec
-    (search needs) (λ c. search refused)
-    (λ c. let s : tie.Start = search in place s.args.run.now (search via) 0 (lit< tt))
-    (λ c. let s : tie.Start = search in place s.args.run.now (search via) 1 (lit< tt))
-    (λ c. let s : tie.Start = search in place s.args.run.now (search via) 2 (lit< tt))
-    (λ c. let s : tie.Start = search in place s.args.run.now (search via) 3 (lit< tt))
-    (λ c. let s : tie.Start = search in apart_fits s.args.run.now (search via) 1 0)
-    (λ c. let s : tie.Start = search in apart_fits s.args.run.now (search via) 2 3)
-    (λ c. let s : tie.Start = search in sum_fits s.args.run.now (search via))
-    (λ c. let s : tie.Start = search in apart_fits s.args.run.now (search via) 3 0)
-    (λ c. let s : tie.Start = search in apart_fits s.args.run.now (search via) 2 1)
-    (λ c. let s : tie.Start = search in rest-fits s.args.run.now (search via))
-    returns_2)
+pub overflow_sub-sum : goal.overflow_sub-sum
+overflow_sub-sum c = apart_fits c.args.run.now (search via) 1 0
+
+pub overflow_sub-sum-2 : goal.overflow_sub-sum-2
+overflow_sub-sum-2 c = apart_fits c.args.run.now (search via) 2 3
+
+pub overflow_add-sum : goal.overflow_add-sum
+overflow_add-sum c = sum_fits c.args.run.now (search via)
+
+pub overflow_sub-delay : goal.overflow_sub-delay
+overflow_sub-delay c = apart_fits c.args.run.now (search via) 3 0
+
+pub overflow_sub-delay-2 : goal.overflow_sub-delay-2
+overflow_sub-delay-2 c = apart_fits c.args.run.now (search via) 2 1
+
+pub overflow_sub-delay-3 : goal.overflow_sub-delay-3
+overflow_sub-delay-3 c = rest-fits c.args.run.now (search via)
