@@ -17,7 +17,7 @@ use Rattle.stages.proofs.Calls.{call_done, call_enough, finish_counts}
 use Rattle.stages.proofs.Lines.{steady}
 use Rattle.stages.proofs.Stops.{restart_from, stops_within, stops_long, call_stop}
 use Rattle.stages.proofs.Moves as moves
-use Rattle.passes.specs.Lines.{Moved, line_count, line_of, skipped, pos_on, received, LineMoved}
+use Rattle.passes.specs.Lines.{Moved, line_count, line_of, skipped, pos_on, received}
 use Rattle.passes.specs.PrivateScratch.{Fits}
 use Rattle.flat.specs.Promises.{TurnPromise}
 use Rattle.passes.specs.Restart.{memory, turn_lines, turn_stages, resume_checks, ResumePromise, Finished, Restarts}

@@ -9,7 +9,7 @@ use crate::walk;
 use crate::walk::{Place, Run, Walk};
 
 // The passes of a turn: over the columns, over the rows, over the columns again.
-#[derive(Drop)]
+#[derive(Clone, Copy)]
 pub(crate) enum Pass {
     First,
     Second,
@@ -17,7 +17,7 @@ pub(crate) enum Pass {
 }
 
 // A line: its pass, its row or column, where its first word stands, how far apart its words stand, how many they are.
-#[derive(Drop)]
+#[derive(Clone, Copy)]
 pub(crate) struct Line {
     pub pass: Pass,
     pub index: usize,

@@ -9,7 +9,7 @@ use crate::line::{Line, Pass};
 
 // The sides m and n, their greatest common divisor c and their quotients a and b by it, the remainder of n by m, and the columns of pass 1 that are
 // left out.
-#[derive(Drop)]
+#[derive(Clone, Copy)]
 pub(crate) struct GroupedSides {
     pub m: usize,
     pub n: usize,

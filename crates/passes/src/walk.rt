@@ -9,7 +9,7 @@ use crate::sides::GroupedSides;
 
 // A walk over groups of `size` places. In a group the place goes up by `step` modulo `modulus`. Each group starts `turn` on from where the one before
 // started, modulo `round`. Where a group has its break, at its place `split`, the place goes one more up, modulo `round`.
-#[derive(Drop)]
+#[derive(Clone, Copy)]
 pub(crate) struct Walk {
     pub step: usize,
     pub modulus: usize,
@@ -20,7 +20,7 @@ pub(crate) struct Walk {
 }
 
 // Where a walk stands: at `place`, which is place `group` of its group; the group started at `lap`.
-#[derive(Drop)]
+#[derive(Clone, Copy)]
 pub(crate) struct Place {
     pub place: usize,
     pub group: usize,
