@@ -1,16 +1,21 @@
 -- `axes::chains::chain_number` meets its contract: the checks of the block come first, then the chain is measured and searched, then scratch
 -- is measured by what the chain needs.
-use Rattle.lists.proofs.Kit.{◌≡◌, refl, sym, ◌∙◌, cond, List, [], ◌∷◌, ℕ, ◌<◌, ◌≤◌, arith, length, needs, lt-ltb, le-ltb, via}
+use Rattle.lists.proofs.Kit.{◌≡◌, refl, sym, ◌∙◌, cond, List, [], ◌∷◌, ℕ, ◌<◌, ◌≤◌, arith, length, lt-ltb, le-ltb, via}
 use Rattle.orders.specs.Needs.{chain_need}
 use Rattle.refusals.specs.FirstOf.{Check, check, first_of}
 use Rattle.refusals.specs.Conditions.{long_chain, no_swap, bad_swap, first_place, short_scratch}
 use Rattle.refusals.specs.Calls.{block_checks, chain_checks}
 use Rattle.refusals.proofs.Some.{found_place, no_place}
 use Rattle.axes.proofs.Accepted.{by_block, by_last}
-use Rattle.axes.proofs.chains.chain_number.Statement.{statement}
+use Rattle.axes.proofs.chains.chain_number.Goals as goal
+use Rattle.axes.proofs.chains.chain_number.Lts as lts
+use Rattle.axes.proofs.chains.chain_number.Reads as reads
 use Rattle.axes.proofs.chains.chain_number.Tie as tie
 
-module _ (x : tie.Start) where
+abbrev Start : Type 0
+Start = lts.Start tie.the-claims reads.Pre reads.Post
+
+module _ (x : Start) where
   abbrev lengths : List ℕ
   lengths = x.args.lengths.now
 
@@ -43,27 +48,21 @@ module _ (x : tie.Start) where
         → first_of (chain_checks r lengths x.args.buf.now scratch swaps) ≡ cond (short_scratch (chain_need lengths swaps) scratch) 4 0
     room h i = decided ∙ rw (le-ltb 32 (length swaps) h, no_place (no_swap r) swaps i)
 
-returns : tie.Need-returns
+pub returns-then-number-ne0 : goal.returns-then-number-ne0
+returns-then-number-ne0 c =
+    by_block (lengths (search)) c.args.buf.now (last (search)) c.block_number-number.ensures (search)
+
+pub returns-then-bad-count : goal.returns-then-bad-count
+returns-then-bad-count c =
+    bad (search) (search via) (omega arith) (omega (arith, c.first_above-bad.ensures))
+
+pub returns-then-scratch-need : goal.returns-then-scratch-need
+returns-then-scratch-need c =
+    sym (room (search) (search via) (omega arith) (omega arith) ∙ rw (lt-ltb (length (scratch (search))) (chain_need (lengths (search)) (swaps (search))) (omega arith)))
+
+pub returns : goal.returns
 returns c =
-    let n : tie.After-block-number = search in let x : tie.Start = search in
-    by_block (lengths x) x.args.buf.now (last x) n.block-number.ensures (search)
+    sym (room (search) (search via) (omega arith) (omega arith) ∙ rw (le-ltb (length (scratch (search))) (chain_need (lengths (search)) (swaps (search))) (omega arith)))
 
-bad-swap : tie.Need-returns-3
-bad-swap c =
-    let f : tie.After-first-above = search in let x : tie.Start = search in
-    bad x (search via) (omega arith) (omega (arith, f.first_above.ensures))
-
-returns-4 : tie.Need-returns-4
-returns-4 c =
-    let x : tie.Start = search in
-    sym (room x (search via) (omega arith) (omega arith) ∙ rw (lt-ltb (length (scratch x)) (chain_need (lengths x) (swaps x)) (omega arith)))
-
-returns-5 : tie.Need-returns-5
-returns-5 c =
-    let x : tie.Start = search in
-    sym (room x (search via) (omega arith) (omega arith) ∙ rw (le-ltb (length (scratch x)) (chain_need (lengths x) (swaps x)) (omega arith)))
-
-pub chain_number_spec : {M : Type 1} → statement M
-chain_number_spec = tie.close (tie.spec
-    (search needs) returns (λ c. long (search) (search via) (omega arith)) (search needs) (search needs) bad-swap
-    (search needs) returns-4 returns-5)
+pub returns-then-count-gt32 : goal.returns-then-count-gt32
+returns-then-count-gt32 c = long (search) (search via) (omega arith)

@@ -1,0 +1,11 @@
+-- `axes::sizes::plan_of` meets its contract: each size has its own table.
+use Rattle.lists.proofs.Kit.{◌≡◌, arith}
+use Rattle.axes.proofs.sizes.plan_of.Goals as goal
+
+pub returns-then-axes-eq4 : goal.returns-then-axes-eq4
+returns-then-axes-eq4 c = rw c.if-axes-eq4.true c.plan.ensures
+
+pub returns : goal.returns
+returns c =
+    let five : c.args.axes ≡ 5 = omega (arith, c.requires.0, c.requires.1, c.if-axes-eq4.false) in
+    rw five c.plan5.ensures
