@@ -5,7 +5,7 @@ ghost use Rattle.moves.specs.Stretch.{Stretch};
 ghost use Rattle.tiles.specs.Private.{Aligned, RowsAt, BandFits, PieceAt, BandLaidTo, PieceLaid, BandMoved, Converts, BlockMoved, Converted};
 
 // A block that is tiled anew: its sides, how high its tiles are, and how wide before and afterwards.
-#[derive(Drop)]
+#[derive(Clone, Copy)]
 pub(crate) struct Tiling {
     pub rows: usize,
     pub columns: usize,
@@ -15,7 +15,7 @@ pub(crate) struct Tiling {
 }
 
 // A band: where its first word stands, its rows and columns, and how wide its tiles are before and afterwards.
-#[derive(Drop)]
+#[derive(Clone, Copy)]
 struct Band {
     pub first: usize,
     pub rows: usize,
