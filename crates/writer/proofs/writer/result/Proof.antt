@@ -2,40 +2,44 @@
 -- contract. Each is called at the borrow's own lifetime, share and ghost name: what `line` returns is a record that is known
 -- whole, so what `put_rows` says of the last list is said of `out`'s. The borrow is given up for good. The three texts put one
 -- behind the other are the result sheet (`Puts.antt`).
-use Rattle.lists.proofs.Kit.{◌≡◌, refl, sym, ap, subst, [], ◌∷◌, List, ℕ, ◌<◌, ◌≤◌, ◌^◌, lit<, length}
+use Rattle.lists.proofs.Kit.{◌≡◌, refl, sym, ap, ◌∙◌, subst, [], ◌∷◌, List, ℕ, ◌<◌, ◌≤◌, ◌^◌, lit<, length}
 use lib.Dec.{T as Holds}
 use seplogic.Ra.Ura.{Ura}
-use seplogic.Ra.TreeShare.{full_share}
-use mir.Syntax.{named, erased, w64}
+use base.Fraction.{full_share}
+use mir.Syntax.{named, erased, w32, w64}
 use mir.Val.{Val, WT, has_ty, vint, vstruct, vnil, vcons}
 use base.Logic.{SProp, ent, sep, id⊢, ex_e, snd∗}
-use base.Fml.{Lft, Share, GName, Fml, ftrue, fat, flft}
+use base.Fml.{Lft, Share, GName, Fml, ftrue, fat, flft, fbor}
 use prog.Memory.{Memory}
 use prog.Routine.{Routine}
-use prog.Wp.{Calls, Loops, WpFn, Tables}
+use prog.Wp.{Calls, Loops, WpFn}
 use types.Logic.{Logic, sem}
 use contract.Monad.{Fun, fact}
-use contract.Running.{tables, tables_of}
+use contract.Running.{tables}
+use Rattle.std.proofs.raw_atomic.Walks.{proved}
 use types.Kit.{‵, raw, given, some, later, ◌⊛◌, ◌$◌, ◌∵◌, !, qed, by, move, keep, drop, use1, use2, use3, split, join, pick, learn, rewrite, fsplit, fjoin, feq_l, suffices, frame, await, done}
 use types.Run.{look, init, forget, stop, hop, fld, from, load, lit, addr, of_opd, and_then, no_more, assigns, land, returns, enter, alloc1, alloc0, params1, pass1, pass0, free1, free0}
 use types.Part.{agg, whole, sub, look_in}
-use sound.WpLaws.{FmC, fm_of, WpFn-mono}
+use sound.WpLaws.{FmC}
+use types.SemTy.{Body, Arr}
+use types.Hole.{Holey}
+use denote.Memory.{mem as cells_of}
 use denote.RattleType.{owns}
 use denote.Laws.{Is, shows}
-use denote.Plain.{uint_Makes, uint_vals, uint_Tells, uint_Lawful}
+use denote.Plain.{uint_row_laws, uint_Makes, uint_vals, uint_Tells, uint_Lawful}
 use denote.Builtin.{u8, u32, usize}
 use denote.Ref.{Bor, MutBor, NamedLft}
-use denote.Slice.{slice_val, MutSlice, ShrSlice, Room, finally, shr_slice_vals, mut_slice_Tells, shr_slice_Tells, shr_slice_copy}
+use denote.Slice.{slice_val, MutSlice, ShrSlice, Room, finally, shr_slice_vals, mut_slice_vals, mut_slice_Tells, shr_slice_Tells, shr_slice_copy}
 use denote.Steps.{only, owned, peeks, heard, nothing}
 use denote.Struct.Laws as LL
 use denote.Struct.Rest.{all_own, own_open, own_shut}
 use denote.Triple.Entry.{on_entry}
-use denote.Triple.Spec.{Meets, triple_of}
+use denote.Triple.Spec.{triple_of}
 use denote.Triple.Statement.{Contract, Triple}
 use denote.Triple.Call.{calls_at}
 use denote.Triple.Clauses.{ensured, lasts}
-use denote.Triple.Table.{entered, cited}
-use denote.Triple.Walked.{says, needs, Stays, stay_none, stay_none_slice, gave_slice, walk_of, Goes-none, Goes-none_slice, Goes-gave_slice, Walks, ends_at, walked, walk_Meets}
+use denote.Triple.Table.{framed}
+use denote.Triple.Walked.{says, needs, Stays, stay_none, stay_none_slice, gave_slice, walk_of, Goes-none, Goes-none_slice, Goes-gave_slice, ends_at}
 use denote.Exit.{yes}
 use denote.Signature.{plain}
 use Rattle.sheets.specs.Sheet.{rows_text}
@@ -48,11 +52,9 @@ use Rattle.writer.proofs.LineByValue.{LineT, line_vals, line_tells, line_makes, 
 use Rattle.writer.specs.contracts.writer.Writer as T
 use Rattle.writer.proofs.writer.Writer.TheLaws as T'
 use Rattle.writer.specs.contracts.writer.line as line
-use Rattle.writer.proofs.writer.line.Symbol as line-def
 use Rattle.writer.proofs.writer.line.Symbol.{name as #writer·writer·line}
 use Rattle.writer.proofs.writer.line.Met as line-thm
 use Rattle.writer.specs.contracts.page.put_rows as put-rows
-use Rattle.writer.proofs.page.put_rows.Symbol as put-rows-def
 use Rattle.writer.proofs.page.put_rows.Symbol.{name as #writer·page·put-rows}
 use Rattle.writer.proofs.page.put_rows.Met as put-rows-thm
 use Rattle.writer.specs.contracts.writer.result.Key.{name as #writer·writer·result}
@@ -86,14 +88,14 @@ module _ {M : Type 1} {𝓤 : Ura M} (𝓛 : Logic 𝓤) (mem : Memory → SProp
   line_of κ h k r = ex_e 𝓤 _ (λ ws. snd∗ 𝓤 (sem 𝓛 (lasts line.ended (κ, tt) (h, (k, tt)) ws)) (fact 𝓤 (r ≡ stored h (text_of k))))
 
 module _ {M : Type 1} {𝓤 : Ura M} (𝓛 : Logic 𝓤) (mem : Memory → SProp 𝓤) (run : Routine → Fun 𝓤) (κ κ' : Lft) (q q' : Share)
-    (b o : ℕ) (γ : GName) (ys : List ℕ) (k₁ k₂ : Line) (y : MutBor (List ℕ)) (c m : ℕ) (k₁-is : Is LineT k₁ (line_vals k₁)) (k₂-is : Is LineT k₂ (line_vals k₂))
+    (b o : ℕ) (γ : GName) (ys : List ℕ) (k₁ k₂ : Line) (y : Bor (List ℕ)) (c m : ℕ) (k₁-is : Is LineT k₁ (line_vals k₁)) (k₂-is : Is LineT k₂ (line_vals k₂))
     (c-fits : c < 2 ^ 64) (m-fits : m < 2 ^ 64) (ready : Ready ys k₁ k₂ y.now c m) where
   open 𝓛 use {H, A}
 
   abbrev α : NamedLft
   α = record { mir = named 0; lft = κ }
 
-  abbrev x : Bor (List ℕ)
+  abbrev x : MutBor (List ℕ)
   x = record { ref_ptr = (b, o); ghost_name = γ; now = ys }
 
   -- the machine values of the bytes and of the words, and what the words' borrow owns
@@ -105,6 +107,10 @@ module _ {M : Type 1} {𝓤 : Ura M} (𝓛 : Logic 𝓤) (mem : Memory → SProp
 
   abbrev Words : Fml
   Words = (ShrSlice (named 1) κ' u32).own_val y (t ∷ [])
+
+  -- the bytes' borrow, as a given-up slice of so many elements hands it back
+  abbrev Lent : ℕ → Fml
+  Lent n = fbor κ (Body (Arr (Holey (cells_of u8)) n) b o γ)
 
   -- the three texts
   abbrev one : List ℕ
@@ -153,7 +159,7 @@ module _ {M : Type 1} {𝓤 : Ura M} (𝓛 : Logic 𝓤) (mem : Memory → SProp
         (tt, ((tt, (record { fits = room_of.0 }, tt)), (record { fits = at_fits }, tt)))
 
   abbrev Arg : Type 0
-  Arg = Bor (List ℕ) × (Line × (Line × (Bor (List ℕ) × (ℕ × (ℕ × Unit {0})))))
+  Arg = MutBor (List ℕ) × (Line × (Line × (Bor (List ℕ) × (ℕ × (ℕ × Unit {0})))))
 
   abbrev a : Arg
   a = (x, (k₁, (k₂, (y, (c, (m, tt))))))
@@ -204,12 +210,12 @@ module _ {M : Type 1} {𝓤 : Ura M} (𝓛 : Logic 𝓤) (mem : Memory → SProp
 
   exits : (r : ℕ) (w : Val) (zs : List ℕ) → Put ys 0 text r zs
       → ent 𝓤 (sep 𝓤 (sep 𝓤 (A.lft κ q) (sep 𝓤 (A.lft κ' q') (sem 𝓛 ftrue)))
-      (sep 𝓤 (sem 𝓛 (finally u8 γ zs)) (sep 𝓤 (sem 𝓛 (usize.own_val r (w ∷ []))) (sem 𝓛 Words)))) (Post w)
+      (sep 𝓤 (sem 𝓛 (finally u8 γ zs)) (sep 𝓤 (sem 𝓛 (Lent (length ys))) (sep 𝓤 (sem 𝓛 (usize.own_val r (w ∷ []))) (sem 𝓛 Words))))) (Post w)
   exits r w zs e =
-      qed 𝓛 ((‵ (flft κ q) ⊛ ‵ (flft κ' q') ⊛ ‵ ftrue) ∷ ‵ (finally u8 γ zs) ∷ ‵ (usize.own_val r (w ∷ [])) ∷ ‵ Words ∷ []) ∵
+      qed 𝓛 ((‵ (flft κ q) ⊛ ‵ (flft κ' q') ⊛ ‵ ftrue) ∷ ‵ (finally u8 γ zs) ∷ ‵ (Lent (length ys)) ∷ ‵ (usize.own_val r (w ∷ [])) ∷ ‵ Words ∷ []) ∵
       suffices ! _ (ends_at 𝓛 result.ended stayed (result.clauses 𝓛 mem run) (((κ, (κ', tt)), (q, (q', tt)), tt, a, vals), tt) w r
       (zs, (tt, (tt, (tt, (tt, (tt, tt)))))) (put-length e, (tt, (tt, (tt, (tt, (tt, tt))))))) $ says ! e $ frame ! $
-      nothing ! $ owned ! usize (Is usize) (uint_Makes 𝓛 w64) m _ (refl, m-fits) $ fjoin ! $
+      fjoin ! $ nothing ! $ owned ! usize (Is usize) (uint_Makes 𝓛 w64) m _ (refl, m-fits) $ fjoin ! $
       owned ! usize (Is usize) (uint_Makes 𝓛 w64) c _ (refl, c-fits) $ fjoin ! $ move ! (3 ∷ 0 ∷ []) $ fjoin ! $
       owned ! LineT (Is LineT) (line_makes 𝓛) k₂ _ k₂-is $ fjoin ! $ owned ! LineT (Is LineT) (line_makes 𝓛) k₁ _ k₁-is $ fjoin ! $
       move ! (1 ∷ 0 ∷ []) $ fjoin ! $ done !
@@ -238,7 +244,7 @@ module _ {M : Type 1} {𝓤 : Ura M} (𝓛 : Logic 𝓤) (mem : Memory → SProp
         (init ! 6 refl (tt, ((tt, (record { fits = room.0 }, tt)), (record { fits = lit< tt }, tt)))) $
         -- what the numbers own is let go, and the words' borrow is had twice
         move ! (33 ∷ []) $ fsplit ! $ move ! (1 ∷ []) $ fsplit ! $ drop ! $ fsplit ! $ drop ! $ fsplit ! $ move ! (1 ∷ []) $ drop ! $
-        use1 𝓛 (‵ Words ⊛ ‵ Words) ((shr_slice_copy 𝓛 (named 1) κ' u32).twice y (t ∷ [])) $ split ! $
+        use1 𝓛 (‵ Words ⊛ ‵ Words) ((shr_slice_copy 𝓛 (named 1) κ' u32 (uint_row_laws w32)).twice y (t ∷ [])) $ split ! $
         -- [words; words; what the bytes' borrow owns; _15; …; the tokens]: the token of the words is set apart
         move ! (35 ∷ []) $ split ! $ nothing ! $ move ! (1 ∷ 0 ∷ []) $ join ! $ move ! (4 ∷ []) $ use1 𝓛 (‵ ((T.the_row α).own_val h₀ (mach h₀ ∷ []))) makes $
         -- line 1
@@ -290,8 +296,9 @@ module _ {M : Type 1} {𝓤 : Ura M} (𝓛 : Logic 𝓤) (mem : Memory → SProp
         split ! $ move ! (1 ∷ []) $ use1 𝓛 (some (λ (zs : List ℕ × (Unit {0} × (Unit {0} × (Unit {0} × (Unit {0} × Unit {0}))))). ‵
         (lasts put-rows.ended (κ, (κ', tt)) (h₂.out, (h₂.at, (y, (c, (m, tt))))) zs) ⊛ raw (fact 𝓤 (Put h₂.out.now h₂.at three r zs.0))))
         (id⊢ 𝓤 _) $ pick ! (λ zs.
-        split ! $ move ! (1 ∷ []) $ heard ! (Put h₂.out.now h₂.at three r zs.0) (λ e. fsplit ! $ fsplit ! $ move ! (1 ∷ []) $ feq_l ! (λ l.
-        -- [the last list; true; the tokens and the result; words; _15; …]
+        split ! $ move ! (1 ∷ []) $ heard ! (Put h₂.out.now h₂.at three r zs.0) (λ e. fsplit ! $ fsplit ! $ fsplit ! $ move ! (1 ∷ []) $ feq_l ! (λ l.
+        -- [the last list; the borrow; the tokens and the result; words; _15; …]
+        move ! (2 ∷ []) $ drop ! $ rewrite ! 1 (λ (n : ℕ). ‵ (Lent n)) (put-length put_two ∙ put-length put_one) refl $
         move ! (2 ∷ []) $ split ! $ move ! (1 ∷ []) $ peeks ! usize (Is usize) (shows 𝓛 usize) r (w ∷ []) (λ is.
         land ! (from ! (stop !)) (init ! 35 refl ((uint_Lawful 𝓛 w64).typed r _ is).0) $
         returns ! (look ! 35 refl) $ forget ! 5 refl $ forget ! 7 refl $ forget ! 9 refl $ forget ! 11 refl $ forget ! 13 refl $ forget ! 15 refl $
@@ -301,51 +308,29 @@ module _ {M : Type 1} {𝓤 : Ura M} (𝓛 : Logic 𝓤) (mem : Memory → SProp
         move ! (27 ∷ 28 ∷ []) $ free1 ! $ move ! (25 ∷ 26 ∷ []) $ free1 ! $ move ! (23 ∷ 24 ∷ []) $ free1 ! $ move ! (21 ∷ 22 ∷ []) $ free1 ! $
         move ! (19 ∷ 20 ∷ []) $ free1 ! $ move ! (17 ∷ 18 ∷ []) $ free1 ! $ move ! (15 ∷ 16 ∷ []) $ free1 ! $ move ! (13 ∷ 14 ∷ []) $ free1 ! $
         move ! (11 ∷ 12 ∷ []) $ free1 ! $ move ! (9 ∷ 10 ∷ []) $ free1 ! $ move ! (7 ∷ 8 ∷ []) $ free1 ! $ move ! (5 ∷ 6 ∷ []) $ free1 ! $ free0 ! $
-        keep ! (1 ∷ 2 ∷ 0 ∷ 4 ∷ []) $ by ! (exits r w zs.0
+        keep ! (1 ∷ 2 ∷ 3 ∷ 0 ∷ 4 ∷ []) $ by ! (exits r w zs.0
         (three_put one two three refl ready.room put_one put_two e)))))))))))))))))))))))))))))))))
 
-module _ {M : Type 1} {𝓤 : Ura M} (𝓛 : Logic 𝓤) (mem : Memory → SProp 𝓤) (run : Routine → Fun 𝓤) where
-  open 𝓛 use {H}
-
-  result_walks : (C : Calls 𝓤 H) (Λ : Loops 𝓤 H) → FmC 𝓤 H 𝓛.laws C → Triple 𝓤 (C #writer·writer·line) (LineC 𝓛 mem run)
-      → Triple 𝓤 (C #writer·page·put-rows) (PutRows 𝓛 mem run)
-      → Walks 𝓛 result.ended stayed (WpFn 𝓤 H C Λ code.function) (result.clauses 𝓛 mem run)
-  result_walks C Λ fm known-line known-rows = walked 𝓛 result.ended stayed (result.clauses 𝓛 mem run)
-      (WpFn 𝓤 H C Λ code.function)
-      (λ κs. (shr_slice_vals, (line_vals, (line_vals, (shr_slice_vals, (uint_vals w64, (uint_vals w64, tt)))))))
-      (λ κs. (
-        mut_slice_Tells (named 0) κs.0 u8,
-        (line_tells, (line_tells, (shr_slice_Tells (named 1) κs.1.0 u32, (uint_Tells w64, (uint_Tells w64, tt))))),
-      ))
-      (λ κs qs bounds a g are. needs 𝓤 (Ready a.0.now a.1.0 a.1.1.0 a.1.1.1.0.now a.1.1.1.1.0 a.1.1.1.1.1.0) _ (λ ready.
-      walk 𝓛 mem run κs.0 κs.1.0 qs.0 qs.1.0 a.0.ref_ptr.0 a.0.ref_ptr.1 a.0.ghost_name a.0.now a.1.0 a.1.1.0 a.1.1.1.0
-      a.1.1.1.1.0 a.1.1.1.1.1.0
-      are.1.0 are.1.1.0 are.1.1.1.1.0.1 are.1.1.1.1.1.0.1 ready C Λ fm known-line known-rows are.0.0.1
-      are.1.1.1.0.0.1))
-
-result_meets : {M : Type 1} {𝓤 : Ura M} (𝓛 : Logic 𝓤) → (mem : Memory → SProp 𝓤) (run : Routine → Fun 𝓤) (𝓣 : Tables 𝓤 𝓛.H)
-    → Triple 𝓤 (𝓣.C #writer·writer·line) (LineC 𝓛 mem run)
-    → Triple 𝓤 (𝓣.C #writer·page·put-rows) (PutRows 𝓛 mem run)
-    → Meets 𝓛 result.signature (WpFn 𝓤 𝓛.H 𝓣.C 𝓣.Λ code.function) (result.spec 𝓛 mem run)
-result_meets {𝓤 = 𝓤} 𝓛 mem run 𝓣 known-line known-rows =
+pub result_spec : {M : Type 1} → stated.statement M
+result_spec 𝓤 𝓛 𝓜 𝓡 wired =
+    let 𝓣 = tables 𝓤 𝓛.H 𝓜 𝓡 𝓡.env in
     let number = Goes-none 𝓛 2 (λ _. usize) yes (λ κs x f. refl) in
     let by_value = Goes-none 𝓛 2 (λ _. LineT) yes (λ κs x f. refl) in
-    walk_Meets 𝓛 result.ended stayed (
+    proved 𝓛 result.ended stayed (result.clauses 𝓛 𝓜.mem 𝓡.returns) 𝓜 𝓡 (
       Goes-gave_slice 𝓛 2 0 tt (plain (λ _. u8)),
       (
         by_value,
         (by_value, (Goes-none_slice 𝓛 2 (1 ∷ []) tt (plain (λ _. u32)) yes, (number, (number, tt)))),
       ),
-    ) (result.clauses 𝓛 mem run)
-    (WpFn 𝓤 𝓛.H 𝓣.C 𝓣.Λ code.function) (WpFn-mono 𝓤 𝓛.H 𝓛.laws 𝓣 code.function)
-    (result_walks 𝓛 mem run 𝓣.C 𝓣.Λ (fm_of 𝓤 𝓛.H 𝓛.laws 𝓣) known-line known-rows)
-
-pub result_spec : {M : Type 1} → stated.statement M
-unfolding code.routine tables_of
-result_spec 𝓤 𝓛 𝓜 𝓡 =
-    entered 𝓤 𝓛.H (triple_of 𝓛 result.signature (result.spec 𝓛 𝓜.mem 𝓡.run))
-    (tables 𝓤 𝓛.H 𝓜 𝓡 code.env).C (tables 𝓤 𝓛.H 𝓜 𝓡 code.env).Λ #writer·writer·result code.function (code.unfolded 𝓤 𝓛.H 𝓜 𝓡)
-    (result_meets 𝓛 𝓜.mem 𝓡.run (tables_of 𝓤 𝓛.H 𝓜 (tables 𝓤 𝓛.H 𝓜 𝓡 code.env))
-    (cited 𝓤 𝓛.H (LineC 𝓛 𝓜.mem 𝓡.run) 𝓜 𝓡 code.env #writer·writer·line line-def.routine code.calls-writer::writer::line (line-thm.met 𝓤 𝓛 𝓜 𝓡))
-    (cited 𝓤 𝓛.H (PutRows 𝓛 𝓜.mem 𝓡.run) 𝓜 𝓡 code.env #writer·page·put-rows put-rows-def.routine code.calls-writer::page::put-rows
-    (put-rows-thm.met 𝓤 𝓛 𝓜 𝓡)))
+    )
+    #writer·writer·result code.function (code.unfolded 𝓤 𝓛.H 𝓜 𝓡 wired)
+    (λ κs. (mut_slice_vals, (line_vals, (line_vals, (shr_slice_vals, (uint_vals w64, (uint_vals w64, tt)))))))
+    (λ κs. (
+      mut_slice_Tells (named 0) κs.0 u8,
+      (line_tells, (line_tells, (shr_slice_Tells (named 1) κs.1.0 u32, (uint_Tells w64, (uint_Tells w64, tt))))),
+    ))
+    (λ κs qs bounds a g are. needs 𝓤 (Ready a.0.now a.1.0 a.1.1.0 a.1.1.1.0.now a.1.1.1.1.0 a.1.1.1.1.1.0) _ (λ ready.
+    walk 𝓛 𝓜.mem 𝓡.returns κs.0 κs.1.0 qs.0 qs.1.0 a.0.ref_ptr.0 a.0.ref_ptr.1 a.0.ghost_name a.0.now a.1.0 a.1.1.0 a.1.1.1.0
+    a.1.1.1.1.0 a.1.1.1.1.1.0 are.1.0 are.1.1.0 are.1.1.1.1.0.1 are.1.1.1.1.1.0.1 ready 𝓣.C 𝓣.Λ (framed 𝓤 𝓛.H 𝓜 𝓣)
+    (line-thm.met 𝓤 𝓛 𝓜 𝓡 (code.calls-writer::writer::line 𝓡.env wired)) (put-rows-thm.met 𝓤 𝓛 𝓜 𝓡 (code.calls-writer::page::put_rows 𝓡.env wired))
+    are.0.0.1 are.1.1.1.0.0.1))
