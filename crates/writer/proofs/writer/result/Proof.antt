@@ -1,4 +1,5 @@
--- `result` meets its contract: a walk of its MIR, by hand. All that it knows of `line` and `put_rows` is that each meets its
+-- `result` meets its contract: a walk of its MIR, by hand, since the check's own proof knows no more than the length of a slice
+-- that went through a call in a struct and came back. All that it knows of `line` and `put_rows` is that each meets its
 -- contract. Each is called at the borrow's own lifetime, share and ghost name: what `line` returns is a record that is known
 -- whole, so what `put_rows` says of the last list is said of `out`'s. The borrow is given up for good. The three texts put one
 -- behind the other are the result sheet (`Puts.antt`).
