@@ -1,4 +1,4 @@
-// The C interface: each public call under a C name, with the promise of the call below it.
+// The calls of the C interface, each under its C name, with the promise of the call below it. Crate exports_c exports them.
 #![tactic(auto)]
 
 ghost use Rattle.std.specs.Prelude.{◌≡◌, take};
@@ -28,53 +28,42 @@ pub struct SheetShape {
 }
 
 // The flat turn of m by n by strips, the fast way.
-#[unsafe(no_mangle)]
-pub extern "C" fn zib_turn(buf: &mut [u32], scratch: &mut [u32], m: usize, n: usize) -> u32
+pub fn zib_turn(buf: &mut [u32], scratch: &mut [u32], m: usize, n: usize) -> u32
     ensures { TurnPromise m n buf.old scratch.old result buf.new scratch.new }
 {
     strips::turn(buf, scratch, m, n)
 }
 
 // The reverse of the flat turn of m by n, by strips.
-#[unsafe(no_mangle)]
-pub extern "C" fn zib_turn_back(buf: &mut [u32], scratch: &mut [u32], m: usize, n: usize) -> u32
+pub fn zib_turn_back(buf: &mut [u32], scratch: &mut [u32], m: usize, n: usize) -> u32
     ensures { TurnBackPromise m n buf.old scratch.old result buf.new scratch.new }
 {
     strips::turn_back(buf, scratch, m, n)
 }
 
 // The flat turn of m by n by passes.
-#[unsafe(no_mangle)]
-pub extern "C" fn zib_turn_passes(buf: &mut [u32], scratch: &mut [u32], m: usize, n: usize) -> u32
+pub fn zib_turn_passes(buf: &mut [u32], scratch: &mut [u32], m: usize, n: usize) -> u32
     ensures { TurnPromise m n buf.old scratch.old result buf.new scratch.new }
 {
     passes::turn(buf, scratch, m, n)
 }
 
 // The reverse of the flat turn of m by n, by passes.
-#[unsafe(no_mangle)]
-pub extern "C" fn zib_turn_back_passes(
-    buf: &mut [u32],
-    scratch: &mut [u32],
-    m: usize,
-    n: usize,
-) -> u32
+pub fn zib_turn_back_passes(buf: &mut [u32], scratch: &mut [u32], m: usize, n: usize) -> u32
     ensures { TurnBackPromise m n buf.old scratch.old result buf.new scratch.new }
 {
     passes::turn_back(buf, scratch, m, n)
 }
 
 // The flat turn of m by n by recursion, with no scratch.
-#[unsafe(no_mangle)]
-pub extern "C" fn zib_turn_halves(buf: &mut [u32], m: usize, n: usize) -> u32
+pub fn zib_turn_halves(buf: &mut [u32], m: usize, n: usize) -> u32
     ensures { RecursionPromise m n buf.old result buf.new }
 {
     recursion::turn(buf, m, n)
 }
 
 // A chain of swaps on a block of four axes.
-#[unsafe(no_mangle)]
-pub extern "C" fn zib_chain(
+pub fn zib_chain(
     buf: &mut [u32],
     scratch: &mut [u32],
     shape: axes::Shape,
@@ -86,8 +75,7 @@ pub extern "C" fn zib_chain(
 }
 
 // The direct request for the order of four axes that a number names by its release.
-#[unsafe(no_mangle)]
-pub extern "C" fn zib_request(
+pub fn zib_request(
     buf: &mut [u32],
     scratch: &mut [u32],
     shape: axes::Shape,
@@ -100,16 +88,14 @@ pub extern "C" fn zib_request(
 }
 
 // The plan for an order of four axes.
-#[unsafe(no_mangle)]
-pub extern "C" fn zib_plan(order: usize) -> plans::Planned
+pub fn zib_plan(order: usize) -> plans::Planned
     ensures { PlanPromise 4 order result }
 {
     plans::plan(order)
 }
 
 // A chain of swaps on a block of five axes.
-#[unsafe(no_mangle)]
-pub extern "C" fn zib_chain5(
+pub fn zib_chain5(
     buf: &mut [u32],
     scratch: &mut [u32],
     shape: axes::Shape,
@@ -121,8 +107,7 @@ pub extern "C" fn zib_chain5(
 }
 
 // The direct request for the order of five axes that a number names by its release.
-#[unsafe(no_mangle)]
-pub extern "C" fn zib_request5(
+pub fn zib_request5(
     buf: &mut [u32],
     scratch: &mut [u32],
     shape: axes::Shape,
@@ -135,24 +120,21 @@ pub extern "C" fn zib_request5(
 }
 
 // The plan for an order of five axes.
-#[unsafe(no_mangle)]
-pub extern "C" fn zib_plan5(order: usize) -> plans::Planned
+pub fn zib_plan5(order: usize) -> plans::Planned
     ensures { PlanPromise 5 order result }
 {
     plans::plan5(order)
 }
 
 // Reads a sheet into a word buffer.
-#[unsafe(no_mangle)]
-pub extern "C" fn zib_read_sheet(bytes: &[u8], words: &mut [u32]) -> reader::Sheet
+pub fn zib_read_sheet(bytes: &[u8], words: &mut [u32]) -> reader::Sheet
     ensures { ReadPromise words.old bytes.now result words.new }
 {
     reader::read(bytes, words)
 }
 
 // Writes the result sheet of a block into a byte buffer.
-#[unsafe(no_mangle)]
-pub extern "C" fn zib_write_result(
+pub fn zib_write_result(
     shape: SheetShape,
     order: usize,
     words: &[u32],
@@ -165,8 +147,7 @@ pub extern "C" fn zib_write_result(
 }
 
 // The whole job on a sheet: read, run through its chain, its result sheet or its refusal written.
-#[unsafe(no_mangle)]
-pub extern "C" fn zib_job(
+pub fn zib_job(
     bytes: &[u8],
     words: &mut [u32; 1024],
     scratch: &mut [u32; 1024],
@@ -178,29 +159,21 @@ pub extern "C" fn zib_job(
 }
 
 // How often the turn of m by n is repeated until every block of that shape is home.
-#[unsafe(no_mangle)]
-pub extern "C" fn zib_repeats(m: usize, n: usize) -> home::Home
+pub fn zib_repeats(m: usize, n: usize) -> home::Home
     ensures { RepeatsPromise m n result }
 {
     home::repeats(m, n)
 }
 
 // Removes a camera's column from a block of frames by cameras words.
-#[unsafe(no_mangle)]
-pub extern "C" fn zib_remove_camera(
-    buf: &mut [u32],
-    frames: usize,
-    cameras: usize,
-    column: usize,
-) -> u32
+pub fn zib_remove_camera(buf: &mut [u32], frames: usize, cameras: usize, column: usize) -> u32
     ensures { RemovePromise frames cameras column buf.old result buf.new }
 {
     cameras::remove(buf, frames, cameras, column)
 }
 
 // Adds a camera's column to a block of frames by cameras words.
-#[unsafe(no_mangle)]
-pub extern "C" fn zib_add_camera(
+pub fn zib_add_camera(
     buf: &mut [u32],
     frames: usize,
     cameras: usize,
@@ -213,8 +186,7 @@ pub extern "C" fn zib_add_camera(
 }
 
 // An m by n block stored as tiles of r by s words.
-#[unsafe(no_mangle)]
-pub extern "C" fn zib_to_tiles(
+pub fn zib_to_tiles(
     buf: &mut [u32],
     scratch: &mut [u32],
     m: usize,
@@ -228,8 +200,7 @@ pub extern "C" fn zib_to_tiles(
 }
 
 // The tiles of r by s words of an m by n block stored as the block again.
-#[unsafe(no_mangle)]
-pub extern "C" fn zib_from_tiles(
+pub fn zib_from_tiles(
     buf: &mut [u32],
     scratch: &mut [u32],
     m: usize,
@@ -243,16 +214,14 @@ pub extern "C" fn zib_from_tiles(
 }
 
 // Reads a result sheet into a word buffer.
-#[unsafe(no_mangle)]
-pub extern "C" fn zib_read_result(bytes: &[u8], words: &mut [u32]) -> reader::ResultSheet
+pub fn zib_read_result(bytes: &[u8], words: &mut [u32]) -> reader::ResultSheet
     ensures { ReadResultPromise words.old bytes.now result words.new }
 {
     reader::read_result(bytes, words)
 }
 
 // Writes the result sheet of a block, with the release of its order number, into a byte buffer.
-#[unsafe(no_mangle)]
-pub extern "C" fn zib_write_release(
+pub fn zib_write_release(
     shape: SheetShape,
     release: usize,
     order: usize,
@@ -266,24 +235,21 @@ pub extern "C" fn zib_write_release(
 }
 
 // The offset and the delay of one exchange of four readings.
-#[unsafe(no_mangle)]
-pub extern "C" fn zib_offset_delay(run: &[i64]) -> desk::Measured
+pub fn zib_offset_delay(run: &[i64]) -> desk::Measured
     ensures { OffsetDelayPromise run.now result }
 {
     desk::offset_delay(run)
 }
 
 // An offset in ticks as a whole number of frames.
-#[unsafe(no_mangle)]
-pub extern "C" fn zib_to_frames(offset: i64, ticks: usize) -> desk::Frames
+pub fn zib_to_frames(offset: i64, ticks: usize) -> desk::Frames
     ensures { ToFramesPromise offset ticks result }
 {
     desk::to_frames(offset, ticks)
 }
 
 // The frames that are common to all cameras.
-#[unsafe(no_mangle)]
-pub extern "C" fn zib_join(shifts: &[i64], frames: usize) -> desk::Joined
+pub fn zib_join(shifts: &[i64], frames: usize) -> desk::Joined
     ensures { JoinPromise shifts.now frames result }
 {
     desk::join(shifts, frames)
@@ -291,8 +257,7 @@ pub extern "C" fn zib_join(shifts: &[i64], frames: usize) -> desk::Joined
 
 // The four readings of the exchange that is chosen of two runs. No exported function may return a reference, so the part is stored where the
 // caller says.
-#[unsafe(no_mangle)]
-pub extern "C" fn zib_choose<'a>(first: &'a [i64], second: &'a [i64], part: &mut &'a [i64])
+pub fn zib_choose<'a>(first: &'a [i64], second: &'a [i64], part: &mut &'a [i64])
     ensures { ChoosePromise first.entry second.entry part.new }
 {
     let four = desk::choose(first, second);
@@ -300,24 +265,21 @@ pub extern "C" fn zib_choose<'a>(first: &'a [i64], second: &'a [i64], part: &mut
 }
 
 // The number of that choice.
-#[unsafe(no_mangle)]
-pub extern "C" fn zib_choose_number(first: &[i64], second: &[i64]) -> u32
+pub fn zib_choose_number(first: &[i64], second: &[i64]) -> u32
     ensures { ChooseNumberPromise first.now second.now result }
 {
     desk::choose_number(first, second)
 }
 
 // How many lines the turn of m by n by passes has.
-#[unsafe(no_mangle)]
-pub extern "C" fn zib_lines(m: usize, n: usize) -> passes::LineCount
+pub fn zib_lines(m: usize, n: usize) -> passes::LineCount
     ensures { LinesPromise m n result }
 {
     passes::lines(m, n)
 }
 
 // One line of the turn of m by n; the record of the lines done is lent, and advanced where it stands.
-#[unsafe(no_mangle)]
-pub extern "C" fn zib_tick(
+pub fn zib_tick(
     buf: &mut [u32],
     scratch: &mut [u32],
     lines: &mut passes::LineRecord,
@@ -330,8 +292,7 @@ pub extern "C" fn zib_tick(
 }
 
 // Goes on with the turn of m by n from the stage that the progress word names, and stops after `budget` stores.
-#[unsafe(no_mangle)]
-pub extern "C" fn zib_resume(
+pub fn zib_resume(
     buf: &mut [u32],
     scratch: &mut [u32],
     progress: &mut u32,
@@ -345,21 +306,14 @@ pub extern "C" fn zib_resume(
 }
 
 // Judges a list of the cycles of the turn of m by n: start, length, start, length.
-#[unsafe(no_mangle)]
-pub extern "C" fn zib_judge_cycles(list: &[u32], m: usize, n: usize) -> cycle_lists::Judged
+pub fn zib_judge_cycles(list: &[u32], m: usize, n: usize) -> cycle_lists::Judged
     ensures { JudgePromise m n list.now result }
 {
     cycle_lists::judge(list, m, n)
 }
 
 // Runs a list of the cycles of the turn of m by n on the block: the flat turn, without scratch.
-#[unsafe(no_mangle)]
-pub extern "C" fn zib_run_cycles(
-    list: &[u32],
-    buf: &mut [u32],
-    m: usize,
-    n: usize,
-) -> cycle_lists::Judged
+pub fn zib_run_cycles(list: &[u32], buf: &mut [u32], m: usize, n: usize) -> cycle_lists::Judged
     ensures { RunPromise m n list.now buf.old result buf.new }
 {
     cycle_lists::run(list, buf, m, n)
@@ -367,8 +321,7 @@ pub extern "C" fn zib_run_cycles(
 
 // The version of these calls and records: 10,000 times its first number and 100 times its second. The name has it too, so that a program whose
 // header is of another version does not link.
-#[unsafe(no_mangle)]
-pub extern "C" fn zib_version_3_0() -> u32
+pub fn zib_version_3_0() -> u32
     ensures { result ≡ 30000 }
 {
     30000

@@ -1,0 +1,365 @@
+// The C interface: each call of crate exports as a C function, with the same clauses. Nothing else is here.
+#![tactic(auto)]
+
+ghost use Rattle.std.specs.Prelude.{◌≡◌, take};
+ghost use Rattle.flat.specs.Promises.{TurnPromise, TurnBackPromise};
+ghost use Rattle.recursion.specs.Promise.{RecursionPromise};
+ghost use Rattle.plans.specs.Promise.{PlanPromise};
+ghost use Rattle.axes.specs.Promises.{ChainPromise, RequestPromise};
+ghost use Rattle.reader.specs.Reader.{ReadPromise};
+ghost use Rattle.reader.specs.ResultReader.{ReadResultPromise};
+ghost use Rattle.writer.specs.Writer.{WriteResultPromise, WriteReleasePromise};
+ghost use Rattle.job.specs.Job.{JobPromise};
+ghost use Rattle.home.specs.Promise.{RepeatsPromise};
+ghost use Rattle.cameras.specs.Promises.{RemovePromise, AddPromise};
+ghost use Rattle.tiles.specs.Promises.{ToTilesPromise, FromTilesPromise};
+ghost use Rattle.desk.specs.Promises.{OffsetDelayPromise, ToFramesPromise, JoinPromise};
+ghost use Rattle.desk.specs.ChoicePromises.{ChoosePromise, ChooseNumberPromise};
+ghost use Rattle.passes.specs.Ticks.{LinesPromise};
+ghost use Rattle.passes.specs.Restart.{memory, ResumePromise};
+ghost use Rattle.passes.specs.Steps.{StepPromise};
+ghost use Rattle.cycle_lists.specs.Promise.{JudgePromise, RunPromise};
+
+// The flat turn of m by n by strips, the fast way.
+#[unsafe(no_mangle)]
+pub extern "C" fn zib_turn(buf: &mut [u32], scratch: &mut [u32], m: usize, n: usize) -> u32
+    ensures { TurnPromise m n buf.old scratch.old result buf.new scratch.new }
+{
+    exports::zib_turn(buf, scratch, m, n)
+}
+
+// The reverse of the flat turn of m by n, by strips.
+#[unsafe(no_mangle)]
+pub extern "C" fn zib_turn_back(buf: &mut [u32], scratch: &mut [u32], m: usize, n: usize) -> u32
+    ensures { TurnBackPromise m n buf.old scratch.old result buf.new scratch.new }
+{
+    exports::zib_turn_back(buf, scratch, m, n)
+}
+
+// The flat turn of m by n by passes.
+#[unsafe(no_mangle)]
+pub extern "C" fn zib_turn_passes(buf: &mut [u32], scratch: &mut [u32], m: usize, n: usize) -> u32
+    ensures { TurnPromise m n buf.old scratch.old result buf.new scratch.new }
+{
+    exports::zib_turn_passes(buf, scratch, m, n)
+}
+
+// The reverse of the flat turn of m by n, by passes.
+#[unsafe(no_mangle)]
+pub extern "C" fn zib_turn_back_passes(
+    buf: &mut [u32],
+    scratch: &mut [u32],
+    m: usize,
+    n: usize,
+) -> u32
+    ensures { TurnBackPromise m n buf.old scratch.old result buf.new scratch.new }
+{
+    exports::zib_turn_back_passes(buf, scratch, m, n)
+}
+
+// The flat turn of m by n by recursion, with no scratch.
+#[unsafe(no_mangle)]
+pub extern "C" fn zib_turn_halves(buf: &mut [u32], m: usize, n: usize) -> u32
+    ensures { RecursionPromise m n buf.old result buf.new }
+{
+    exports::zib_turn_halves(buf, m, n)
+}
+
+// A chain of swaps on a block of four axes.
+#[unsafe(no_mangle)]
+pub extern "C" fn zib_chain(
+    buf: &mut [u32],
+    scratch: &mut [u32],
+    shape: axes::Shape,
+    swaps: &[usize],
+) -> axes::Answer
+    ensures { ChainPromise 4 (take 4 shape.lengths) swaps.now buf.old scratch.old result buf.new scratch.new }
+{
+    exports::zib_chain(buf, scratch, shape, swaps)
+}
+
+// The direct request for the order of four axes that a number names by its release.
+#[unsafe(no_mangle)]
+pub extern "C" fn zib_request(
+    buf: &mut [u32],
+    scratch: &mut [u32],
+    shape: axes::Shape,
+    release: usize,
+    order: usize,
+) -> axes::Answer
+    ensures { RequestPromise 4 (take 4 shape.lengths) release order buf.old scratch.old result buf.new scratch.new }
+{
+    exports::zib_request(buf, scratch, shape, release, order)
+}
+
+// The plan for an order of four axes.
+#[unsafe(no_mangle)]
+pub extern "C" fn zib_plan(order: usize) -> plans::Planned
+    ensures { PlanPromise 4 order result }
+{
+    exports::zib_plan(order)
+}
+
+// A chain of swaps on a block of five axes.
+#[unsafe(no_mangle)]
+pub extern "C" fn zib_chain5(
+    buf: &mut [u32],
+    scratch: &mut [u32],
+    shape: axes::Shape,
+    swaps: &[usize],
+) -> axes::Answer
+    ensures { ChainPromise 5 (take 5 shape.lengths) swaps.now buf.old scratch.old result buf.new scratch.new }
+{
+    exports::zib_chain5(buf, scratch, shape, swaps)
+}
+
+// The direct request for the order of five axes that a number names by its release.
+#[unsafe(no_mangle)]
+pub extern "C" fn zib_request5(
+    buf: &mut [u32],
+    scratch: &mut [u32],
+    shape: axes::Shape,
+    release: usize,
+    order: usize,
+) -> axes::Answer
+    ensures { RequestPromise 5 (take 5 shape.lengths) release order buf.old scratch.old result buf.new scratch.new }
+{
+    exports::zib_request5(buf, scratch, shape, release, order)
+}
+
+// The plan for an order of five axes.
+#[unsafe(no_mangle)]
+pub extern "C" fn zib_plan5(order: usize) -> plans::Planned
+    ensures { PlanPromise 5 order result }
+{
+    exports::zib_plan5(order)
+}
+
+// Reads a sheet into a word buffer.
+#[unsafe(no_mangle)]
+pub extern "C" fn zib_read_sheet(bytes: &[u8], words: &mut [u32]) -> reader::Sheet
+    ensures { ReadPromise words.old bytes.now result words.new }
+{
+    exports::zib_read_sheet(bytes, words)
+}
+
+// Writes the result sheet of a block into a byte buffer.
+#[unsafe(no_mangle)]
+pub extern "C" fn zib_write_result(
+    shape: exports::SheetShape,
+    order: usize,
+    words: &[u32],
+    out: &mut [u8],
+) -> writer::Written
+    ensures { WriteResultPromise shape.lengths order words.now out.old result out.new }
+{
+    exports::zib_write_result(shape, order, words, out)
+}
+
+// The whole job on a sheet: read, run through its chain, its result sheet or its refusal written.
+#[unsafe(no_mangle)]
+pub extern "C" fn zib_job(
+    bytes: &[u8],
+    words: &mut [u32; 1024],
+    scratch: &mut [u32; 1024],
+    out: &mut [u8; 16384],
+) -> job::JobAnswer
+    ensures { JobPromise bytes.now words.old scratch.old out.old result.number result.place result.count words.new scratch.new out.new }
+{
+    exports::zib_job(bytes, words, scratch, out)
+}
+
+// How often the turn of m by n is repeated until every block of that shape is home.
+#[unsafe(no_mangle)]
+pub extern "C" fn zib_repeats(m: usize, n: usize) -> home::Home
+    ensures { RepeatsPromise m n result }
+{
+    exports::zib_repeats(m, n)
+}
+
+// Removes a camera's column from a block of frames by cameras words.
+#[unsafe(no_mangle)]
+pub extern "C" fn zib_remove_camera(
+    buf: &mut [u32],
+    frames: usize,
+    cameras: usize,
+    column: usize,
+) -> u32
+    ensures { RemovePromise frames cameras column buf.old result buf.new }
+{
+    exports::zib_remove_camera(buf, frames, cameras, column)
+}
+
+// Adds a camera's column to a block of frames by cameras words.
+#[unsafe(no_mangle)]
+pub extern "C" fn zib_add_camera(
+    buf: &mut [u32],
+    frames: usize,
+    cameras: usize,
+    column: usize,
+    words: &[u32],
+) -> u32
+    ensures { AddPromise frames cameras column words.now buf.old result buf.new }
+{
+    exports::zib_add_camera(buf, frames, cameras, column, words)
+}
+
+// An m by n block stored as tiles of r by s words.
+#[unsafe(no_mangle)]
+pub extern "C" fn zib_to_tiles(
+    buf: &mut [u32],
+    scratch: &mut [u32],
+    m: usize,
+    n: usize,
+    r: usize,
+    s: usize,
+) -> u32
+    ensures { ToTilesPromise m n r s buf.old scratch.old result buf.new scratch.new }
+{
+    exports::zib_to_tiles(buf, scratch, m, n, r, s)
+}
+
+// The tiles of r by s words of an m by n block stored as the block again.
+#[unsafe(no_mangle)]
+pub extern "C" fn zib_from_tiles(
+    buf: &mut [u32],
+    scratch: &mut [u32],
+    m: usize,
+    n: usize,
+    r: usize,
+    s: usize,
+) -> u32
+    ensures { FromTilesPromise m n r s buf.old scratch.old result buf.new scratch.new }
+{
+    exports::zib_from_tiles(buf, scratch, m, n, r, s)
+}
+
+// Reads a result sheet into a word buffer.
+#[unsafe(no_mangle)]
+pub extern "C" fn zib_read_result(bytes: &[u8], words: &mut [u32]) -> reader::ResultSheet
+    ensures { ReadResultPromise words.old bytes.now result words.new }
+{
+    exports::zib_read_result(bytes, words)
+}
+
+// Writes the result sheet of a block, with the release of its order number, into a byte buffer.
+#[unsafe(no_mangle)]
+pub extern "C" fn zib_write_release(
+    shape: exports::SheetShape,
+    release: usize,
+    order: usize,
+    words: &[u32],
+    out: &mut [u8],
+) -> writer::Written
+    ensures { WriteReleasePromise shape.lengths release order words.now out.old result out.new }
+{
+    exports::zib_write_release(shape, release, order, words, out)
+}
+
+// The offset and the delay of one exchange of four readings.
+#[unsafe(no_mangle)]
+pub extern "C" fn zib_offset_delay(run: &[i64]) -> desk::Measured
+    ensures { OffsetDelayPromise run.now result }
+{
+    exports::zib_offset_delay(run)
+}
+
+// An offset in ticks as a whole number of frames.
+#[unsafe(no_mangle)]
+pub extern "C" fn zib_to_frames(offset: i64, ticks: usize) -> desk::Frames
+    ensures { ToFramesPromise offset ticks result }
+{
+    exports::zib_to_frames(offset, ticks)
+}
+
+// The frames that are common to all cameras.
+#[unsafe(no_mangle)]
+pub extern "C" fn zib_join(shifts: &[i64], frames: usize) -> desk::Joined
+    ensures { JoinPromise shifts.now frames result }
+{
+    exports::zib_join(shifts, frames)
+}
+
+// The four readings of the exchange that is chosen of two runs. No exported function may return a reference, so the part is stored where the
+// caller says.
+#[unsafe(no_mangle)]
+pub extern "C" fn zib_choose<'a>(first: &'a [i64], second: &'a [i64], part: &mut &'a [i64])
+    ensures { ChoosePromise first.entry second.entry part.new }
+{
+    exports::zib_choose(first, second, part);
+}
+
+// The number of that choice.
+#[unsafe(no_mangle)]
+pub extern "C" fn zib_choose_number(first: &[i64], second: &[i64]) -> u32
+    ensures { ChooseNumberPromise first.now second.now result }
+{
+    exports::zib_choose_number(first, second)
+}
+
+// How many lines the turn of m by n by passes has.
+#[unsafe(no_mangle)]
+pub extern "C" fn zib_lines(m: usize, n: usize) -> passes::LineCount
+    ensures { LinesPromise m n result }
+{
+    exports::zib_lines(m, n)
+}
+
+// One line of the turn of m by n; the record of the lines done is lent, and advanced where it stands.
+#[unsafe(no_mangle)]
+pub extern "C" fn zib_tick(
+    buf: &mut [u32],
+    scratch: &mut [u32],
+    lines: &mut passes::LineRecord,
+    m: usize,
+    n: usize,
+) -> u32
+    ensures { StepPromise m n lines.old buf.old scratch.old result lines.new buf.new scratch.new }
+{
+    exports::zib_tick(buf, scratch, lines, m, n)
+}
+
+// Goes on with the turn of m by n from the stage that the progress word names, and stops after `budget` stores.
+#[unsafe(no_mangle)]
+pub extern "C" fn zib_resume(
+    buf: &mut [u32],
+    scratch: &mut [u32],
+    progress: &mut u32,
+    m: usize,
+    n: usize,
+    budget: usize,
+) -> u32
+    ensures { ResumePromise m n budget (memory buf.old scratch.old progress.old) result (memory buf.new scratch.new progress.new) }
+{
+    exports::zib_resume(buf, scratch, progress, m, n, budget)
+}
+
+// Judges a list of the cycles of the turn of m by n: start, length, start, length.
+#[unsafe(no_mangle)]
+pub extern "C" fn zib_judge_cycles(list: &[u32], m: usize, n: usize) -> cycle_lists::Judged
+    ensures { JudgePromise m n list.now result }
+{
+    exports::zib_judge_cycles(list, m, n)
+}
+
+// Runs a list of the cycles of the turn of m by n on the block: the flat turn, without scratch.
+#[unsafe(no_mangle)]
+pub extern "C" fn zib_run_cycles(
+    list: &[u32],
+    buf: &mut [u32],
+    m: usize,
+    n: usize,
+) -> cycle_lists::Judged
+    ensures { RunPromise m n list.now buf.old result buf.new }
+{
+    exports::zib_run_cycles(list, buf, m, n)
+}
+
+// The version of these calls and records: 10,000 times its first number and 100 times its second. The name has it too, so that a program whose
+// header is of another version does not link.
+#[unsafe(no_mangle)]
+pub extern "C" fn zib_version_3_0() -> u32
+    ensures { result ≡ 30000 }
+{
+    exports::zib_version_3_0()
+}
