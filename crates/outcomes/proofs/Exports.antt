@@ -1,11 +1,5 @@
 -- The C interface: one outcome each, record and all that is lent, because those of the call below are one.
-use Rattle.lists.proofs.Kit.{◌≡◌, refl, sym, ◌∙◌, arith, needs}
-use seplogic.Ra.Ura.{Ura}
-use base.Logic.{SProp}
-use prog.Memory.{Memory}
-use prog.Routine.{Routine}
-use types.Logic.{Logic}
-use contract.Monad.{Fun}
+use Rattle.lists.proofs.Kit.{refl, sym, ◌∙◌, arith, rules}
 use Rattle.recursion.proofs as recursion
 use Rattle.passes.proofs as passes
 use Rattle.home.proofs as home
@@ -21,8 +15,7 @@ use Rattle.desk.proofs as desk
 use Rattle.exports.proofs as exports
 use Rattle.outcomes.proofs.Axes.{reads}
 use Rattle.outcomes.proofs.Desk.{one_part}
-use Rattle.outcomes.specs.Once.{Two, Once, OnceWalked, under}
-use Rattle.outcomes.proofs.Once.{both}
+use Rattle.outcomes.specs.Once.{Once}
 
 pub turn_once : Once exports.zib_turn.Kinds.ps exports.zib_turn.Kinds.r exports.zib_turn.Reads.Post
 turn_once t = let (x, y, z) = passes.OneOutcome.turn_once t.first t.second in (x, λ i. (y i, (z i, _)))
@@ -42,10 +35,8 @@ turn_halves_once t = let (x, y) = recursion.OneOutcome.turn_once t.first t.secon
 pub lines_once : Once exports.zib_lines.Kinds.ps exports.zib_lines.Kinds.r exports.zib_lines.Reads.Post
 lines_once t = (passes.OneTick.lines_once t.first t.second, refl)
 
--- proved by a walk, as the step is
-module _ {M : Type 1} {𝓤 : Ura M} (𝓛 : Logic 𝓤) (mem : Memory → SProp 𝓤) (run : Routine → Fun 𝓤) where
-  pub tick_once : OnceWalked 𝓤 exports.zib_tick.ended (exports.zib_tick.clauses 𝓛 mem run)
-  tick_once κs a g x y u v = both 𝓤 (λ p q. let (number, lines, b, s) = passes.StepOutcome.step_once p q in (number, λ i. (b i, (s i, (lines i, _)))))
+pub tick_once : Once exports.zib_tick.Kinds.ps exports.zib_tick.Kinds.r exports.zib_tick.Reads.Post
+tick_once t = let (number, lines, b, s) = passes.StepOutcome.step_once t.first t.second in (number, λ i. (b i, (s i, (lines i, _))))
 
 pub resume_once : Once exports.zib_resume.Kinds.ps exports.zib_resume.Kinds.r exports.zib_resume.Reads.Post
 resume_once t = let (x, m) = passes.OneOutcome.resume_once t.first t.second in (x, λ i. ((m i).buffer, ((m i).scratch, ((m i).progress, _))))
@@ -72,16 +63,16 @@ pub from_tiles_once : Once exports.zib_from_tiles.Kinds.ps exports.zib_from_tile
 from_tiles_once t = let (x, y, z) = tiles.OneOutcome.from_tiles_once t.args.1.1.0 t.args.1.1.1.0 t.args.1.1.1.1.0 t.args.1.1.1.1.1.0 t.first t.second in (x, λ i. (y i, (z i, _)))
 
 pub chain_once : Once exports.zib_chain.Kinds.ps exports.zib_chain.Kinds.r exports.zib_chain.Reads.Post
-chain_once t = let (x, y, z) = axes.OneOutcome.chain_once (reads t.args.1.1.0.lengths (search needs) (omega arith)) t.first t.second in (x, λ i. (y i, (z i, _)))
+chain_once t = let (x, y, z) = axes.OneOutcome.chain_once (reads t.args.1.1.0.lengths (search rules) (omega arith)) t.first t.second in (x, λ i. (y i, (z i, _)))
 
 pub chain5_once : Once exports.zib_chain5.Kinds.ps exports.zib_chain5.Kinds.r exports.zib_chain5.Reads.Post
-chain5_once t = let (x, y, z) = axes.OneOutcome.chain_once (reads t.args.1.1.0.lengths (search needs) (omega arith)) t.first t.second in (x, λ i. (y i, (z i, _)))
+chain5_once t = let (x, y, z) = axes.OneOutcome.chain_once (reads t.args.1.1.0.lengths (search rules) (omega arith)) t.first t.second in (x, λ i. (y i, (z i, _)))
 
 pub request_once : Once exports.zib_request.Kinds.ps exports.zib_request.Kinds.r exports.zib_request.Reads.Post
-request_once t = let (x, y, z) = axes.OneOutcome.request_once (reads t.args.1.1.0.lengths (search needs) (omega arith)) t.first t.second in (x, λ i. (y i, (z i, _)))
+request_once t = let (x, y, z) = axes.OneOutcome.request_once (reads t.args.1.1.0.lengths (search rules) (omega arith)) t.first t.second in (x, λ i. (y i, (z i, _)))
 
 pub request5_once : Once exports.zib_request5.Kinds.ps exports.zib_request5.Kinds.r exports.zib_request5.Reads.Post
-request5_once t = let (x, y, z) = axes.OneOutcome.request_once (reads t.args.1.1.0.lengths (search needs) (omega arith)) t.first t.second in (x, λ i. (y i, (z i, _)))
+request5_once t = let (x, y, z) = axes.OneOutcome.request_once (reads t.args.1.1.0.lengths (search rules) (omega arith)) t.first t.second in (x, λ i. (y i, (z i, _)))
 
 pub plan_once : Once exports.zib_plan.Kinds.ps exports.zib_plan.Kinds.r exports.zib_plan.Reads.Post
 plan_once t = (plans.OneOutcome.plan_once t.first t.second, refl)
@@ -114,8 +105,7 @@ pub join_once : Once exports.zib_join.Kinds.ps exports.zib_join.Kinds.r exports.
 join_once t = (desk.OneOutcome.join_once t.args.0.now t.args.1.0 t.first t.second, refl)
 
 -- the part stands in a variable of the caller's, the last that is lent
-pub choose_once : (t : Two exports.zib_choose.Kinds.ps exports.zib_choose.Kinds.r exports.zib_choose.Reads.Post)
-    → (t.x ≡ t.y) × ((t.u.0, (t.u.1.0, (under t.v.1.1.0.name t.u.1.1.0, t.u.1.1.1))) ≡ t.v)
+pub choose_once : Once exports.zib_choose.Kinds.ps exports.zib_choose.Kinds.r exports.zib_choose.Reads.Post
 choose_once t = let part = one_part (desk.ChoiceOutcome.choose_once t.first t.second) in (refl, λ i. (_, (_, (part i, _))))
 
 pub choose_number_once : Once exports.zib_choose_number.Kinds.ps exports.zib_choose_number.Kinds.r exports.zib_choose_number.Reads.Post

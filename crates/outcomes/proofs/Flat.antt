@@ -1,11 +1,5 @@
 -- The calls on flat blocks: one outcome each, because those of their promises are one.
 use mathlib.Core.Path.{refl, sym, ◌∙◌}
-use seplogic.Ra.Ura.{Ura}
-use base.Logic.{SProp}
-use prog.Memory.{Memory}
-use prog.Routine.{Routine}
-use types.Logic.{Logic}
-use contract.Monad.{Fun}
 use Rattle.refusals.proofs as refusals
 use Rattle.recursion.proofs as recursion
 use Rattle.strips.proofs as strips
@@ -16,8 +10,7 @@ use Rattle.moves.proofs as moves
 use Rattle.grids.proofs as grids
 use Rattle.cameras.proofs as cameras
 use Rattle.tiles.proofs as tiles
-use Rattle.outcomes.specs.Once.{Once, OnceWalked}
-use Rattle.outcomes.proofs.Once.{both}
+use Rattle.outcomes.specs.Once.{Once}
 
 pub turn_once : Once passes.turn.Kinds.ps passes.turn.Kinds.r passes.turn.Reads.Post
 turn_once t = let (x, y, z) = passes.OneOutcome.turn_once t.first t.second in (x, λ i. (y i, (z i, _)))
@@ -43,10 +36,8 @@ lines_once t = (passes.OneTick.lines_once t.first t.second, refl)
 pub tick_once : Once passes.tick.Kinds.ps passes.tick.Kinds.r passes.tick.Reads.Post
 tick_once t = let (x, y, z) = passes.OneTick.tick_once t.first t.second in (x, λ i. (y i, (z i, _)))
 
--- the step over a lent record is proved by a walk
-module _ {M : Type 1} {𝓤 : Ura M} (𝓛 : Logic 𝓤) (mem : Memory → SProp 𝓤) (run : Routine → Fun 𝓤) where
-  pub step_once : OnceWalked 𝓤 passes.step.ended (passes.step.clauses 𝓛 mem run)
-  step_once κs a g x y u v = both 𝓤 (λ p q. let (number, lines, b, s) = passes.StepOutcome.step_once p q in (number, λ i. (b i, (s i, (lines i, _)))))
+pub step_once : Once passes.step.Kinds.ps passes.step.Kinds.r passes.step.Reads.Post
+step_once t = let (number, lines, b, s) = passes.StepOutcome.step_once t.first t.second in (number, λ i. (b i, (s i, (lines i, _))))
 
 pub resume_once : Once passes.resume.Kinds.ps passes.resume.Kinds.r passes.resume.Reads.Post
 resume_once t = let (x, m) = passes.OneOutcome.resume_once t.first t.second in (x, λ i. ((m i).buffer, ((m i).scratch, ((m i).progress, _))))

@@ -6,6 +6,8 @@ pub mod Axes
 pub mod Sheets
 pub mod Desk
 pub mod Exports
+-- the same of the step and the tick over their clauses
+pub mod Walked
 -- calls as a caller sees them, from what the checker reads
 pub mod Seen
 -- demand 1: every list of checks gives its numbers exactly when

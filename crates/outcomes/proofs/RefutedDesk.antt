@@ -1,9 +1,8 @@
 -- Wrong versions of the join desk, as tables: rounding around zero, a delay of zero, the ends of the common frames, the order of checks; and of choosing, ties
--- between and within the paths, and parts that hold the right readings elsewhere. A signed number stands in a table as a natural one. Of a part that is handed
--- back the ghost name is left open; the exchange that is chosen stands in the entry, and the test sees that it wins.
+-- between and within the paths, and parts that hold the right readings elsewhere. A signed number stands in a table as a natural one. The exchange that is chosen
+-- stands in the entry, and the test sees that it wins.
 use Rattle.lists.proofs.Kit.{◌≡◌, refl, sym, ◌∙◌, Bool, true, List, [], ◌∷◌, ◌++◌, ℕ, zero, suc, ◌+◌, ◌*◌, ◌^◌, arith, T, length}
-use base.Fml.{GName}
-use denote.Ref.{MutBor}
+use Rattle.std.specs.Borrow.{Bor}
 use lib.IntN.{ℤ, pos, negsuc}
 use lib.Signed.{le_z, lt_z, ◌≤ℤ◌, ◌<ℤ◌, le_z_yes, lt_z_yes}
 use Rattle.refusals.specs.FirstOf.{first_of}
@@ -196,18 +195,18 @@ pub record Part : Type 0 where
 abbrev part : ℕ → ℕ → List ℤ → Part
 part block place readings = record { block = block; place = place; readings = readings }
 
--- a reference to it, under a ghost name
-abbrev ref : GName → Part → MutBor (List ℤ)
-ref name p = record { ref_ptr = (p.block, p.place); ghost_name = name; now = p.readings }
+-- a reference to it
+abbrev ref : Part → Bor (List ℤ)
+ref p = record { ref_ptr = (p.block, p.place); now = p.readings }
 
 -- choosing from two runs that lie at the start of blocks 1 and 2
 module _ (first second : List ℤ) where
-  abbrev pub Chosen : GName → Part → Type 0
-  Chosen name p = ChoosePromise (ref 0 (part 1 0 first)) (ref 0 (part 2 0 second)) (ref name p)
+  abbrev pub Chosen : Part → Type 0
+  Chosen p = ChoosePromise (ref (part 1 0 first)) (ref (part 2 0 second)) (ref p)
 
   -- where this part is handed back if none of the checks holds
-  module _ (won : Part) (test : Unit {0} → Bool) (four : T (test tt) → Four (ref 0 (part 1 0 first)) (ref 0 (part 2 0 second)) (ref 0 won)) where
-    pub chosen : (k : ℕ) → first_of (choose_checks first second) ≡ k → T (by_number test (λ _. true) k) → Chosen 0 (by_number (λ _. won) (λ _. part 1 0 []) k)
+  module _ (won : Part) (test : Unit {0} → Bool) (four : T (test tt) → Four (ref (part 1 0 first)) (ref (part 2 0 second)) (ref won)) where
+    pub chosen : (k : ℕ) → first_of (choose_checks first second) ≡ k → T (by_number test (λ _. true) k) → Chosen (by_number (λ _. won) (λ _. part 1 0 []) k)
     chosen zero e t = record { given = λ _. four t; refused = λ n. absurd (n e) }
     chosen (suc k) e t = record { given = λ z. absurd (omega (arith, sym e ∙ z)); refused = λ _. record { readings = refl; block = refl; place = refl } }
 
@@ -215,12 +214,12 @@ module _ (first second : List ℤ) where
     choosing =
         let k = first_of (choose_checks first second) in
         record {
-          Promise = λ p. (name : GName) × Chosen name p;
+          Promise = Chosen;
           checks = choose_checks first second;
           number = λ p. 0;
           right = by_number (λ _. won) (λ _. part 1 0 []) k;
           seen = by_number test (λ _. true) k;
-          only = λ t o p. let s = choose_once p.1 (chosen k refl t) in λ i. part (s.block i) (s.place i) (s.readings i);
+          only = λ t o p. let s = choose_once p (chosen k refl t) in λ i. part (s.block i) (s.place i) (s.readings i);
         }
 
   -- exchange j of the first path wins, or of the second

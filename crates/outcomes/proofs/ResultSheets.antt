@@ -12,7 +12,7 @@ use Rattle.reader.specs.declared.ResultSheet.{ResultSheet}
 use Rattle.reader.specs.ResultReader.{ReadResultPromise, result_found}
 use Rattle.reader.proofs.RightResults.{right_is_read, read_is_right}
 use Rattle.writer.specs.declared.Written.{Written}
-use Rattle.writer.specs.Writer.{written, writer_number, WriteResultPromise, release_number, WriteReleasePromise}
+use Rattle.writer.specs.Writer.{writer_number, WriteResultPromise, release_number, WriteReleasePromise}
 use Rattle.writer.proofs.Writes.{wrote, number_0, wrote_by, number_0_by}
 use Rattle.writer.proofs.InFull.{in_full}
 use Rattle.outcomes.specs.Calls.{WriteCall, WriteReleaseCall, ReadResultCall}

@@ -1,5 +1,5 @@
 -- What the checker reads of a call from the source is the call as a caller sees it: the arguments at entry, the answer and the slices at exit, by their names.
-use Rattle.lists.proofs.Kit.{ℕ, arith, take, needs}
+use Rattle.lists.proofs.Kit.{ℕ, arith, take, rules}
 use contract.Lifetimes.{Lfts}
 use denote.Triple.Clauses.{AtExit}
 use borrow.Fn.Kinds.{ended_of, Dens, GoodsP}
@@ -72,7 +72,7 @@ module _ (κs : Lfts 3) where
     answer = answer;
     words_after = exit.0.now;
     scratch_after = exit.1.0.now;
-    axes = reads args.1.1.0.lengths (search needs) (omega arith);
+    axes = reads args.1.1.0.lengths (search rules) (omega arith);
     post = post;
   }
 
@@ -86,7 +86,7 @@ module _ (κs : Lfts 3) where
     answer = answer;
     words_after = exit.0.now;
     scratch_after = exit.1.0.now;
-    axes = reads args.1.1.0.lengths (search needs) (omega arith);
+    axes = reads args.1.1.0.lengths (search rules) (omega arith);
     post = post;
   }
 
@@ -102,7 +102,7 @@ module _ (κs : Lfts 2) where
     answer = answer;
     words_after = exit.0.now;
     scratch_after = exit.1.0.now;
-    axes = reads args.1.1.0.lengths (search needs) (omega arith);
+    axes = reads args.1.1.0.lengths (search rules) (omega arith);
     post = post;
   }
 
@@ -117,7 +117,7 @@ module _ (κs : Lfts 2) where
     answer = answer;
     words_after = exit.0.now;
     scratch_after = exit.1.0.now;
-    axes = reads args.1.1.0.lengths (search needs) (omega arith);
+    axes = reads args.1.1.0.lengths (search rules) (omega arith);
     post = post;
   }
 
@@ -130,7 +130,7 @@ module _ (κs : Lfts 2) where
     out = args.1.1.1.0.now;
     answer = answer;
     out_after = exit.1.1.1.0.now;
-    four = search needs;
+    four = search rules;
     post = post;
   }
 
@@ -145,7 +145,7 @@ module _ (κs : Lfts 2) where
     out = args.1.1.1.1.0.now;
     answer = answer;
     out_after = exit.1.1.1.1.0.now;
-    four = search needs;
+    four = search rules;
     post = post;
   }
 
