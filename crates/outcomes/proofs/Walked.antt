@@ -1,5 +1,4 @@
 -- One outcome of the step over a lent record and of the tick of the C interface, over their clauses as the checker reads them beside its own logic.
-use mathlib.Core.Path.{◌≡◌}
 use seplogic.Ra.Ura.{Ura}
 use base.Logic.{SProp}
 use prog.Memory.{Memory}

@@ -10,9 +10,9 @@ returns-then-g-gt80 c = c.tour.ensures
 
 pub follow-requires : goal.follow-requires
 follow-requires c = record {
-      fits = (c.requires.fits.0, c.requires.fits.1, record { short = omega arith; long = c.requires.fits.2 });
-      level = c.requires.level;
-    }
+  fits = (c.requires.fits.0, c.requires.fits.1, record { short = omega arith; long = c.requires.fits.2 });
+  level = c.requires.level;
+}
 
 pub returns : goal.returns
 returns c = c.follow.ensures

@@ -7,9 +7,9 @@ returns c =
 
 pub trade_both-requires : goal.trade_both-requires
 trade_both-requires c = record {
-      fits = (c.requires.fits.0, c.requires.fits.1, c.requires.fits.2, c.requires.fits.3);
-      apart = c.requires.apart;
-    }
+  fits = (c.requires.fits.0, c.requires.fits.1, c.requires.fits.2, c.requires.fits.3);
+  apart = c.requires.apart;
+}
 
 pub mark_pair-requires : goal.mark_pair-requires
 mark_pair-requires c = (c.requires.fits.0.follows, c.requires.fits.2, c.requires.fits.4)
