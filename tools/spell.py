@@ -9,9 +9,11 @@ import collections
 import glob
 import os
 import re
+import subprocess
 import sys
 
-KIT = "/opt/rattle/rattle"
+# the kit's sources, beside the page that `rt doc` names
+KIT = os.path.join(os.path.dirname(subprocess.run(["rt", "doc"], capture_output=True, text=True, check=True).stdout.strip()), "rattle")
 WORD = re.compile(r"[^\s(){}.;,@\"«»`|]+")
 COMMENT = re.compile(r"(?<![^\s(){}.;,@\"«»])--[^\n]*")
 SIGNATURE = re.compile(
