@@ -12,7 +12,7 @@ mod sizes;
 
 // The lengths of up to five axes, last axis fastest. A call on four axes does not read the fifth.
 #[repr(C)]
-#[derive(Drop)]
+#[derive(Clone, Copy)]
 pub struct Shape {
     pub lengths: [usize; 5],
 }
@@ -62,7 +62,7 @@ fn exchange_at(lengths: &mut [usize], k: usize)
 // What a call on a block answers: its number, its place, the five new lengths (of four axes the last is 0), an order number (a chain's own order in
 // release 1; of a request the number that was asked for), the swaps done.
 #[repr(C)]
-#[derive(Drop)]
+#[derive(Clone, Copy)]
 pub struct Answer {
     pub number: u32,
     pub place: usize,

@@ -7,7 +7,7 @@ ghost use Rattle.cameras.specs.Columns.{Added};
 ghost use Rattle.cameras.specs.Private.{RunsClose, RunsClosed, RunsOpen, RunsOpened, Closed};
 
 // The runs from low up to high of a block that has n columns without column k, and how many words each takes along: its n, or these in sixteens.
-#[derive(Drop)]
+#[derive(Clone, Copy)]
 struct Runs {
     pub low: usize,
     pub high: usize,

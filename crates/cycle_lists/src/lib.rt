@@ -13,7 +13,7 @@ ghost use Rattle.cycle_lists.specs.Private.{length_of, Compared};
 
 // The number that the call answers, and for 22 the place of the first pair that differs.
 #[repr(C)]
-#[derive(Drop)]
+#[derive(Clone, Copy)]
 pub struct Judged {
     pub number: u32,
     pub place: usize,

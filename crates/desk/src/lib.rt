@@ -22,7 +22,7 @@ use rounding::floor_by;
 
 // What the call for offset and delay answers.
 #[repr(C)]
-#[derive(Drop)]
+#[derive(Clone, Copy)]
 pub struct Measured {
     pub number: u32,
     pub offset: i64,
@@ -31,7 +31,7 @@ pub struct Measured {
 
 // What the call to frames answers.
 #[repr(C)]
-#[derive(Drop)]
+#[derive(Clone, Copy)]
 pub struct Frames {
     pub number: u32,
     pub frames: i64,
@@ -39,7 +39,7 @@ pub struct Frames {
 
 // What the call to join answers: the common frames run from first up to, not including, end.
 #[repr(C)]
-#[derive(Drop)]
+#[derive(Clone, Copy)]
 pub struct Joined {
     pub number: u32,
     pub first: i64,

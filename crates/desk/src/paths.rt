@@ -7,7 +7,7 @@ ghost use Rattle.desk.specs.Private.{PlaceAs};
 use crate::search::{beats, best};
 
 // On the first path, 0, or the second, 1, and the exchange's number in that run, from 0.
-#[derive(Drop)]
+#[derive(Clone, Copy)]
 pub(crate) struct Place {
     pub(crate) number: u32,
     pub(crate) path: u32,

@@ -7,7 +7,7 @@ ghost use Rattle.desk.specs.Private.{taken, HeldAs};
 use crate::parts::exchange_of;
 
 // The usable exchange of a run with the smallest delay. Where there is none, the delay is negative.
-#[derive(Drop)]
+#[derive(Clone, Copy)]
 pub(crate) struct Held {
     pub(crate) found: usize,
     pub(crate) least: i64,

@@ -22,7 +22,7 @@ ghost use Rattle.cycle_lists.specs.Promise.{JudgePromise, RunPromise};
 
 // The lengths of a sheet's four axes.
 #[repr(C)]
-#[derive(Drop)]
+#[derive(Clone, Copy)]
 pub struct SheetShape {
     pub lengths: [usize; 4],
 }

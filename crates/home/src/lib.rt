@@ -6,7 +6,7 @@ ghost use Rattle.home.specs.Promise.{Counts, RepeatsPromise};
 
 // The number that the call answers, and the count of repeats.
 #[repr(C)]
-#[derive(Drop)]
+#[derive(Clone, Copy)]
 pub struct Home {
     pub number: u32,
     pub count: usize,

@@ -20,7 +20,7 @@ fn run(words: &mut [u32], scratch: &mut [u32], lengths: [usize; 4], swaps: &[usi
 
 // What the job answers: its number and place, 0 and 0 where the sheet is right, and how many bytes its text has.
 #[repr(C)]
-#[derive(Drop)]
+#[derive(Clone, Copy)]
 pub struct JobAnswer {
     pub number: u32,
     pub place: usize,

@@ -178,8 +178,8 @@ abbrev truth : Bool → Case Bool
 truth v = value (λ t. cond t 1 0) v
 
 -- the checks of an order number by its release, whose last number is given
-abbrev named_checks_lem : ℕ → ℕ → ℕ → List Check
-named_checks_lem last release order = check 14 (no_release release) ∷ check 7 (ltb last order) ∷ []
+abbrev checks_of_name : ℕ → ℕ → ℕ → List Check
+checks_of_name last release order = check 14 (no_release release) ∷ check 7 (ltb last order) ∷ []
 
 abbrev pub numbers : List (Row ℕ)
 numbers =
@@ -205,8 +205,8 @@ numbers =
     ∷ late "swap_number/three-before-two" (numbered (swap_checks 4096 257 1 1 [] [])) 3 2
     ∷ late "swap_number/four-before-three" (numbered (swap_checks 1 2 3 1 [] [])) 4 3
     ∷ late "swap_number/four-before-thirteen" (numbered (swap_checks 1 1 1 1 (0 ∷ 1 ∷ []) [])) 4 13
-    ∷ late "named_number/seven-before-fourteen" (numbered (named_checks_lem 23 3 24)) 7 14
-    ∷ gives "named_number/release-0-accepted" (numbered (named_checks_lem 23 0 9)) 0
+    ∷ late "named_number/seven-before-fourteen" (numbered (checks_of_name 23 3 24)) 7 14
+    ∷ gives "named_number/release-0-accepted" (numbered (checks_of_name 23 0 9)) 0
     -- a block of too many words for a buffer without words; the one word of a block that fills its buffer
     ∷ late "sheet_number/three-before-eleven" (numbered (sheet_checks (1025 ∷ 1 ∷ 1 ∷ 1 ∷ []) [])) 3 11
     ∷ gives "sheet_number/full-buffer-refused" (numbered (sheet_checks (1 ∷ 1 ∷ 1 ∷ 1 ∷ []) (7 ∷ []))) 3

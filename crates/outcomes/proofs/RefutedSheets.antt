@@ -42,8 +42,8 @@ refusing (Verdict.refuse k l) = true
 refusing (Verdict.go vs rest) = false
 
 -- the second line by its word, how many numbers it must have, and its conditions
-abbrev sheet_checks_lem : List ℕ → (List ℕ → ℕ) → (List ℕ → List Check) → List ℕ → List ℕ → List Check
-sheet_checks_lem word count conditions buffer bytes =
+abbrev checks_of_sheet : List ℕ → (List ℕ → ℕ) → (List ℕ → List Check) → List ℕ → List ℕ → List Check
+checks_of_sheet word count conditions buffer bytes =
     let ds = numbers (read_fields 4 (drop (length shape_word) bytes)) in
     let second = behind (read_line shape_word 4 bytes) in
     let rows = behind (read_line word (count second) second) in
@@ -59,7 +59,7 @@ sheet_checks_lem word count conditions buffer bytes =
 abbrev pub read : List ℕ → List ℕ → Case (Slice Sheet)
 read buffer bytes = record {
   Promise = λ o. ReadPromise buffer bytes o.answer o.words;
-  checks = sheet_checks_lem chain_word tabs (λ chain. check 5 (long_chain chain) ∷ check 6 (bad_swap 4 chain) ∷ []) buffer bytes;
+  checks = checks_of_sheet chain_word tabs (λ chain. check 5 (long_chain chain) ∷ check 6 (bad_swap 4 chain) ∷ []) buffer bytes;
   number = λ o. o.answer.number;
   right = record { answer = answer (meaning buffer bytes); words = kept (meaning buffer bytes) buffer };
   seen = true;
@@ -69,7 +69,7 @@ read buffer bytes = record {
 abbrev pub read_result : List ℕ → List ℕ → Case (Slice ResultSheet)
 read_result buffer bytes = record {
   Promise = λ o. ReadResultPromise buffer bytes o.answer o.words;
-  checks = sheet_checks_lem order_word order_fields (λ ns. check 14 (wrong_release ns) ∷ check 7 (no_order 4 (line_order ns)) ∷ []) buffer bytes;
+  checks = checks_of_sheet order_word order_fields (λ ns. check 14 (wrong_release ns) ∷ check 7 (no_order 4 (line_order ns)) ∷ []) buffer bytes;
   number = λ o. o.answer.number;
   right = record { answer = result_answer (result_meaning buffer bytes); words = kept (result_meaning buffer bytes) buffer };
   seen = true;
@@ -365,8 +365,8 @@ job bytes =
           λ i. record { number = p.number_is i; place = p.place_is i; count = p.count_is i; words = p.words_are i; scratch = p.scratch_is i; out = text i };
     }
 
-abbrev job_place_lem : Job → List ℕ
-job_place_lem j = j.place ∷ []
+abbrev place_of_job : Job → List ℕ
+place_of_job j = j.place ∷ []
 
 abbrev job_count : Job → List ℕ
 job_count j = j.count ∷ []
@@ -418,7 +418,7 @@ jobs =
     -- a sheet that is refused: its words stored, another place, the answer of a right one; and a right one answered like it
     ∷ wrong "job/stores-where-it-refuses" refused first_words (1 ∷ 2 ∷ 3 ∷ 4 ∷ [])
     ∷ wrong "job/another-place" refused bytes (over (refusal_text 6 1) (ones 40))
-    ∷ wrong "job/another-place-answered" refused job_place_lem (1 ∷ [])
+    ∷ wrong "job/another-place-answered" refused place_of_job (1 ∷ [])
     ∷ gives "job/refusal-not-answered" refused 0
     ∷ gives "job/right-sheet-answered-refused" done 6
     ∷ []

@@ -49,7 +49,7 @@ pub fn turn_back(buf: &mut [u32], scratch: &mut [u32], m: usize, n: usize) -> u3
 
 // How many lines a turn has: the number, and the count, 0 in a refusal.
 #[repr(C)]
-#[derive(Drop)]
+#[derive(Clone, Copy)]
 pub struct LineCount {
     pub number: u32,
     pub count: usize,
@@ -72,7 +72,7 @@ pub fn lines(m: usize, n: usize) -> LineCount
 }
 
 // What a tick answers: its number, and the lines done after it.
-#[derive(Drop)]
+#[derive(Clone, Copy)]
 pub struct Ticked {
     pub number: u32,
     pub done: usize,
@@ -107,7 +107,7 @@ pub fn tick(buf: &mut [u32], scratch: &mut [u32], m: usize, n: usize, done: usiz
 
 // The lines done, as a player keeps them: C lends the same record.
 #[repr(C)]
-#[derive(Drop)]
+#[derive(Clone, Copy)]
 pub struct LineRecord {
     pub done: usize,
 }

@@ -28,7 +28,7 @@ pub(crate) struct Place {
 }
 
 // A run: `size` steps of a walk from `place` on, over against as many places of a line from `from` on.
-#[derive(Drop)]
+#[derive(Clone, Copy)]
 pub(crate) struct Run {
     pub from: usize,
     pub place: usize,

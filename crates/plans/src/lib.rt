@@ -10,7 +10,7 @@ pub mod tables;
 
 // A plan: its number, ten swap places of which the first `count` are used, and their count.
 #[repr(C)]
-#[derive(Drop)]
+#[derive(Clone, Copy)]
 pub struct Planned {
     pub number: u32,
     pub swaps: [usize; 10],

@@ -10,19 +10,19 @@ use Rattle.reader.specs.Reader.{answer, ReadPromise}
 use Rattle.reader.specs.ResultReader.{result_answer, ReadResultPromise}
 
 -- an answer made of an outcome, which is a refusal's number and place where it is one, and else the number 0
-module _ {A : Type 0} (number_of_lem place_of : A → ℕ) (made : Outcome → A)
-    (refusal : (k p : ℕ) → (number_of_lem (made (Outcome.refused k p)) ≡ k) × (place_of (made (Outcome.refused k p)) ≡ p))
-    (accepts : (ds ns words : List ℕ) → number_of_lem (made (Outcome.accepted ds ns words)) ≡ 0) {number : ℕ} (other : 0 < number) (place : ℕ) where
-  refused_outcome : (o : Outcome) → number_of_lem (made o) ≡ number → place_of (made o) ≡ place → o ≡ Outcome.refused number place
+module _ {A : Type 0} (number_in place_of : A → ℕ) (made : Outcome → A)
+    (refusal : (k p : ℕ) → (number_in (made (Outcome.refused k p)) ≡ k) × (place_of (made (Outcome.refused k p)) ≡ p))
+    (accepts : (ds ns words : List ℕ) → number_in (made (Outcome.accepted ds ns words)) ≡ 0) {number : ℕ} (other : 0 < number) (place : ℕ) where
+  refused_outcome : (o : Outcome) → number_in (made o) ≡ number → place_of (made o) ≡ place → o ≡ Outcome.refused number place
   refused_outcome (Outcome.refused k p) e f = ap₂ Outcome.refused (sym (refusal k p).0 ∙ e) (sym (refusal k p).1 ∙ f)
   refused_outcome (Outcome.accepted ds ns words) e f = absurd (omega (arith, accepts ds ns words))
 
-  answered_so : {R : Type 0} (o : Outcome) {r : A} → r ≡ made o → (o ≡ Outcome.refused number place) ↔ R → ((number_of_lem r ≡ number) × (place_of r ≡ place)) ↔ R
+  answered_so : {R : Type 0} (o : Outcome) {r : A} → r ≡ made o → (o ≡ Outcome.refused number place) ↔ R → ((number_in r ≡ number) × (place_of r ≡ place)) ↔ R
   answered_so o a exact = (
-    λ e. exact.0 (refused_outcome o (sym (ap number_of_lem a) ∙ e.0) (sym (ap place_of a) ∙ e.1)),
+    λ e. exact.0 (refused_outcome o (sym (ap number_in a) ∙ e.0) (sym (ap place_of a) ∙ e.1)),
     λ f.
         let m = a ∙ ap made (exact.1 f) in
-        (ap number_of_lem m ∙ (refusal number place).0, ap place_of m ∙ (refusal number place).1),
+        (ap number_in m ∙ (refusal number place).0, ap place_of m ∙ (refusal number place).1),
   )
 
 -- the reader of sheets

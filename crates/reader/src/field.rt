@@ -5,7 +5,7 @@ ghost use Rattle.sheets.specs.Read.{read_more, read_number, read_field};
 ghost use Rattle.reader.specs.Private.{FieldAt};
 
 // What stands at a place: no number, or a number and the place after it.
-#[derive(Drop)]
+#[derive(Clone, Copy)]
 pub enum Field {
     Nothing,
     Number { value: usize, next: usize },

@@ -13,7 +13,7 @@ ghost use Rattle.reader.specs.ResultReader.{ReadResultPromise};
 
 // What a sheet says: its number and place, its lengths, its swaps (unused ones 0) and how many they are.
 #[repr(C)]
-#[derive(Drop)]
+#[derive(Clone, Copy)]
 pub struct Sheet {
     pub number: u32,
     pub place: usize,
@@ -24,7 +24,7 @@ pub struct Sheet {
 
 // What a result sheet says: its number and place, its lengths, its release, 0 where it names none, and its order number.
 #[repr(C)]
-#[derive(Drop)]
+#[derive(Clone, Copy)]
 pub struct ResultSheet {
     pub number: u32,
     pub place: usize,

@@ -7,7 +7,7 @@ ghost use Rattle.reader.specs.Private.{EndAt};
 use crate::field;
 
 // Where something that was read ends: it was not there, or the place after it.
-#[derive(Drop)]
+#[derive(Clone, Copy)]
 pub enum End {
     Nowhere,
     At(usize),

@@ -4,7 +4,7 @@ ghost use Rattle.reader.specs.Private.{no_page};
 
 // A number and a place, or the lengths, the numbers of the line that was read last (unused places 0), their count and the place
 // after it.
-#[derive(Drop)]
+#[derive(Clone, Copy)]
 pub struct Page {
     pub number: u32,
     pub place: usize,

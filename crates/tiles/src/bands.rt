@@ -25,7 +25,7 @@ struct Band {
 }
 
 // Rows of a tile: where the first stands in the band, and how far apart they are.
-#[derive(Drop)]
+#[derive(Clone, Copy)]
 struct Rows {
     pub at: usize,
     pub step: usize,

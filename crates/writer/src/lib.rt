@@ -14,7 +14,7 @@ ghost use Rattle.writer.specs.RefusalWriter.{WriteRefusalPromise};
 
 // What the writer did: its number, and the count of bytes written.
 #[repr(C)]
-#[derive(Drop)]
+#[derive(Clone, Copy)]
 pub struct Written {
     pub number: u32,
     pub count: usize,

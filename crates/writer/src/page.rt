@@ -21,7 +21,7 @@ pub(crate) fn words_len(words: &[u32]) -> usize
 }
 
 // A line by value: its word, and its first `count` numbers.
-#[derive(Drop)]
+#[derive(Clone, Copy)]
 pub struct Line {
     pub word: [u8; 5],
     pub numbers: [u32; 4],
