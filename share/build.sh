@@ -2,12 +2,11 @@
 # What is proved and compiled for those who install or run: the library and the program `turn`, for a kind of machine. Sourced from the
 # repository's root.
 #
-# The kit makes code for x86-64. For another machine the module that it hands to its own clang on the way, in LLVM's form, is kept and
-# compiled for that machine by the same clang at the same level, with share/by-value.ll before the calls that pass a struct by value.
+# The kit's commands compile what they have proved, for x86-64 and for aarch64: the static library exports_c as the whole archive, the program as
+# an object. They link for x86-64 alone; for another machine its own C compiler links the program, with share/errno.c.
 
 made=target/made
-kit=${RATTLE_HOME:-$(dirname "$(dirname "$(readlink -f "$(command -v rt)")")")}
-tools=on/$(uname -m)/toolchain
+tools=$(dirname "$(dirname "$(readlink -f "$(command -v rt)")")")/toolchain/bin
 
 # Whether code can be made for a kind of machine.
 known_target() {
@@ -15,8 +14,8 @@ known_target() {
 }
 
 # What everything is made of: the toolchain, the crates' files and what compiles them. Where none of it has changed, what was made stands proved.
-made_of=$({ rt version; cat crates.txt share/build.sh share/by-value.ll share/errno.c; find crates -type f -not -path '*/must-fail/*' -print0 | sort -z | xargs -0 sha256sum; } |
-    sha256sum | cut -d ' ' -f 1)
+made_of=$({ rt version; cat crates.txt share/build.sh share/errno.c
+    find crates -type d \( -name must-fail -o -name out \) -prune -o -type f -print0 | sort -z | xargs -0 sha256sum; } | sha256sum | cut -d ' ' -f 1)
 
 # stands FILE...: whether all are there and made of what is here now.
 stands() {
@@ -30,65 +29,30 @@ standing() {
     for file in "$@"; do echo "$made_of" >"$file.made-of"; done
 }
 
-# The crates that a crate is made of, itself too, one a line.
+# The crates that a crate is made of, itself last, one a line, in the order in which rt proves them: each after those that it stands on.
 crates_of() {
     awk -F: -v wanted="$1" '
-        /^[a-z]/ { needs[$1] = $2 }
+        /^[a-z]/ { name = $1; sub(/ .*/, "", name); needs[name] = $2 }
         function visit(name,   list, count, k) {
             if (!(name in needs) || seen[name]++) return
-            print name
             count = split(needs[name], list, " ")
             for (k = 1; k <= count; k++) visit(list[k])
+            print name
         }
         END { visit(wanted) }' crates.txt
 }
 
-# prove CRATE: proves a crate and what it is made of, says a line for each on standard error, and keeps the module of a program.
+# prove CRATE FILE WORD...: proves a crate and what it is made of by `rt WORD...` in its folder, which compiles it into FILE of its out/ and leaves
+# nothing there where a proof fails. Says a line on standard error for each crate that is proved; of one that stands proved rt says nothing.
 prove() {
-    log=$made/$1.log
-    count=$(crates_of "$1" | wc -l)
-    recorded "$made/$1.bc" rt check "$1" 2>&1 | tee "$log" | awk -v count="$count" '
-        /^rt: [a-z0-9_]+ proved/ { done++ }
-        /^rt: [a-z0-9_]+ proved \([0-9]/ { sub(/^rt: /, ""); sub(/ proved \(/, " "); sub(/\)$/, ""); print done " of " count " " $0; fflush() }' >&2
-    grep -q '^rt: ok' "$log" || { cat "$log" >&2; echo "not proved: $log has all that the prover said" >&2; return 1; }
-}
-
-# recorded MODULE COMMAND...: runs the command over the kit, and keeps the module that it hands to the kit's clang. The kit is shadowed by links, with
-# a recorder in the place of its clang; its commands hand the module out in no other way.
-recorded() {
-    module=$1
-    shift
-    shadow=$(mktemp -d)
-    chmod 755 "$shadow" # what it makes may be run by another user
-    mkdir -p "$shadow/$tools/bin"
-    for file in "$kit"/* "$kit/on/$(uname -m)"/* "$kit/$tools"/* "$kit/$tools/bin"/*; do
-        link=$shadow${file#"$kit"}
-        case $link in */bin/clang) ;; *) [ -e "$link" ] || ln -s "$file" "$link" ;; esac
-    done
-    printf '#!/bin/sh\nfor word in "$@"; do case $word in *module.bc) cp "$word" "%s" ;; esac; done\nexec "%s" "$@"\n' \
-        "$shadow/module.bc" "$kit/$tools/bin/clang" >"$shadow/$tools/bin/clang"
-    chmod +x "$shadow/$tools/bin/clang"
-    status=0
-    RATTLE_HOME=$shadow "$@" || status=$?
-    [ ! -f "$shadow/module.bc" ] || mv "$shadow/module.bc" "$module"
-    rm -rf "$shadow"
-    [ "$status" -eq 0 ] && [ -f "$module" ]
-}
-
-# compiled TARGET MODULE OBJECT [EDIT]: a module compiled for a machine that is no x86-64, after an edit of its text by sed.
-compiled() {
-    clang="$kit/$tools/bin/clang -Wno-override-module -x ir"
-    $clang --target=x86_64-unknown-linux-gnu -Xclang -disable-llvm-passes -S -emit-llvm "$2" -o "$3.ll"
-    sed -i -e '/^target \(datalayout\|triple\)/d' -e 's/ "\(target-cpu\|tune-cpu\|target-features\)"="[^"]*"//g' -e "${4:-}" "$3.ll"
-    $clang "--target=$1-unknown-linux-gnu" -O3 -fPIC -ffunction-sections -c "$3.ll" -o "$3"
-    rm "$3.ll"
-}
-
-# objects_for TARGET MODULE FOLDER: the library's module and the calls before it as two objects. Of the module's calls those that share/by-value.ll
-# stands before are renamed.
-objects_for() {
-    compiled "$1" "$2" "$3/module.o" "$(sed -n 's/^define.* @\(zib_[a-z0-9_]*\)(.*/s,@\1\\b,@module_\1,g/p' share/by-value.ll)"
-    compiled "$1" share/by-value.ll "$3/by-value.o"
+    crate=$1 file=$2 log=$made/$1.log
+    shift 2
+    rm -f "crates/$crate/out/$file"
+    (cd "crates/$crate" && rt "$@" </dev/null) 2>&1 | tee "$log" | awk -v order="$(crates_of "$crate" | tr '\n' ' ')" '
+        BEGIN { count = split(order, crates, " "); for (k = 1; k <= count; k++) place[crates[k]] = k }
+        /^crate [a-z0-9_]+: / { name = $2; sub(/:$/, "", name) }
+        /^logic=proved functions=/ { sub(/.*=/, "", $2); print place[name] " of " count " " name ", " $2 " functions"; fflush() }' >&2
+    [ -e "crates/$crate/out/$file" ] || { cat "$log" >&2; echo "not proved: $log has all that the prover said" >&2; return 1; }
 }
 
 # make_library TARGET: proves the library, and makes the archive and the shared library of it for a kind of machine.
@@ -96,20 +60,10 @@ make_library() {
     into=$made/$1
     stands "$into/libzibsnarda.a" "$into/libzibsnarda.so.3" && return
     mkdir -p "$into"
-    if ! stands "$made/exports.bc"; then
-        prove exports
-        recorded "$made/exports.bc" rt staticlib exports >>"$made/exports.log" 2>&1 || { cat "$made/exports.log" >&2; return 1; }
-        standing "$made/exports.bc"
-    fi
-    rm -f "$into/libzibsnarda.a"
-    if [ "$1" = x86_64 ]; then
-        cp target/staticlib/libexports.a "$into/libzibsnarda.a"
-    else
-        objects_for "$1" "$made/exports.bc" "$into"
-        "$kit/$tools/bin/llvm-ar" rcsD "$into/libzibsnarda.a" "$into/module.o" "$into/by-value.o"
-    fi
+    prove exports_c libexports_c.a lib --target "$1-unknown-linux-gnu"
+    cp crates/exports_c/out/libexports_c.a "$into/libzibsnarda.a"
     echo '{ global: zib_*; local: *; };' >"$into/names.txt"
-    "$kit/$tools/bin/ld.lld" -shared -soname libzibsnarda.so.3 --version-script "$into/names.txt" --whole-archive "$into/libzibsnarda.a" -o "$into/libzibsnarda.so.3"
+    "$tools/ld.lld" -shared -soname libzibsnarda.so.3 --version-script "$into/names.txt" --whole-archive "$into/libzibsnarda.a" -o "$into/libzibsnarda.so.3"
     standing "$into/libzibsnarda.a" "$into/libzibsnarda.so.3"
 }
 
@@ -118,16 +72,12 @@ make_program() {
     into=$made/$1
     stands "$into/turn" && return
     mkdir -p "$into"
-    if ! stands "$made/turn.bc" target/bin/turn; then
-        rm -f target/stamp/turn # what stands proved is not compiled anew, and then there is no module to keep
-        prove turn
-        standing "$made/turn.bc" target/bin/turn
-    fi
     if [ "$1" = x86_64 ]; then
-        cp target/bin/turn "$into/turn"
+        prove turn turn run # which then runs it once, on no input
+        cp crates/turn/out/turn "$into/turn"
     else
-        compiled "$1" "$made/turn.bc" "$into/turn.o"
-        "$2" -O2 share/errno.c "$into/turn.o" -o "$into/turn"
+        prove turn turn.o run --target "$1-unknown-linux-gnu" # which ends at the link: the object is there
+        "$2" -O2 share/errno.c crates/turn/out/turn.o -o "$into/turn"
     fi
     standing "$into/turn"
 }
