@@ -31,8 +31,8 @@ Once ps r Post = (t : Two ps r Post) → (t.x ≡ t.y) × (t.u ≡ t.v)
 abbrev pub under : {X : Type 0} → GName → MutBor X → MutBor X
 under name x = record { ref_ptr = x.ref_ptr; ghost_name = name; now = x.now }
 
--- The same of a function that is proved by a walk of its code: the checker reads no plain contract of it, so the statement is over its clauses. What they
--- ensure of one outcome, beside what they ensure of another, shows that the two are one.
+-- The same over a function's clauses as the checker's own logic has them. What they ensure of one outcome, beside what they ensure of another, shows that
+-- the two are one.
 abbrev pub OnceWalked : {M : Type 1} (𝓤 : Ura M) (T : Ended) → Clauses 𝓤 T → Type 1
 OnceWalked 𝓤 T clauses = (κs : Lfts T.signature.lifetimes) (a : Args T.signature κs) (g : (clauses κs a).ghost) (x y : Res T.signature κs) (u v : Lasts T κs a)
     → ent 𝓤 (sep 𝓤 ((clauses κs a).ensures g x (at_exit T κs a u)) ((clauses κs a).ensures g y (at_exit T κs a v))) (fact 𝓤 ((x ≡ y) × (u ≡ v)))
