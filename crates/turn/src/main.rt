@@ -26,8 +26,14 @@ fn main(rt: HostRuntime) -> io::Result<()> {
     let mut words = [0u32; 1024];
     let mut scratch = [0u32; 1024];
     let mut out = [0u8; 16384];
-    let count = read_input(&mut rt.reader(), &mut bytes)?;
+    let count = match read_input(&mut rt.reader(), &mut bytes) {
+        Ok(count) => count,
+        Err(error) => return eprintln!(rt; "read: {error}"),
+    };
     let told = job::job(&bytes[..count], &mut words, &mut scratch, &mut out);
     let length = told.count;
-    io::writer(&rt).write_all(&out[..length])
+    if let Err(error) = io::writer(&rt).write_all(&out[..length]) {
+        return eprintln!(rt; "write: {error}");
+    }
+    Ok(())
 }
