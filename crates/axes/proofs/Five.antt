@@ -1,6 +1,6 @@
 -- The five lengths of a shape: the first are those of its axes, the rest are zeros. A swap among the first leaves the rest, and a loop that clears the rest makes
 -- such a shape of any.
-use Rattle.lists.proofs.Kit.{◌≡◌, refl, sym, ap, ap₂, ◌∙◌, List, [], ◌∷◌, ◌++◌, append-nil, ◌⊎◌, ⊎_elim, ℕ, zero, suc, ◌+◌, ◌-◌, ◌<◌, ◌≤◌, min, not-suc-le-zero, le_of_suc-le-suc, sub-zero, suc-sub-suc, arith, length, get_or, take, drop, set, replicate, List·getD-eq-default, take-append-drop, length-take, take_at, take_all, length-take-le, tab, tab_more, tab-get_or, drop_end, tab_zero}
+use Rattle.lists.proofs.Kit.{◌≡◌, refl, sym, ap, ap₂, ◌∙◌, List, [], ◌∷◌, ◌++◌, append-nil, ◌⊎◌, ⊎_elim, ℕ, zero, suc, ◌+◌, ◌-◌, ◌<◌, ◌≤◌, min, not-suc-le-zero, le_of_suc-le-suc, sub-zero, suc-sub-suc, arith, length, get_or, take, drop, set, replicate, get_or-eq_default, take-append-drop, length-take, take_at, take_all, length-take-le, tab, tab_more, tab-get_or, drop_end, tab_zero}
 use Rattle.orders.specs.Chains.{exchange}
 use Rattle.orders.proofs.Swaps.{length-exchange, exchange-past}
 use Rattle.axes.specs.Answers.{five_lengths}
@@ -74,7 +74,7 @@ module _ {r : ℕ} {l now : List ℕ} {k : ℕ} (s : Cleared r l now k) where
         long = s.long;
         begun = omega (arith, s.begun);
         few = omega arith;
-        filled = ap₂ (λ (t : List ℕ) (v : ℕ). set t k v) s.filled (sym (List·getD-eq-default (take r l) 0 short))
+        filled = ap₂ (λ (t : List ℕ) (v : ℕ). set t k v) s.filled (sym (get_or-eq_default (take r l) 0 short))
             ∙ tab_more k (λ j. get_or (take r l) j 0) l (omega (arith, s.long));
       }
 

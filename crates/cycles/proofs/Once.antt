@@ -1,6 +1,6 @@
 -- Lists in which every number stands once: of two lists one behind the other, and that a list which has each number below N once, and no
 -- other, has N entries, by the law of pigeons both ways.
-use Rattle.lists.proofs.Kit.{◌≡◌, sym, ap, ◌∙◌, List, ◌++◌, ◌⊎◌, inl, inr, ⊎_elim, ℕ, ◌+◌, ◌-◌, ◌<◌, ◌≤◌, arith, eqb, length, get_or, List·getD-append, length-append, get_or-append-add, eqb-true, eq-eqb, lt-or-ge}
+use Rattle.lists.proofs.Kit.{◌≡◌, sym, ap, ◌∙◌, List, ◌++◌, ◌⊎◌, inl, inr, ⊎_elim, ℕ, ◌+◌, ◌-◌, ◌<◌, ◌≤◌, arith, eqb, length, get_or, get_or-append, length-append, get_or-append-add, eqb-true, eq-eqb, lt-or-ge}
 use Rattle.cycles.specs.Orbit.{first}
 use Rattle.cycles.proofs.First.{first_holds, first_le}
 use Rattle.cycles.proofs.Pigeons.{Twice, pigeons}
@@ -24,7 +24,7 @@ module _ (us vs : List ℕ) where
       apart a g = omega arith
 
   pub in_left : {y : ℕ} → In y us → In y (us ++ vs)
-  in_left i = record { k = i.k; low = omega (arith, i.low, length-append us vs); is = List·getD-append us vs 0 i.k i.low ∙ i.is }
+  in_left i = record { k = i.k; low = omega (arith, i.low, length-append us vs); is = get_or-append us vs 0 i.k i.low ∙ i.is }
 
   pub in_right : {y : ℕ} → In y vs → In y (us ++ vs)
   in_right i = record { k = length us + i.k; low = omega (arith, i.low, length-append us vs); is = get_or-append-add us vs i.k 0 ∙ i.is }
@@ -32,7 +32,7 @@ module _ (us vs : List ℕ) where
   pub in_either : {y : ℕ} → In y (us ++ vs) → In y us ⊎ In y vs
   in_either i =
       ⊎_elim
-      (λ h. inl (record { k = i.k; low = h; is = sym (List·getD-append us vs 0 i.k h) ∙ i.is }))
+      (λ h. inl (record { k = i.k; low = h; is = sym (get_or-append us vs 0 i.k h) ∙ i.is }))
       (λ h. inr (record { k = i.k - length us; low = omega (arith, i.low, length-append us vs); is = sym (behind i.k h) ∙ i.is }))
       (lt-or-ge i.k (length us))
 
@@ -40,13 +40,13 @@ module _ (us vs : List ℕ) where
   distinct_both da db n i j hi hj e =
       let all = length-append us vs in
       let left : (k : ℕ) → k < length us → In (get_or (us ++ vs) k 0) us =
-      λ k h. record { k = k; low = h; is = sym (List·getD-append us vs 0 k h) } in
+      λ k h. record { k = k; low = h; is = sym (get_or-append us vs 0 k h) } in
       let right : (k : ℕ) → length us ≤ k → k < length (us ++ vs) → In (get_or (us ++ vs) k 0) vs =
       λ k h g. record { k = k - length us; low = omega (arith, g, all); is = sym (behind k h) } in
       ⊎_elim
       (λ ai.
       ⊎_elim
-      (λ aj. da i j ai aj (sym (List·getD-append us vs 0 i ai) ∙ e ∙ List·getD-append us vs 0 j aj))
+      (λ aj. da i j ai aj (sym (get_or-append us vs 0 i ai) ∙ e ∙ get_or-append us vs 0 j aj))
       (λ bj. absurd (n (get_or (us ++ vs) i 0) (left i ai) (rw e (right j bj hj))))
       (lt-or-ge j (length us)))
       (λ bi.

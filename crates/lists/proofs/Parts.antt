@@ -1,10 +1,10 @@
 -- A slice that is lent in parts: what is lent as a part, and the whole once that part is back.
-use Rattle.lists.proofs.Kit.{◌≡◌, refl, sym, List·getD-append, get_or-append-add, ap, ◌∙◌, List, ◌++◌, append-nil, ℕ, ◌-◌, ◌+◌, ◌<◌, ◌≤◌, arith, le_refl, length, get_or, take, drop, length-append, length-drop, drop_of_length-le, length-take-le, take_all, take_at, drop_at, take-append-add, drop-append-add, get_or-take, get_or-drop}
+use Rattle.lists.proofs.Kit.{◌≡◌, refl, sym, get_or-append, get_or-append-add, ap, ◌∙◌, List, ◌++◌, append-nil, ℕ, ◌-◌, ◌+◌, ◌<◌, ◌≤◌, arith, le_refl, length, get_or, take, drop, length-append, length-drop, drop_of_length-le, length-take-le, take_all, take_at, drop_at, take-append-add, drop-append-add, get_or-take, get_or-drop}
 use borrow.Rule.Slice.PartMut.{mid_of, put_mid, post_of}
 
 -- what stands in the first part and in the second part of a list
 pub in_front : (xs ys : List ℕ) {n k : ℕ} → length xs ≡ n → k < n → get_or (xs ++ ys) k 0 ≡ get_or xs k 0
-in_front xs ys {n} {k} e h = List·getD-append xs ys 0 k (rw e h)
+in_front xs ys {n} {k} e h = get_or-append xs ys 0 k (rw e h)
 
 pub behind : (xs ys : List ℕ) {n k : ℕ} (i : ℕ) → length xs ≡ n → k ≡ n + i → get_or (xs ++ ys) k 0 ≡ get_or ys i 0
 behind xs ys {n} {k} i e h = ap (λ (z : ℕ). get_or (xs ++ ys) z 0) (h ∙ ap (λ (z : ℕ). z + i) (sym e)) ∙ get_or-append-add xs ys i 0

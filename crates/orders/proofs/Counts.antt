@@ -1,6 +1,6 @@
 -- How often a label stands in a list, and how often one stands before another. Chains keep the counts, so in an order that a
 -- chain names each label below r stands once, and of two labels exactly one stands before the other.
-use Rattle.lists.proofs.Kit.{cond, ◌≡◌, refl, sym, ap, ◌∙◌, List, [], ◌∷◌, ◌++◌, map, ℕ, zero, suc, ◌+◌, ◌*◌, ◌<◌, ◌≤◌, not-suc-le-zero, le_of_suc-le-suc, mul_comm, mul-add, add-mul, mul-zero, zero-mul, ⊎_elim, arith, eqb, eqb·suc-suc, eq-eqb, ne_eqb, upto, map-tab, eq-or-ne}
+use Rattle.lists.proofs.Kit.{cond, ◌≡◌, refl, sym, ap, ◌∙◌, List, [], ◌∷◌, ◌++◌, map, ℕ, zero, suc, ◌+◌, ◌*◌, ◌<◌, ◌≤◌, not-suc-le-zero, le_of_suc-le-suc, mul_comm, mul-add, add-mul, mul-zero, zero-mul, ⊎_elim, arith, eqb, eqb-suc-suc, eq-eqb, ne_eqb, upto, map-tab, eq-or-ne}
 use Rattle.layout.specs.Layout.{place_of}
 use Rattle.orders.specs.Chains.{exchange, follow, named}
 
@@ -40,7 +40,7 @@ count-follow a l (k ∷ c) = count-follow a (exchange k l) c ∙ count-exchange 
 
 equal_suc : (a b : ℕ) → equal (suc a) (suc b) ≡ equal a b
 unfolding equal
-equal_suc a b = rw (eqb·suc-suc a b)
+equal_suc a b = rw (eqb-suc-suc a b)
 
 count_map_suc : (a : ℕ) (l : List ℕ) → count (suc a) (map suc l) ≡ count a l
 unfolding count

@@ -1,6 +1,6 @@
 -- The list of orders: how many there are, which is the first, and that no two are the same. What is listed begins with one of the axes left, and what begins
 -- with the same axis differs in the rest, since no axis is left twice. By induction on how many axes are taken.
-use Rattle.lists.proofs.Kit.{◌≡◌, refl, sym, ap, subst, ◌∙◌, List, [], ◌∷◌, ◌++◌, map, List-as-Memᴰ, List·Memᴰ·not-nil, List·Memᴰ·append-cases, Memᴰ·of-map, ⊎_elim, ℕ, zero, suc, ◌+◌, ◌*◌, ◌<◌, ◌≤◌, mul-pos, arith, length, get_or, length-append, length-map, upto, length-tab}
+use Rattle.lists.proofs.Kit.{◌≡◌, refl, sym, ap, subst, ◌∙◌, List, [], ◌∷◌, ◌++◌, map, Memᴰ, Memᴰ-not_nil, Memᴰ-append_cases, Memᴰ-of_map, ⊎_elim, ℕ, zero, suc, ◌+◌, ◌*◌, ◌<◌, ◌≤◌, mul-pos, arith, length, get_or, length-append, length-map, upto, length-tab}
 use mathlib.Core.List.Memᴰ
 use Rattle.orders.specs.Numbers.{arrangements, orders, order_count, order_of}
 use Rattle.orders.proofs.Counts.{equal_one, count, count-append, count_upto_few}
@@ -10,23 +10,23 @@ use Rattle.orders.proofs.Listed.Taken.{here, past}
 -- no two of a list are the same
 pub data Distinct : List (List ℕ) → Type 0 where
   none : Distinct []
-  more : {p : List ℕ} {ps : List (List ℕ)} → (List-as-Memᴰ p ps → ⊥) → Distinct ps → Distinct (p ∷ ps)
+  more : {p : List ℕ} {ps : List (List ℕ)} → (Memᴰ p ps → ⊥) → Distinct ps → Distinct (p ∷ ps)
 
-distinct_append : {ps qs : List (List ℕ)} → Distinct ps → Distinct qs → ((o : List ℕ) → List-as-Memᴰ o ps → List-as-Memᴰ o qs → ⊥) → Distinct (ps ++ qs)
+distinct_append : {ps qs : List (List ℕ)} → Distinct ps → Distinct qs → ((o : List ℕ) → Memᴰ o ps → Memᴰ o qs → ⊥) → Distinct (ps ++ qs)
 distinct_append none b d = b
 distinct_append (more {p = p} {ps = ps} n a) b d =
     more
-    (λ m. ⊎_elim n (d p (Memᴰ.head refl)) (List·Memᴰ·append-cases ps m))
+    (λ m. ⊎_elim n (d p (Memᴰ.head refl)) (Memᴰ-append_cases ps m))
     (distinct_append a b (λ o m. d o (Memᴰ.tail m)))
 
 distinct_map : (a : ℕ) {ps : List (List ℕ)} → Distinct ps → Distinct (map (λ o. a ∷ o) ps)
 distinct_map a none = none
 distinct_map a (more {p = p} {ps = ps} n s) =
     more
-    (λ (m : List-as-Memᴰ (a ∷ p) (map (λ o. a ∷ o) ps)).
-    let (q, i, e) = Memᴰ·of-map (λ o. a ∷ o) ps m in
+    (λ (m : Memᴰ (a ∷ p) (map (λ o. a ∷ o) ps)).
+    let (q, i, e) = Memᴰ-of_map (λ o. a ∷ o) ps m in
     let same : q ≡ p = cc in
-    n (subst (λ (o : List ℕ). List-as-Memᴰ o ps) same i))
+    n (subst (λ (o : List ℕ). Memᴰ o ps) same i))
     (distinct_map a s)
 
 taken-count : {a : ℕ} {l m : List ℕ} → Taken a l m → 0 < count a l
@@ -35,11 +35,11 @@ taken-count {a} (here {b = b} e) = omega (arith, equal_one b a (sym e))
 taken-count (past t) = omega (arith, taken-count t)
 
 -- those that begin with a, and those that begin with an axis left after it
-apart : (n a : ℕ) (passed axes : List ℕ) → count a axes ≡ 0 → (os : List (List ℕ)) (o : List ℕ) → List-as-Memᴰ o (map (λ p. a ∷ p) os)
-    → List-as-Memᴰ o (arrangements (suc n) passed axes) → ⊥
+apart : (n a : ℕ) (passed axes : List ℕ) → count a axes ≡ 0 → (os : List (List ℕ)) (o : List ℕ) → Memᴰ o (map (λ p. a ∷ p) os)
+    → Memᴰ o (arrangements (suc n) passed axes) → ⊥
 unfolding Begun
 apart n a passed axes h os o m k =
-    let (p, i, e) = Memᴰ·of-map (λ p. a ∷ p) os m in
+    let (p, i, e) = Memᴰ-of_map (λ p. a ∷ p) os m in
     let (b, q, rest, t, j, f) = begun n passed axes k in
     let same : b ≡ a = cc in
     let there : 0 < count a axes = subst (λ (x : ℕ). 0 < count x axes) same (taken-count t) in
@@ -47,7 +47,7 @@ apart n a passed axes h os o m k =
 
 distinct : (n : ℕ) (passed axes : List ℕ) → ((x : ℕ) → count x passed + count x axes ≤ 1) → Distinct (arrangements n passed axes)
 unfolding arrangements count
-distinct zero passed axes h = more List·Memᴰ·not-nil none
+distinct zero passed axes h = more Memᴰ-not_nil none
 distinct (suc n) passed [] h = none
 distinct (suc n) passed (a ∷ axes) h =
     distinct_append

@@ -1,6 +1,6 @@
 -- What exchanging two neighbouring labels does to the pairs in falling order: only the pairs of these two labels change.
 -- So in an order that a chain names the count of falling pairs rises or falls by one, and no chain is shorter than that count.
-use Rattle.lists.proofs.Kit.{cond, ◌≡◌, refl, sym, ap, ◌∙◌, List, [], ◌∷◌, map, ⊎_elim, ℕ, zero, suc, ◌+◌, ◌<◌, ◌≤◌, zero-le, arith, ltb, leb·suc-suc, length, lt-ltb, le-ltb, upto, lt-or-ge}
+use Rattle.lists.proofs.Kit.{cond, ◌≡◌, refl, sym, ap, ◌∙◌, List, [], ◌∷◌, map, ⊎_elim, ℕ, zero, suc, ◌+◌, ◌<◌, ◌≤◌, zero-le, arith, ltb, leb-suc-suc, length, lt-ltb, le-ltb, upto, lt-or-ge}
 use Rattle.layout.specs.Layout.{place_of}
 use Rattle.orders.specs.Chains.{follow, named}
 use Rattle.orders.specs.Plans.{under, falling, relabelled}
@@ -124,7 +124,7 @@ under_zero (b ∷ l) = omega (arith, lower_none b 0 zero-le, under_zero l)
 under_map_suc : (a : ℕ) (l : List ℕ) → under (suc a) (map suc l) ≡ under a l
 unfolding under
 under_map_suc a [] = refl
-under_map_suc a (b ∷ l) = rw (leb·suc-suc (suc b) a, under_map_suc a l)
+under_map_suc a (b ∷ l) = rw (leb-suc-suc (suc b) a, under_map_suc a l)
 
 falling_map_suc : (l : List ℕ) → falling (map suc l) ≡ falling l
 unfolding falling

@@ -1,6 +1,6 @@
 -- Release 2 as it is said, by where each axis goes, over any number of axes. A chain run backwards undoes the order of a number, so one list alone
 -- has every axis at its place, and it is the list under the inverse order: the words are those of one release 1 number.
-use Rattle.lists.proofs.Kit.{◌≡◌, refl, sym, ap, ◌∙◌, subst, Bool, true, false, cond, List, [], ◌∷◌, ◌↔◌, Iff·rfl, ℕ, zero, suc, ◌<◌, arith, eqb, length, get_or, ext_get_or}
+use Rattle.lists.proofs.Kit.{◌≡◌, refl, sym, ap, ◌∙◌, subst, Bool, true, false, cond, List, [], ◌∷◌, ◌↔◌, Iff-rfl, ℕ, zero, suc, ◌<◌, arith, eqb, length, get_or, ext_get_or}
 use Rattle.layout.specs.Layout.{pick, places, Laid, Undone}
 use Rattle.layout.proofs.Offsets.{within_length}
 use Rattle.layout.proofs.Picks.{length-pick, pick_at, undone, places_undo}
@@ -55,7 +55,7 @@ module _ (r k : ℕ) (h : k < order_count r) where
   so : (second : Bool) {ds xs ys : List ℕ} → length ds ≡ r
       → cond second (LaidTo ds (order_of r k) xs ys) (Laid ds (order_of r k) xs ys) ↔ Laid ds (cond second (order_by r 2 k) (order_of r k)) xs ys
   so true {ds} e = laid_to undo_each ds e
-  so false e = Iff·rfl
+  so false e = Iff-rfl
 
   -- what a number says by its release is the layout under the order that it names: in release 2, too, where each axis goes says which axis stands where
   pub laid_by : (release : ℕ) {ds xs ys : List ℕ} → length ds ≡ r → LaidBy r release k ds xs ys ↔ Laid ds (order_by r release k) xs ys

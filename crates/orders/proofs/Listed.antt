@@ -1,7 +1,7 @@
 -- Arrangements of axes, as a relation: an axis is taken, then one of the rest, and so on. Every such arrangement is listed by
 -- `arrangements`, and a swap of an arrangement is one: taking two axes in either order leaves the same rest.
 -- Conversely a chain names whatever is listed: it brings the axis that is taken to the front, and then does so in the rest.
-use Rattle.lists.proofs.Kit.{◌≡◌, refl, sym, ap, ◌∙◌, subst, ⊎_elim, arith, List, [], ◌∷◌, ◌++◌, map, List-as-Memᴰ, List·Memᴰ·not-nil, List·Memᴰ·append-cases, List·Memᴰ·eq-of-singleton, Memᴰ·of-map, Memᴰ·map, Memᴰ·append-left, Memᴰ·append-right, ℕ, zero, suc, length, append_snoc, upto, length-tab}
+use Rattle.lists.proofs.Kit.{◌≡◌, refl, sym, ap, ◌∙◌, subst, ⊎_elim, arith, List, [], ◌∷◌, ◌++◌, map, Memᴰ, Memᴰ-not_nil, Memᴰ-append_cases, Memᴰ-eq_of_singleton, Memᴰ-of_map, Memᴰ-map, Memᴰ-append_left, Memᴰ-append_right, ℕ, zero, suc, length, append_snoc, upto, length-tab}
 use mathlib.Core.List.Memᴰ
 use Rattle.orders.specs.Chains.{exchange, follow, named}
 use Rattle.orders.specs.Numbers.{arrangements, orders}
@@ -18,19 +18,19 @@ data Arranged : List ℕ → List ℕ → Type 0 where
   first : {a : ℕ} {o axes rest : List ℕ} → Taken a axes rest → Arranged o rest → Arranged (a ∷ o) axes
 
 listed_first : {a : ℕ} {o axes rest : List ℕ} (n : ℕ) (passed : List ℕ) → Taken a axes rest
-    → List-as-Memᴰ o (arrangements n [] (passed ++ rest)) → List-as-Memᴰ (a ∷ o) (arrangements (suc n) passed axes)
+    → Memᴰ o (arrangements n [] (passed ++ rest)) → Memᴰ (a ∷ o) (arrangements (suc n) passed axes)
 unfolding arrangements
 listed_first {a} {o} n passed (here {b = b} {l = l} e) m =
-    Memᴰ·append-left
+    Memᴰ-append_left
     (arrangements (suc n) (passed ++ (b ∷ [])) l)
-    (subst (λ (c : ℕ). List-as-Memᴰ (c ∷ o) (map (λ p. b ∷ p) (arrangements n [] (passed ++ l)))) (sym e) (Memᴰ·map (λ p. b ∷ p) m))
+    (subst (λ (c : ℕ). Memᴰ (c ∷ o) (map (λ p. b ∷ p) (arrangements n [] (passed ++ l)))) (sym e) (Memᴰ-map (λ p. b ∷ p) m))
 listed_first {a} {o} n passed (past {b = b} {l = l} {m = r} t) m =
-    Memᴰ·append-right
+    Memᴰ-append_right
     (map (λ p. b ∷ p) (arrangements n [] (passed ++ l)))
     (listed_first n (passed ++ (b ∷ [])) t (rw (append_snoc passed b r) m))
 
 -- every arrangement is listed
-listed : {o axes : List ℕ} → Arranged o axes → List-as-Memᴰ o (arrangements (length o) [] axes)
+listed : {o axes : List ℕ} → Arranged o axes → Memᴰ o (arrangements (length o) [] axes)
 unfolding arrangements
 listed none = Memᴰ.head refl
 listed (first {o = o} t s) = listed_first (length o) [] t (listed s)
@@ -58,29 +58,29 @@ itself [] = none
 itself (a ∷ l) = first (here refl) (itself l)
 
 -- what a chain names is among the orders
-pub named_listed : (r : ℕ) (c : List ℕ) → List-as-Memᴰ (named r c) (orders r)
+pub named_listed : (r : ℕ) (c : List ℕ) → Memᴰ (named r c) (orders r)
 unfolding named orders
 named_listed r c =
     subst
-    (λ (n : ℕ). List-as-Memᴰ (named r c) (arrangements n [] (upto r)))
+    (λ (n : ℕ). Memᴰ (named r c) (arrangements n [] (upto r)))
     (length-named r c)
     (listed (arranged_follow c (itself (upto r))))
 
 -- what is listed begins with an axis that is taken, and goes on with what is listed of the rest
 unfoldable pub Begun : ℕ → List ℕ → List ℕ → List ℕ → Type 0
 Begun n passed axes o =
-    (a : ℕ) × (p : List ℕ) × (rest : List ℕ) × Taken a axes rest × List-as-Memᴰ p (arrangements n [] (passed ++ rest)) × (a ∷ p ≡ o)
+    (a : ℕ) × (p : List ℕ) × (rest : List ℕ) × Taken a axes rest × Memᴰ p (arrangements n [] (passed ++ rest)) × (a ∷ p ≡ o)
 
-pub begun : (n : ℕ) (passed axes : List ℕ) {o : List ℕ} → List-as-Memᴰ o (arrangements (suc n) passed axes) → Begun n passed axes o
+pub begun : (n : ℕ) (passed axes : List ℕ) {o : List ℕ} → Memᴰ o (arrangements (suc n) passed axes) → Begun n passed axes o
 unfolding arrangements Begun
-begun n passed [] m = absurd (List·Memᴰ·not-nil m)
+begun n passed [] m = absurd (Memᴰ-not_nil m)
 begun n passed (b ∷ axes) {o} m =
     ⊎_elim
-    (λ (f : List-as-Memᴰ o (map (λ p. b ∷ p) (arrangements n [] (passed ++ axes)))).
-    let (p, i, e) = Memᴰ·of-map (λ p. b ∷ p) (arrangements n [] (passed ++ axes)) f in (b, p, axes, here refl, i, e))
-    (λ (f : List-as-Memᴰ o (arrangements (suc n) (passed ++ (b ∷ [])) axes)).
+    (λ (f : Memᴰ o (map (λ p. b ∷ p) (arrangements n [] (passed ++ axes)))).
+    let (p, i, e) = Memᴰ-of_map (λ p. b ∷ p) (arrangements n [] (passed ++ axes)) f in (b, p, axes, here refl, i, e))
+    (λ (f : Memᴰ o (arrangements (suc n) (passed ++ (b ∷ [])) axes)).
     let (a, p, rest, t, i, e) = begun n (passed ++ (b ∷ [])) axes f in (a, p, b ∷ rest, past t, rw (append_snoc passed b rest) at i, e))
-    (List·Memᴰ·append-cases (map (λ p. b ∷ p) (arrangements n [] (passed ++ axes))) m)
+    (Memᴰ-append_cases (map (λ p. b ∷ p) (arrangements n [] (passed ++ axes))) m)
 
 -- a chain one place further on leaves the first axis where it is
 follow_rest : (a : ℕ) (l c : List ℕ) → follow (a ∷ l) (map suc c) ≡ a ∷ follow l c
@@ -102,9 +102,9 @@ taken-length : {a : ℕ} {l m : List ℕ} → Taken a l m → length l ≡ suc (
 taken-length (here e) = refl
 taken-length (past t) = ap suc (taken-length t)
 
-chained : (n : ℕ) (axes : List ℕ) {o : List ℕ} → length axes ≡ n → List-as-Memᴰ o (arrangements n [] axes) → (c : List ℕ) × (follow axes c ≡ o)
+chained : (n : ℕ) (axes : List ℕ) {o : List ℕ} → length axes ≡ n → Memᴰ o (arrangements n [] axes) → (c : List ℕ) × (follow axes c ≡ o)
 unfolding arrangements Begun follow
-chained zero [] h m = ([], sym (List·Memᴰ·eq-of-singleton m))
+chained zero [] h m = ([], sym (Memᴰ-eq_of_singleton m))
 chained zero (a ∷ axes) h m = absurd (omega arith)
 chained (suc n) axes h m =
     let (a, p, rest, t, i, e) = begun n [] axes m in
@@ -119,6 +119,6 @@ chained (suc n) axes h m =
     )
 
 -- a chain names whatever is among the orders
-pub listed_named : (r : ℕ) {o : List ℕ} → List-as-Memᴰ o (orders r) → (c : List ℕ) × (named r c ≡ o)
+pub listed_named : (r : ℕ) {o : List ℕ} → Memᴰ o (orders r) → (c : List ℕ) × (named r c ≡ o)
 unfolding named orders
 listed_named r m = chained r (upto r) (length-tab r (λ k. k)) m

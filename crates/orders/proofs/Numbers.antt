@@ -1,6 +1,6 @@
 -- Orders by number, over any number of axes. Every order that a chain names is in the list of orders, where a search finds it,
 -- a chain names every order in the list, and no two numbers are one order.
-use Rattle.lists.proofs.Kit.{◌≡◌, refl, sym, ap, subst, ◌∙◌, Bool, true, false, List, [], ◌∷◌, List-as-Memᴰ, List·Memᴰ·not-nil, List·Memᴰ·cases-cons, ⊎_elim, ℕ, zero, suc, ◌<◌, zero-le, suc-le-suc, not-suc-le-zero, le_of_suc-le-suc, T, length, get_or, same, same→eq, eq→same}
+use Rattle.lists.proofs.Kit.{◌≡◌, refl, sym, ap, subst, ◌∙◌, Bool, true, false, List, [], ◌∷◌, Memᴰ, Memᴰ-not_nil, Memᴰ-cases_cons, ⊎_elim, ℕ, zero, suc, ◌<◌, zero-le, suc-le-suc, not-suc-le-zero, le_of_suc-le-suc, T, length, get_or, same, same→eq, eq→same}
 use mathlib.Core.List.Memᴰ
 use Rattle.orders.specs.Chains.{named}
 use Rattle.orders.specs.Numbers.{orders, order_count, order_of, rank, number_of}
@@ -11,18 +11,18 @@ use Rattle.orders.proofs.Distinct.{Distinct, orders_distinct, count-orders}
 Ranked : List ℕ → List (List ℕ) → Type 0
 Ranked o ps = (rank o ps < length ps) × (get_or ps (rank o ps) [] ≡ o)
 
-ranked_here : (o p : List ℕ) (ps : List (List ℕ)) (t : Bool) → same o p ≡ t → (List-as-Memᴰ o ps → Ranked o ps) → List-as-Memᴰ o (p ∷ ps)
+ranked_here : (o p : List ℕ) (ps : List (List ℕ)) (t : Bool) → same o p ≡ t → (Memᴰ o ps → Ranked o ps) → Memᴰ o (p ∷ ps)
     → Ranked o (p ∷ ps)
 unfolding Ranked rank
 ranked_here o p ps true q ih m = rw q (suc-le-suc zero-le, sym (same→eq o p (subst T (sym q) tt)))
 ranked_here o p ps false q ih m =
     ⊎_elim
     (λ (e : o ≡ p). absurd (subst T q (eq→same o p e)))
-    (λ (m' : List-as-Memᴰ o ps). rw q (let f = ih m' in (suc-le-suc f.0, f.1)))
-    (List·Memᴰ·cases-cons m)
+    (λ (m' : Memᴰ o ps). rw q (let f = ih m' in (suc-le-suc f.0, f.1)))
+    (Memᴰ-cases_cons m)
 
-ranked : (o : List ℕ) (ps : List (List ℕ)) → List-as-Memᴰ o ps → Ranked o ps
-ranked o [] m = absurd (List·Memᴰ·not-nil m)
+ranked : (o : List ℕ) (ps : List (List ℕ)) → Memᴰ o ps → Ranked o ps
+ranked o [] m = absurd (Memᴰ-not_nil m)
 ranked o (p ∷ ps) m = ranked_here o p ps (same o p) refl (ranked o ps) m
 
 named_ranked : (r : ℕ) (c : List ℕ) → Ranked (named r c) (orders r)
@@ -38,7 +38,7 @@ pub order_number : (r : ℕ) (c : List ℕ) → order_of r (number_of r (named r
 unfolding number_of order_of Ranked
 order_number r c = (named_ranked r c).1
 
-pub at_place : (ps : List (List ℕ)) (k : ℕ) → k < length ps → List-as-Memᴰ (get_or ps k []) ps
+pub at_place : (ps : List (List ℕ)) (k : ℕ) → k < length ps → Memᴰ (get_or ps k []) ps
 at_place [] k h = absurd (not-suc-le-zero h)
 at_place (p ∷ ps) zero h = Memᴰ.head refl
 at_place (p ∷ ps) (suc k) h = Memᴰ.tail (at_place ps k (le_of_suc-le-suc h))
@@ -62,7 +62,7 @@ rank_place (Distinct.more {p = p} {ps = ps} n s) (suc k) h = rw (missed (same o 
 
     missed : (t : Bool) → same o p ≡ t → same o p ≡ false
     missed false q = q
-    missed true q = absurd (n (subst (λ (l : List ℕ). List-as-Memᴰ l ps) (same→eq o p (subst T (sym q) tt)) (at_place ps k there)))
+    missed true q = absurd (n (subst (λ (l : List ℕ). Memᴰ l ps) (same→eq o p (subst T (sym q) tt)) (at_place ps k there)))
 
 module _ (r k : ℕ) (h : k < order_count r) where
   listed : k < length (orders r)

@@ -1,6 +1,6 @@
 -- Two neighbouring labels exchanged. A swap at the front of a chain exchanges labels of what the rest of the chain names:
 -- it exchanges entries of 0, 1, .., and a chain moves places, whatever stands there.
-use Rattle.lists.proofs.Kit.{◌≡◌, refl, sym, ap, ◌∙◌, Bool, true, false, cond, List, [], ◌∷◌, map, ℕ, zero, suc, ◌<◌, ◌≤◌, not-suc-le-zero, le_of_suc-le-suc, arith, eqb, eqb·suc-suc, eqb-true, eqb-false, eq-eqb, ne_eqb, tab, upto, length-tab, tab_ext, map-tab}
+use Rattle.lists.proofs.Kit.{◌≡◌, refl, sym, ap, ◌∙◌, Bool, true, false, cond, List, [], ◌∷◌, map, ℕ, zero, suc, ◌<◌, ◌≤◌, not-suc-le-zero, le_of_suc-le-suc, arith, eqb, eqb-suc-suc, eqb-true, eqb-false, eq-eqb, ne_eqb, tab, upto, length-tab, tab_ext, map-tab}
 use Rattle.orders.specs.Chains.{exchange, follow, named}
 use Rattle.orders.specs.Plans.{relabelled}
 use Rattle.orders.proofs.Swaps.{map-exchange, exchange-past}
@@ -46,7 +46,7 @@ map_relabel_twice k (a ∷ l) = rw (relabel_twice k a, map_relabel_twice k l)
 
 relabel_suc : (k a : ℕ) → relabelled (suc k) (suc a) ≡ suc (relabelled k a)
 unfolding relabelled
-relabel_suc k a = rw (eqb·suc-suc a k, eqb·suc-suc a (suc k)) (go (eqb a k) (eqb a (suc k)))
+relabel_suc k a = rw (eqb-suc-suc a k, eqb-suc-suc a (suc k)) (go (eqb a k) (eqb a (suc k)))
   where
     go : (s t : Bool) → cond s (suc (suc k)) (cond t (suc k) (suc a)) ≡ suc (cond s (suc k) (cond t k a))
     go true t = refl

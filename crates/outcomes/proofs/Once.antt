@@ -1,4 +1,4 @@
--- What one-outcome theorems of functions that are proved by a walk use: two facts that hold side by side give a third.
+-- What one-outcome theorems over clauses use: two facts that hold side by side give a third.
 use seplogic.Ra.Ura.{Ura}
 use base.Logic.{ent, sep, fst∗, snd∗}
 use contract.Monad.{fact, fact_i, fact_use}

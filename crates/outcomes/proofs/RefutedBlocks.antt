@@ -1,6 +1,6 @@
 -- Wrong versions of the calls that lay a block out afresh, as tables: the turns, the swap, the chains and the requests. Of the request,
 -- that it cannot be seen whether 4 or 7 comes first: 4 never holds beside 7.
-use Rattle.lists.proofs.Kit.{◌≡◌, refl, ap, ◌∙◌, Bool, true, false, cond, List, [], ◌∷◌, ℕ, ◌-◌, arith, eqb, length, take, replicate, List·getD-eq-default, ltb-true, le-ltb, upto}
+use Rattle.lists.proofs.Kit.{◌≡◌, refl, ap, ◌∙◌, Bool, true, false, cond, List, [], ◌∷◌, ℕ, ◌-◌, arith, eqb, length, take, replicate, get_or-eq_default, ltb-true, le-ltb, upto}
 use Rattle.layout.specs.Layout.{volume, at, pick, place_of, places, coords, laid}
 use Rattle.orders.specs.Chains.{exchange, follow, named}
 use Rattle.orders.specs.Numbers.{arrangements, orders, order_of, order_count, rank, number_of}
@@ -359,7 +359,7 @@ axes_refuted = refuted axes refl
 pub four_never_beside_seven : (r release k : ℕ) (ds s : List ℕ) → no_order r k ≡ true → short_scratch (plan_need r ds release k) s ≡ false
 unfolding order_of places plan_of falling planned chain_need
 four_never_beside_seven r release k ds s e =
-    let none : order_of r k ≡ [] = List·getD-eq-default (orders r) [] (omega (arith, count-orders r, count-pos r, ltb-true (order_count r - 1) k e)) in
+    let none : order_of r k ≡ [] = get_or-eq_default (orders r) [] (omega (arith, count-orders r, count-pos r, ltb-true (order_count r - 1) k e)) in
     ap (λ (o : List ℕ). short_scratch (chain_need ds (plan_of o)) s) (either (eqb release 2) none) ∙ le-ltb (length s) 0 (omega arith)
   where
     either : (t : Bool) {o : List ℕ} → o ≡ [] → cond t (places o) o ≡ []

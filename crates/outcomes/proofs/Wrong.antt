@@ -1,6 +1,6 @@
 -- Wrong versions as tables. A row names a version, CALL/VERSION, and says what it leaves or answers on one small entry; one computed test over a table shows
 -- that the promise refutes every row of it, and names those that it does not. docs/PROMISES.md cites rows by their names.
-use Rattle.lists.proofs.Kit.{◌≡◌, sym, ap, subst, ◌∙◌, Bool, true, false, cond, not, ◌&&◌, List, [], ◌∷◌, List·Memᴰ·not-nil, List·Memᴰ·cases-cons, ⊎_elim, ℕ, arith, T, eqb, T_not, eqb_refl, eqb→eq, length, same, both_left, both_right, eq→same}
+use Rattle.lists.proofs.Kit.{◌≡◌, sym, ap, subst, ◌∙◌, Bool, true, false, cond, not, ◌&&◌, List, [], ◌∷◌, Memᴰ-not_nil, Memᴰ-cases_cons, ⊎_elim, ℕ, arith, T, eqb, T_not, eqb_refl, eqb→eq, length, same, both_left, both_right, eq→same}
 use Prim.Native.String.{String}
 use Rattle.refusals.specs.FirstOf.{Check, first_of}
 use Rattle.refusals.specs.Conditions.{some}
@@ -54,10 +54,10 @@ module _ {O : Type 0} where
   failing (r ∷ rs) = cond (test r) (failing rs) (name r ∷ failing rs)
 
   pub refuted : (rows : List (Row O)) → failing rows ≡ [] → Refuted rows
-  refuted [] e r m = absurd (List·Memᴰ·not-nil m)
+  refuted [] e r m = absurd (Memᴰ-not_nil m)
   refuted (x ∷ rows) e r m =
       let (t, none) = first (test x) (name x) (failing rows) e in
-      ⊎_elim (λ (same : r ≡ x). refutes r (subst (λ (y : Row O). T (test y)) (sym same) t)) (λ m'. refuted rows none r m') (List·Memᴰ·cases-cons m)
+      ⊎_elim (λ (same : r ≡ x). refutes r (subst (λ (y : Row O). T (test y)) (sym same) t)) (λ m'. refuted rows none r m') (Memᴰ-cases_cons m)
     where
       first : (t : Bool) (n : String) (ns : List String) → cond t ns (n ∷ ns) ≡ [] → T t × (ns ≡ [])
       first true n ns e = (tt, e)

@@ -1,6 +1,6 @@
 -- The line of a tick in the words of documents 01 and 02 is the line that the functions move. In a block of exactly m rows and n columns every place is
 -- the cell of one row and one column, so the places off a line are the cells of the other rows or columns.
-use Rattle.lists.proofs.Kit.{◌≡◌, refl, sym, ap, ◌∙◌, subst, Bool, true, false, cond, List, ◌↔◌, ⊎_elim, ℕ, ◌+◌, ◌*◌, ◌-◌, ◌/◌, ◌%◌, ◌<◌, ◌≤◌, arith, mod-lt, div-add-mod', div-lt_iff_lt-mul, ltb, length, get_or, List·getD-eq-default, digits_div, digits_mod, lt-or-ge}
+use Rattle.lists.proofs.Kit.{◌≡◌, refl, sym, ap, ◌∙◌, subst, Bool, true, false, cond, List, ◌↔◌, ⊎_elim, ℕ, ◌+◌, ◌*◌, ◌-◌, ◌/◌, ◌%◌, ◌<◌, ◌≤◌, arith, mod-lt, div-add-mod', div-lt_iff_lt-mul, ltb, length, get_or, get_or-eq_default, digits_div, digits_mod, lt-or-ge}
 use Rattle.flat.specs.Gcd.{gcd_of}
 use Rattle.flat.specs.Passes.{row1, column2, row3}
 use Rattle.passes.specs.Lines.{Moved, column, row, line_of, skipped, line_count, pos_on, LineMoved}
@@ -16,7 +16,7 @@ module _ (m n : ℕ) (xs ys : List ℕ) (hn : 0 < n) (exact : length xs ≡ m * 
   by_cells p e f =
       ⊎_elim
       (λ (h : p < m * n). f (p / n) (p % n) ((div-lt_iff_lt-mul hn).1 h) (mod-lt p hn) (div-add-mod' p n))
-      (λ (h : m * n ≤ p). List·getD-eq-default ys 0 (omega arith) ∙ sym (List·getD-eq-default xs 0 (omega arith)))
+      (λ (h : m * n ≤ p). get_or-eq_default ys 0 (omega arith) ∙ sym (get_or-eq_default xs 0 (omega arith)))
       (lt-or-ge p (m * n))
 
   -- a column

@@ -1,6 +1,6 @@
 -- A table with one row made of each row of another: the row at a place is made of the other's row at that place. By induction on the rows. And past the last
 -- order there is none.
-use Rattle.lists.proofs.Kit.{◌≡◌, refl, ap, ◌∙◌, Bool, true, false, cond, List, [], ◌∷◌, map, ℕ, zero, suc, ◌+◌, ◌*◌, ◌<◌, ◌≤◌, not-suc-le-zero, le_of_suc-le-suc, eqb, length, get_or, List·getD-eq-default}
+use Rattle.lists.proofs.Kit.{◌≡◌, refl, ap, ◌∙◌, Bool, true, false, cond, List, [], ◌∷◌, map, ℕ, zero, suc, ◌+◌, ◌*◌, ◌<◌, ◌≤◌, not-suc-le-zero, le_of_suc-le-suc, eqb, length, get_or, get_or-eq_default}
 use Rattle.layout.specs.Layout.{place_of, places}
 use Rattle.orders.specs.Chains.{exchange}
 use Rattle.orders.specs.Numbers.{arrangements, orders, order_count, order_of, rank, number_of}
@@ -23,7 +23,7 @@ written base so_far (d ∷ row) = written base (so_far * base + d) row
 
 pub no_row : (r k : ℕ) → order_count r ≤ k → order_of r k ≡ []
 unfolding order_of
-no_row r k h = List·getD-eq-default (orders r) [] (rw (count-orders r) h)
+no_row r k h = get_or-eq_default (orders r) [] (rw (count-orders r) h)
 
 -- and what is none of the orders has for a number how many there are
 pub none_of_four : number_of 4 [] ≡ 24

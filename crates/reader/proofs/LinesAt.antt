@@ -1,6 +1,6 @@
 -- Words, tabs and lines at a place of the bytes: what the byte at the place says of what is read there, and the ways out of reading a
 -- line. From the definitions.
-use Rattle.lists.proofs.Kit.{◌≡◌, sym, ap, ◌∙◌, Bool, true, false, not, ◌&&◌, List, ◌∷◌, ⊎_elim, ℕ, suc, ◌+◌, ◌-◌, ◌<◌, ◌≤◌, arith, T, eqb, length, take, drop, get_or, length-take, length-drop, drop_of_length-le, List·getD-eq-default, drop-drop, drop-length, not-true, not-false, eq-eqb, ne_eqb, same, same→eq, decided, lt-or-ge, drop-next}
+use Rattle.lists.proofs.Kit.{◌≡◌, sym, ap, ◌∙◌, Bool, true, false, not, ◌&&◌, List, ◌∷◌, ⊎_elim, ℕ, suc, ◌+◌, ◌-◌, ◌<◌, ◌≤◌, arith, T, eqb, length, take, drop, get_or, length-take, length-drop, drop_of_length-le, get_or-eq_default, drop-drop, drop-length, not-true, not-false, eq-eqb, ne_eqb, same, same→eq, decided, lt-or-ge, drop-next}
 use Rattle.sheets.specs.Print.{tab_byte, line_feed}
 use Rattle.sheets.specs.Read.{Reading, after, read_fields, closed, read_line, tabs}
 use Rattle.sheets.proofs.Lines.{after_found, closed_found}
@@ -88,7 +88,7 @@ pub byte_inside : (bytes : List ℕ) (p : ℕ) {b : ℕ} → get_or bytes p 0 �
 byte_inside bytes p e h =
     ⊎_elim
     (λ (i : p < length bytes). i)
-    (λ (o : length bytes ≤ p). absurd (omega (arith, List·getD-eq-default bytes 0 {n = p} o)))
+    (λ (o : length bytes ≤ p). absurd (omega (arith, get_or-eq_default bytes 0 {n = p} o)))
     (lt-or-ge p (length bytes))
 
 module _ (bytes : List ℕ) (p : ℕ) where

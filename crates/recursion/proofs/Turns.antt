@@ -1,6 +1,6 @@
 -- A tall block whose parts are turned and then merged is turned, and so is a wide one that is split and whose parts are turned.
 -- Each offset lies in one of the two parts and is read there, in document 01's own words.
-use Rattle.lists.proofs.Kit.{◌≡◌, sym, ap, ◌∙◌, subst, List, ◌++◌, ⊎_elim, ℕ, ◌+◌, ◌-◌, ◌*◌, ◌/◌, ◌≤◌, ◌<◌, arith, mul-add, add-mul, mul_comm, length, get_or, take, drop, length-append, length-drop, List·getD-eq-default, length-take-le, get_or-take, get_or-drop, digits_lt, lt-or-ge}
+use Rattle.lists.proofs.Kit.{◌≡◌, sym, ap, ◌∙◌, subst, List, ◌++◌, ⊎_elim, ℕ, ◌+◌, ◌-◌, ◌*◌, ◌/◌, ◌≤◌, ◌<◌, arith, mul-add, add-mul, mul_comm, length, get_or, take, drop, length-append, length-drop, get_or-eq_default, length-take-le, get_or-take, get_or-drop, digits_lt, lt-or-ge}
 use Rattle.flat.specs.Turn.{Turn}
 use Rattle.flat.proofs.Turn.{literally, from_literal}
 use Rattle.recursion.specs.Merge.{Merged}
@@ -12,7 +12,7 @@ use Rattle.recursion.proofs.Cuts.{Parted, Both, rows_cut, columns_cut}
 pub filled_turn : (m n : ℕ) (xs ys : List ℕ) → length xs ≡ m * n → length ys ≡ length xs
     → ((i j : ℕ) → i < m → j < n → get_or ys (j * m + i) 0 ≡ get_or xs (i * n + j) 0) → Turn m n xs ys
 filled_turn m n xs ys long same placed = from_literal m n xs ys same placed (λ k h.
-    List·getD-eq-default ys 0 {n = k} (omega (arith, same)) ∙ sym (List·getD-eq-default xs 0 {n = k} (omega arith)))
+    get_or-eq_default ys 0 {n = k} (omega (arith, same)) ∙ sym (get_or-eq_default xs 0 {n = k} (omega arith)))
 
 -- a block of equal sides: what the exchange across its diagonal asks, and that it is the block's turn
 pub square_block : {m n : ℕ} {xs : List ℕ} → Block m n xs → m ≡ n → length xs ≡ n * n

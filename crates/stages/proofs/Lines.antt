@@ -1,6 +1,6 @@
 -- The stages of lines can be begun again: a stage that lifts or clears reads the buffer alone and stores into scratch alone,
 -- one that returns the other way round.
-use Rattle.lists.proofs.Kit.{◌≡◌, refl, ap, ◌∙◌, Bool, true, false, cond, List, [], ◌∷◌, ◌++◌, ⊎_elim, ℕ, zero, suc, ◌*◌, ◌/◌, ◌%◌, ◌<◌, ◌≤◌, min, arith, not-suc-le-zero, ltb, eqb, length, get_or, take, List·getD-append, get_or-append_seam, lt-ltb, le-ltb, eq-eqb, ne_eqb, lt-or-ge}
+use Rattle.lists.proofs.Kit.{◌≡◌, refl, ap, ◌∙◌, Bool, true, false, cond, List, [], ◌∷◌, ◌++◌, ⊎_elim, ℕ, zero, suc, ◌*◌, ◌/◌, ◌%◌, ◌<◌, ◌≤◌, min, arith, not-suc-le-zero, ltb, eqb, length, get_or, take, get_or-append, get_or-append_seam, lt-ltb, le-ltb, eq-eqb, ne_eqb, lt-or-ge}
 use Rattle.stages.specs.Stages.{Memory, Store, with_buffer, with_scratch, after}
 use Rattle.stages.specs.Stages.Store.{to_buffer, to_scratch, to_progress}
 use Rattle.stages.specs.Stops.{into_buffer, into_scratch, Without, Torn}
@@ -26,7 +26,7 @@ get_or-each : (n : ℕ) (f : ℕ → Store) (j : ℕ) (d : Store) → j < n → 
 get_or-each zero f j d h = absurd (not-suc-le-zero h)
 get_or-each (suc n) f j d h =
     ⊎_elim
-    (λ (k : j < n). List·getD-append (each n f) (f n ∷ []) d j (omega (arith, length-each n f)) ∙ get_or-each n f j d k)
+    (λ (k : j < n). get_or-append (each n f) (f n ∷ []) d j (omega (arith, length-each n f)) ∙ get_or-each n f j d k)
     (λ (k : n ≤ j). let e : j ≡ length (each n f) = omega (arith, length-each n f) in
     ap (λ (z : ℕ). get_or (each n f ++ f n ∷ []) z d) e ∙ get_or-append_seam (each n f) (f n) [] d ∙ ap f (omega arith))
     (lt-or-ge j n)

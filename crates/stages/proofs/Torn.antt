@@ -1,5 +1,5 @@
 -- A memory torn at the places of some stores: the stores, made, overwrite all of it; and some first ones of them leave it so.
-use Rattle.lists.proofs.Kit.{◌≡◌, refl, sym, ap, ap₂, ◌∙◌, Bool, false, List, [], ◌∷◌, ⊎_elim, ℕ, zero, suc, ◌<◌, ◌≤◌, suc-le-suc, arith, not-suc-le-zero, le_of_suc-le-suc, length, get_or, set, take, length-set, List·getD-eq-default, ext_get_or, get_or-set_same, get_or-set_other, eqb-false, ne_eqb, lt-or-ge, eq-or-ne}
+use Rattle.lists.proofs.Kit.{◌≡◌, refl, sym, ap, ap₂, ◌∙◌, Bool, false, List, [], ◌∷◌, ⊎_elim, ℕ, zero, suc, ◌<◌, ◌≤◌, suc-le-suc, arith, not-suc-le-zero, le_of_suc-le-suc, length, get_or, set, take, length-set, get_or-eq_default, ext_get_or, get_or-set_same, get_or-set_other, eqb-false, ne_eqb, lt-or-ge, eq-or-ne}
 use Rattle.stages.specs.Stages.{Memory, Store, put, after, Stages}
 use Rattle.stages.specs.Stages.Store.{to_buffer, to_scratch, to_progress}
 use Rattle.stages.specs.Stops.{into_buffer, into_scratch, Without, Torn}
@@ -29,7 +29,7 @@ stored_in_both xs ys q v p e f =
     ⊎_elim
     (λ (i : q ≡ p). rw i (⊎_elim
     (λ (h : p < length xs). get_or-set_same xs p v 0 h ∙ sym (get_or-set_same ys p v 0 (omega arith)))
-    (λ (h : length xs ≤ p). List·getD-eq-default (set xs p v) 0 (omega (arith, length-set xs p v)) ∙ sym (List·getD-eq-default (set ys p v) 0 (omega (arith, length-set ys p v))))
+    (λ (h : length xs ≤ p). get_or-eq_default (set xs p v) 0 (omega (arith, length-set xs p v)) ∙ sym (get_or-eq_default (set ys p v) 0 (omega (arith, length-set ys p v))))
     (lt-or-ge p (length xs))))
     (λ (i : q ≡ p → ⊥). get_or-set_other xs q p v 0 (λ z. i (sym z)) ∙ f i ∙ sym (get_or-set_other ys q p v 0 (λ z. i (sym z))))
     (eq-or-ne q p)

@@ -1,6 +1,6 @@
 -- The tiles listed as document 02 tells them are the tiles of the promise: before a band, a tile or a row stand only whole ones, so that its first word
 -- stands at their number times their length; and all of them together are as long as the block.
-use Rattle.lists.proofs.Kit.{◌≡◌, sym, ap, ap₂, subst, ◌∙◌, List, [], ◌↔◌, ⊎_elim, ℕ, zero, suc, ◌+◌, ◌*◌, ◌-◌, ◌/◌, ◌%◌, ◌<◌, ◌≤◌, not-suc-le-zero, le_of_suc-le-suc, mod-lt, div-add-mod', mul_comm, zero-mul, mul-le-mul_right, arith, length, get_or, length-append, List·getD-append, get_or-append-add, digits_lt, length-tab, get_or-tab, lt-or-ge}
+use Rattle.lists.proofs.Kit.{◌≡◌, sym, ap, ap₂, subst, ◌∙◌, List, [], ◌↔◌, ⊎_elim, ℕ, zero, suc, ◌+◌, ◌*◌, ◌-◌, ◌/◌, ◌%◌, ◌<◌, ◌≤◌, not-suc-le-zero, le_of_suc-le-suc, mod-lt, div-add-mod', mul_comm, zero-mul, mul-le-mul_right, arith, length, get_or, length-append, get_or-append, get_or-append-add, digits_lt, length-tab, get_or-tab, lt-or-ge}
 use Rattle.tiles.specs.Tiles.{part, band_place, tile_place, Tiled}
 use Rattle.tiles.specs.Bands.{joined, parts, tile_words, band_words, tiles_of}
 use Rattle.tiles.proofs.Parts.{part_whole, part_last, in_part}
@@ -13,7 +13,7 @@ joined_at : (n : ℕ) (f : ℕ → List ℕ) (long u q : ℕ) → u < n → ((k 
 unfolding joined
 joined_at zero f long u q h alike low = absurd (not-suc-le-zero h)
 joined_at (suc n) f long zero q h alike low =
-    ap (λ (z : ℕ). get_or (joined (suc n) f) z 0) (omega (arith, zero-mul long)) ∙ List·getD-append (f 0) (joined n (λ k. f (suc k))) 0 q low
+    ap (λ (z : ℕ). get_or (joined (suc n) f) z 0) (omega (arith, zero-mul long)) ∙ get_or-append (f 0) (joined n (λ k. f (suc k))) 0 q low
 joined_at (suc n) f long (suc u) q h alike low =
     let past : suc u * long + q ≡ length (f 0) + (u * long + q) = omega (arith, alike 0 (omega arith)) in
     ap (λ (z : ℕ). get_or (joined (suc n) f) z 0) past

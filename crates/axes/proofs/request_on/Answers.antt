@@ -78,17 +78,14 @@ returns-then-unnamed-ne0 c =
     refl
 
 -- the number and its release were not refused, and the plan that is run was given
--- LEFT: a block
 module _ (p : After-plan_of-planned) where
   start : Start
   start = let m : After-named_number-unnamed = search in entry m
 
-  -- LEFT: a block
   named : first_of (named_checks start.args.axes start.args.release start.args.order) ≡ 0
   unfolding start
   named = let m : After-named_number-unnamed = search in via (unnamed m) (search)
 
-  -- LEFT: a block
   given : p.plan_of-planned.result.number ≡ 0
   unfolding start entry
   given =

@@ -1,4 +1,3 @@
--- `bad_length` meets its contract. The loop's invariant: no length passed is out of range, so the rest decides.
 use Rattle.lists.proofs.Kit.{sym, ◌∙◌, arith, via}
 use Rattle.refusals.specs.Conditions.{out_of_range}
 use Rattle.refusals.proofs.Some.{some_here, some-past, some_end}

@@ -1,4 +1,3 @@
--- `first_above` meets its contract. The loop's invariant: the entries passed and the first place from there on are the first place.
 use Rattle.lists.proofs.Kit.{arith, ltb, get_or, lt-ltb, le-ltb}
 use Rattle.refusals.proofs.Some.{first_here, first_past, first_end}
 use Rattle.checks.proofs.first_above.Goals as goal

@@ -1,4 +1,3 @@
--- `longest_of` meets its contract. The loop's invariant: the longest so far and the longest of the rest give the longest.
 use Rattle.lists.proofs.Kit.{◌≡◌, List, ℕ, ◌+◌, ◌<◌, ◌≤◌, max, arith, length, drop, get_or, drop-next, drop_end}
 use Rattle.refusals.specs.Conditions.{longest}
 use Rattle.checks.proofs.longest_of.Goals as goal

@@ -1,5 +1,3 @@
--- `need_of` meets its contract: the need of a chain is read off the entry lengths. The loop's invariant: the longest axis so far and the
--- need of the swaps left give the need.
 use Rattle.lists.proofs.Kit.{◌≡◌, List, ℕ, ◌+◌, ◌<◌, ◌≤◌, max, arith, length, drop, get_or, drop-next, drop_end}
 use Rattle.orders.specs.Needs.{swap_need}
 use Rattle.orders.proofs.Needs.{need_at_entry, entry_need}

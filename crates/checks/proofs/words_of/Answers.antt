@@ -1,4 +1,3 @@
--- `words_of` meets its contract. The loop's invariant: the words so far times the rest, cut, are the words of the block, cut.
 use Rattle.lists.proofs.Kit.{◌≡◌, sym, ap, ◌∙◌, List, ℕ, ◌+◌, ◌<◌, ◌≤◌, ◌*◌, mul_assoc, mul-one, one-mul, arith, length, drop, get_or, drop-next, drop_end}
 use Rattle.layout.specs.Layout.{volume}
 use Rattle.checks.specs.Words.{capped}

@@ -1,4 +1,3 @@
--- `compare` meets its contract. The loop's invariant: the pairs so far agree, and what follows them decides; the measure is the offsets left.
 use Rattle.lists.proofs.Kit.{arith, via}
 use Rattle.cycles.proofs.Stepping.{columns}
 use Rattle.cycle_lists.proofs.Comparing.{starts, passed_over, found, another, surplus, whole}

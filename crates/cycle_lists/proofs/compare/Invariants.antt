@@ -1,4 +1,4 @@
--- `compare` meets its contract. The loop's invariant: the pairs so far agree, and what follows them decides; the measure is the offsets left.
+-- `compare` meets its contract. The loop's invariant: the pairs so far agree, and what follows them decides.
 use Rattle.cycle_lists.proofs.Comparing.{Comparing}
 use Rattle.cycle_lists.proofs.compare.Given as goal
 

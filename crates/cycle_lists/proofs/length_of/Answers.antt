@@ -1,4 +1,3 @@
--- `length_of` meets its contract. The loop's invariant: it follows the cycle, above x so far; the measure is what is left of the period.
 use Rattle.lists.proofs.Kit.{true, false, ◌≡◌, refl, ℕ, ◌*◌, arith}
 use Rattle.cycles.specs.Orbit.{period}
 use Rattle.cycles.specs.Cycles.{takes, is_least}

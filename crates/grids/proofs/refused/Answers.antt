@@ -7,12 +7,10 @@ some : {m n : ℕ} → 0 < m → 0 < n → 0 < m * n
 some h k = omega (arith, mul-le-mul h k)
 
 -- chunks that have room by the division have room, and those that have none have none
--- LEFT: a block
 module _ (room chunk places : ℕ) (h : 0 < places) where
   fits : chunk ≤ room / places → places * chunk ≤ room
   fits k = ⊎_elim (λ (l : room < chunk * places). absurd (omega (arith, (div-lt_iff_lt-mul {k = places} {x = room} {y = chunk} h).1 l))) (λ (l : chunk * places ≤ room). omega (arith, mul_comm chunk places)) (lt-or-ge room (chunk * places))
 
-  -- LEFT: a block
   tight : room / places < chunk → places * chunk ≤ room → ⊥
   tight k l = omega (arith, (div-lt_iff_lt-mul {k = places} {x = room} {y = chunk} h).0 k, mul_comm chunk places)
 

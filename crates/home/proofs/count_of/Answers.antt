@@ -1,5 +1,3 @@
--- `count_of` meets its contract. The loop's invariant: it holds the power of its count and has not passed the first that leaves 1; the
--- measure is what is left up to that one.
 use Rattle.lists.proofs.Kit.{◌≡◌, ◌≤◌, mul-le-mul, arith}
 use Rattle.home.proofs.Powers.{starts, goes_on, ends_at, within}
 use Rattle.home.proofs.count_of.Goals as goal

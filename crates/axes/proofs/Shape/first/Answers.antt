@@ -1,4 +1,3 @@
--- `axes::Shape::first` meets its contract. The loop's invariant: the lengths passed are 0.
 use Rattle.lists.proofs.Kit.{◌≡◌, arith, length, rules}
 use Rattle.axes.proofs.Five.{all_five, clear_none, clear_next, all-cleared}
 use Rattle.axes.proofs.Shape.first.Goals as goal

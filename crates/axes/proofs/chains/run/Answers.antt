@@ -1,4 +1,3 @@
--- `axes::chains::run` meets its promise. The loop's invariant: i swaps of the chain are made.
 use Rattle.lists.proofs.Kit.{rules, ◌≡◌, refl, sym, ap, ◌∙◌, ℕ, ◌+◌, ◌<◌, le_refl, arith, length, get_or, take, length-take-le}
 use Rattle.refusals.proofs.Scratch.{cleared-length}
 use Rattle.axes.proofs.Accepted.{ChainAccepted, accepts_chain, good_swap}

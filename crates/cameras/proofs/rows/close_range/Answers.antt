@@ -1,4 +1,3 @@
--- `close_range` meets its contract. The loop keeps that the runs passed have closed up; what each takes along lies before the next.
 use Rattle.lists.proofs.Kit.{inl, suc, ◌+◌, ◌*◌, ◌≤◌, mul-le-mul_right, arith, length}
 use Rattle.cameras.proofs.OneRun.{run_closed}
 use Rattle.cameras.proofs.Ranges.{closing, closing_more, closing_all}

@@ -1,4 +1,3 @@
--- `open_range` meets its contract. The loop keeps that the runs passed have opened; what each takes along lies where no word is still to be read.
 use Rattle.lists.proofs.Kit.{suc, ◌+◌, ◌*◌, ◌-◌, ◌≤◌, mul-le-mul_left, mul-le-mul_right, arith, length}
 use Rattle.cameras.proofs.OneRun.{run_opened}
 use Rattle.cameras.proofs.Ranges.{opening, opening_more, opening_all}

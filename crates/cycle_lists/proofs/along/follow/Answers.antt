@@ -1,5 +1,3 @@
--- `along::follow` meets its contract. The loop's invariant: what is left to carry leaves what the whole cycle leaves; the measure is how many
--- words are left.
 use Rattle.lists.proofs.Kit.{sym, ◌∙◌, arith}
 use Rattle.cycle_lists.proofs.Carrying.{carries_none, next_low, carries_more, carries_all}
 use Rattle.cycle_lists.proofs.along.follow.Goals as goal

@@ -1,5 +1,3 @@
--- `along::follow_all` meets its contract. The loop's invariant: what is left of the list leaves what the whole list leaves; the measure is how many
--- pairs are left.
 use Rattle.lists.proofs.Kit.{sym, ◌∙◌, arith}
 use Rattle.cycles.proofs.Stepping.{columns}
 use Rattle.cycle_lists.proofs.Carrying.{runs_none, start_low, runs_more, runs_all}

@@ -1,5 +1,3 @@
--- `span_of` meets its contract. The loop's invariant: the rest of the run takes the lower and the higher number so far to the smallest and the
--- largest.
 use Rattle.lists.proofs.Kit.{◌≡◌, sym, ap, ◌∙◌, ◌+◌, arith, drop, get_or}
 use lib.IntN.{ℤ, pos}
 use mir.Syntax.{w64}

@@ -1,5 +1,3 @@
--- `best` meets its contract. The loop's invariant: what is held is right of the exchanges passed; one exchange more is taken or left by what
--- `beats` answers of its delay.
 use Rattle.lists.proofs.Kit.{◌≡◌, sym, ap, ◌∙◌, subst, false, List, ℕ, ◌<◌, arith}
 use lib.IntN.{ℤ}
 use mir.Syntax.{w64}

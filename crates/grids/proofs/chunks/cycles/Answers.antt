@@ -1,5 +1,3 @@
--- `chunks::cycles` meets its contract. The loop keeps that places of marked pairs have the chunks of their sources and that the pairs asked about are marked; the
--- measure is how many are left.
 use Rattle.lists.proofs.Kit.{refl, sym, ◌∙◌, arith, via}
 use Rattle.grids.proofs.Places.{fits_also}
 use Rattle.grids.proofs.Turned.{none_marked, level_none, settled_none, asked_more, settled_all}

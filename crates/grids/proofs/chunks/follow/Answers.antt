@@ -1,5 +1,3 @@
--- `chunks::follow` meets its contract. The loop keeps that place p and its mirrored one are free and x is the source of p; the measure is how many pairs
--- are not marked.
 use Rattle.lists.proofs.Kit.{arith}
 use Rattle.grids.proofs.Places.{following, following_on, followed, fewer, first_low, next_low, next_apart, last_apart}
 use Rattle.grids.proofs.chunks.follow.Goals as goal

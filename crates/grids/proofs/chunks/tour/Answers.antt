@@ -1,5 +1,3 @@
--- `chunks::tour` meets its contract. The loop keeps that place p and its mirrored one are free and hold what the first two held, and x is the source of p; the
--- measure is how many pairs are not marked.
 use Rattle.lists.proofs.Kit.{refl, arith}
 use Rattle.grids.proofs.Places.{following, fewer, first_low, next_low, next_apart, next_twin, last_apart}
 use Rattle.grids.proofs.Trades.{trading_on, traded}

@@ -1,4 +1,3 @@
--- `copy_pieces` meets its contract: the stretch is filled from the front, eight words at a time; the last piece ends where the run does.
 use Rattle.lists.proofs.Kit.{refl, ◌∙◌, arith}
 use Rattle.lists.proofs.Words.{same_word}
 use Rattle.moves.proofs.Filling.{nothing_filled, all_filled, piece_up}

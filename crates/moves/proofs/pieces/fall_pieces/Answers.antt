@@ -1,5 +1,3 @@
--- `fall_pieces` meets its contract: the stretch is filled from the front, eight words at a time; the words that are read lie past what is
--- filled or apart from it, so they are those of the entry, and so are those of the last two pieces.
 use Rattle.lists.proofs.Kit.{refl, ◌∙◌, ◌+◌, arith}
 use Rattle.lists.proofs.Words.{same_word}
 use Rattle.moves.proofs.Filling.{nothing_filled, all_filled, piece_up, still}

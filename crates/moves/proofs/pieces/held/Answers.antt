@@ -1,4 +1,3 @@
--- `held` meets its contract. The loop's invariant: the places passed hold the words that were read.
 use Rattle.lists.proofs.Kit.{refl, ◌∙◌, arith, length-set, copied_more}
 use Rattle.moves.proofs.pieces.held.Goals as goal
 

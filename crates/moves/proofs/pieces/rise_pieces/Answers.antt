@@ -1,5 +1,3 @@
--- `rise_pieces` meets its contract: the stretch is filled from the back, eight words at a time; the words that are read lie before what is
--- filled, so they are those of the entry, and so are those of the first two pieces.
 use Rattle.lists.proofs.Kit.{refl, ◌∙◌, ◌+◌, ◌-◌, unary_clauses, arith}
 use Rattle.lists.proofs.Words.{same_word}
 use Rattle.moves.proofs.Filling.{nothing_filled, all_filled, piece_down}

@@ -1,5 +1,3 @@
--- `fall_words` meets its contract: the stretch is filled from the front; the word that is read lies past what is filled
--- or apart from it, so it is that of the entry.
 use Rattle.lists.proofs.Kit.{◌+◌, arith, get_or}
 use Rattle.moves.proofs.Filling.{nothing_filled, all_filled, filled_up, still}
 use Rattle.moves.proofs.words.fall_words.Goals as goal

@@ -1,5 +1,3 @@
--- `rise_words` meets its contract: the stretch is filled from the back; the word that is read lies before what is filled, so it is that of
--- the entry.
 use Rattle.lists.proofs.Kit.{◌+◌, ◌-◌, arith, get_or}
 use Rattle.moves.proofs.Filling.{nothing_filled, all_filled, filled_down}
 use Rattle.moves.proofs.words.rise_words.Goals as goal

@@ -1,4 +1,3 @@
--- `trade_words` meets its contract: the words passed have traded places.
 use Rattle.lists.proofs.Kit.{arith, length-set}
 use Rattle.moves.proofs.Trading.{nothing_traded, traded_more, all-traded}
 use Rattle.moves.proofs.words.trade_words.Goals as goal

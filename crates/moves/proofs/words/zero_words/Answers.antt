@@ -1,4 +1,3 @@
--- `zero_words` meets its contract: the stretch is filled from the front.
 use Rattle.lists.proofs.Kit.{refl, arith}
 use Rattle.moves.proofs.Filling.{nothing_filled, all_filled, filled_up}
 use Rattle.moves.proofs.words.zero_words.Goals as goal

@@ -1,4 +1,3 @@
--- `gcd` meets its contract: each turn of the loop keeps the greatest common divisor, and the remainder falls.
 use Rattle.lists.proofs.Kit.{◌≡◌, refl, sym, ap, ◌∙◌, mod-lt, arith}
 use Rattle.flat.specs.Gcd.{gcd_of}
 use Rattle.flat.proofs.Gcd.{gcd_step, gcd_end}

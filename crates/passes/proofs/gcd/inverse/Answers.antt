@@ -1,4 +1,3 @@
--- `inverse` meets its contract: v times a leaves y modulo b and u times a leaves x, and at the end y is the greatest common divisor, 1.
 use Rattle.lists.proofs.Kit.{◌≡◌, sym, ap, ◌∙◌, ℕ, ◌*◌, ◌/◌, ◌%◌, ◌≤◌, arith, mod-lt, mod_self, mod-eq_of_lt, zero-mul, zero-mod, one-mul, div-le_self, mul-le-mul}
 use Rattle.flat.specs.Gcd.{gcd_of}
 use Rattle.flat.proofs.Gcd.{gcd_step, gcd_end}

@@ -1,4 +1,3 @@
--- `copy_words` meets its contract: the words are stored one after the other.
 use Rattle.lists.proofs.Kit.{◌≡◌, ◌+◌, ◌*◌, ◌<◌, arith, length}
 use Rattle.passes.proofs.Filled.{filled_none, filled_more}
 use Rattle.passes.proofs.line.copy_words.Goals as goal

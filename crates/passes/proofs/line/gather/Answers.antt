@@ -1,4 +1,3 @@
--- `gather` meets its contract: after t places the walk stands t steps on, and t words are in scratch.
 use Rattle.lists.proofs.Kit.{◌≡◌, sym, ap, ◌∙◌, ℕ, ◌+◌, ◌%◌, ◌<◌, arith, length}
 use Rattle.walks.proofs.Steps.{walk_start, walk_more, walk_lt}
 use Rattle.passes.proofs.Filled.{filled_none, filled_more}

@@ -1,4 +1,3 @@
--- `lift` meets its contract: after some runs the first k words are in scratch, and the walk stands at place k; the last run may be cut.
 use Rattle.lists.proofs.Kit.{◌≡◌, refl, sym, ap, ◌∙◌, subst, cond, ⊎_elim, ℕ, ◌+◌, ◌-◌, ◌<◌, ◌≤◌, arith, get_or, lt-or-ge}
 use Rattle.passes.specs.Lines.{pos_on}
 use Rattle.passes.specs.PrivateWalks.{arrived, stands, Low}

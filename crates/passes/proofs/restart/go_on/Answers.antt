@@ -1,4 +1,3 @@
--- `go_on` meets its contract: what is left of the budget, called on the memory as it stands, leaves what the call must leave.
 use Rattle.lists.proofs.Kit.{◌≡◌, refl, sym, ap, ◌∙◌, ◌+◌, ◌-◌, arith, rules, ltb-true, ltb-false}
 use Rattle.stages.specs.Lines.{stages_of}
 use Rattle.stages.proofs.Calls.{call_done, loop-part, loop_stage}

@@ -1,4 +1,3 @@
--- `run_pass` meets its contract: after t lines those before t have moved, and the walk over line t begins at p.
 use Rattle.lists.proofs.Kit.{◌≡◌, ◌<◌, arith}
 use Rattle.passes.specs.PrivateScratch.{lines_in}
 use Rattle.passes.proofs.Fits.{lain_in, lies_in, in_short, past_none, past_more}

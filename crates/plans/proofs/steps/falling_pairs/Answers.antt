@@ -1,4 +1,3 @@
--- `plans::steps::falling_pairs` meets its contract. The loop's invariant: the pairs that begin at a place passed are counted, those of the rest are not.
 use Rattle.lists.proofs.Kit.{refl, mul-le-mul_right, arith}
 use Rattle.plans.proofs.PlanSteps.{pair_none, pairs_few, pairs_more, all_paired}
 use Rattle.plans.proofs.steps.falling_pairs.Goals as goal

@@ -1,4 +1,3 @@
--- `plans::steps::first_back` meets its contract. The loop's invariant: no axis passed has its follower before it.
 use Rattle.lists.proofs.Kit.{arith}
 use Rattle.plans.proofs.PlanSteps.{seek_back, back_seen, back_next, back_nowhere}
 use Rattle.plans.proofs.steps.first_back.Goals as goal

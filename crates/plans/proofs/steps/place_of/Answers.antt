@@ -1,4 +1,3 @@
--- `plans::steps::place_of` meets its contract. The loop's invariant: the axis stands at no place passed.
 use Rattle.lists.proofs.Kit.{refl, arith}
 use Rattle.plans.proofs.PlanSteps.{seek_place, place_seen, place_next, place_nowhere}
 use Rattle.plans.proofs.steps.place_of.Goals as goal

@@ -1,5 +1,3 @@
--- `plans::steps::planned_swaps` meets its contract. The loop's invariant: the first i swaps of the plan stand in the array, and the plan
--- of the order as it is then labelled is the rest of them.
 use Rattle.lists.proofs.Kit.{refl, arith, length}
 use Rattle.plans.proofs.PlanSteps.{back_few, begin_plan, plan_next, plan_done}
 use Rattle.plans.proofs.steps.planned_swaps.Goals as goal

@@ -1,4 +1,3 @@
--- `plans::steps::relabel` meets its contract. The loop's invariant: the axes passed have their new labels, the others their old.
 use Rattle.lists.proofs.Kit.{refl, arith}
 use Rattle.plans.proofs.PlanSteps.{label_none, label_next, label_length, all_labelled}
 use Rattle.plans.proofs.steps.relabel.Goals as goal

@@ -1,4 +1,3 @@
--- `plans::steps::under_from` meets its contract. The loop's invariant: the count so far and the count of the rest give the count.
 use Rattle.lists.proofs.Kit.{refl, arith}
 use Rattle.plans.proofs.PlanSteps.{count_none, one_counted, none_counted, all_counted}
 use Rattle.plans.proofs.steps.under_from.Goals as goal

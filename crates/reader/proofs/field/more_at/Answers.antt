@@ -1,5 +1,3 @@
--- `more_at` meets its contract. The loop's invariant: reading on from the value so far at the place reached is reading on
--- from the start. Each way out is what the byte there says.
 use Rattle.lists.proofs.Kit.{refl, ◌∙◌, arith}
 use Rattle.reader.proofs.Places.{more_end, more_below, more_above, more_over, more_step}
 use Rattle.reader.proofs.field.more_at.Goals as goal

@@ -1,4 +1,3 @@
--- `fields_at` meets its contract. The loop's invariant: the fields passed were read, and the bytes from the place reached on follow them.
 use Rattle.lists.proofs.Kit.{arith, ◌≡◌, drop}
 use Rattle.reader.proofs.Runs.{got, no_field, fields_more, fields_stop}
 use Rattle.reader.proofs.line.fields_at.Goals as goal

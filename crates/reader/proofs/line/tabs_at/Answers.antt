@@ -1,4 +1,3 @@
--- `tabs_at` meets its contract. The loop's invariant: the tabs counted and those still to come are all.
 use Rattle.lists.proofs.Kit.{arith}
 use Rattle.reader.proofs.LinesAt.{tabs_end, tabs_feed, tabs-tab, tabs_other}
 use Rattle.reader.proofs.line.tabs_at.Goals as goal

@@ -1,4 +1,3 @@
--- `word_at` meets its contract. The loop's invariant: the word stands there exactly where what is left of it stands further on.
 use Rattle.lists.proofs.Kit.{sym, ◌∙◌, arith}
 use Rattle.reader.proofs.LinesAt.{word_start, word_end, word_step, word_other, word_short}
 use Rattle.reader.proofs.line.word_at.Goals as goal

@@ -1,4 +1,3 @@
--- `rows_at` meets its contract. The loop's invariant: the words of the rows passed stand before what the rows left read as.
 use Rattle.lists.proofs.Kit.{arith}
 use Rattle.reader.proofs.RowsFrom.{none_passed, one_passed, wrong_row, left_over, all_passed}
 use Rattle.reader.proofs.rows.rows_at.Goals as goal

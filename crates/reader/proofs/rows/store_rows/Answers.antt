@@ -1,4 +1,3 @@
--- `store_rows` meets its contract. The loop's invariant: storing the words of the rows left behind those stored is storing all words.
 use Rattle.checks.proofs.SheetBlock.{room_left}
 use Rattle.reader.proofs.RowsFrom.{no_words}
 use Rattle.lists.proofs.Kit.{arith, ◌≡◌, refl, sym, ap, ◌∙◌, List, [], ℕ, ◌+◌, ◌-◌, length, drop, sets, length-sets}

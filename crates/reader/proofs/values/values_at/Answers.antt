@@ -1,4 +1,3 @@
--- `values_at` meets its contract. The loop's invariant: the fields passed were read, and the array holds their numbers, then zeros.
 use Rattle.lists.proofs.Kit.{set, arith, ◌≡◌, sym, ap, ◌∙◌, List, ◌++◌, ℕ, ◌+◌, ◌-◌, drop, replicate}
 use Rattle.sheets.proofs.Lines.{fields_text}
 use Rattle.sheets.specs.Read.{Reading, read_fields}

@@ -1,4 +1,3 @@
--- `words_into` meets its contract. The loop's invariant: the fields passed were read, and their numbers are stored.
 use Rattle.lists.proofs.Kit.{set, length-set, arith, ◌≡◌, refl, sym, ap, ◌∙◌, List, ℕ, ◌+◌, drop, sets}
 use Rattle.sheets.proofs.Lines.{fields_text, field_text}
 use Rattle.sheets.specs.Read.{Reading, read_fields}

@@ -1,4 +1,3 @@
--- `rotation::exchange` meets its contract: after i turns of the loop the first i words and those from k on stand exchanged.
 use Rattle.lists.proofs.Kit.{refl, ap, ◌∙◌, ℕ, arith, length-set}
 use Rattle.recursion.specs.Private.{traded}
 use Rattle.recursion.proofs.Stretches.{exchange_none, exchange_more}

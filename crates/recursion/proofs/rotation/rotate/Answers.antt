@@ -1,5 +1,3 @@
--- `rotation::rotate` meets its contract. The invariant: what the slice is to become is the words that stand already, and the rest rotated.
--- The measure is what is left of the slice.
 use Rattle.lists.proofs.Kit.{refl, sym, ap, ◌∙◌, List, ◌++◌, ℕ, ◌-◌, arith, length, take, drop, length-drop, take-append-drop, rules}
 use Rattle.recursion.specs.Private.{rotated}
 use Rattle.recursion.proofs.Rotations.{rotated_none, rotated-all, short_left, short_right, step}

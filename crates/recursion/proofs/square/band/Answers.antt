@@ -1,4 +1,3 @@
--- `band` meets its contract: after the tile on the diagonal each turn of the loop exchanges a tile more, and the columns before j stand exchanged.
 use Rattle.lists.proofs.Kit.{◌≡◌, ◌∙◌, arith}
 use Rattle.recursion.proofs.Across.{side_few, across_none, columns_more}
 use Rattle.recursion.proofs.square.band.Goals as goal

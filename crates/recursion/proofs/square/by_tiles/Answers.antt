@@ -1,4 +1,3 @@
--- `by_tiles` meets its contract: after each turn of the loop the rows before i stand exchanged with their columns.
 use Rattle.lists.proofs.Kit.{◌∙◌, arith, rules}
 use Rattle.recursion.proofs.Across.{side_few, across_none, rows_more, all-across}
 use Rattle.recursion.proofs.square.by_tiles.Goals as goal

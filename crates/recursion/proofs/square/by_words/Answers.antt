@@ -1,4 +1,3 @@
--- `by_words` meets its contract: after i turns of the loop the rows before i stand exchanged with their columns.
 use Rattle.lists.proofs.Kit.{◌∙◌, arith}
 use Rattle.recursion.proofs.Across.{across_none, rows_more, all-across}
 use Rattle.recursion.proofs.square.by_words.Goals as goal

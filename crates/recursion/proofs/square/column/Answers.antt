@@ -1,4 +1,3 @@
--- `column` meets its contract: the stretch is filled from the front.
 use Rattle.lists.proofs.Kit.{refl, arith}
 use Rattle.moves.proofs.Filling.{nothing_filled, all_filled, filled_up}
 use Rattle.recursion.proofs.square.column.Goals as goal

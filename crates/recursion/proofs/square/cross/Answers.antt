@@ -1,4 +1,3 @@
--- `cross` meets its contract: before place j the words of row i and of column i stand exchanged.
 use Rattle.lists.proofs.Kit.{◌≡◌, ◌∙◌, ◌+◌, ◌*◌, ◌<◌, arith, length, length-set}
 use Rattle.recursion.proofs.Across.{columns_more}
 use Rattle.recursion.proofs.Crossing.{row_none, above_within, below_within, word-across}

@@ -1,4 +1,3 @@
--- `lift` meets its contract: after r turns of the loop the first r rows stand in the tile.
 use Rattle.lists.proofs.Kit.{◌≡◌, ◌+◌, ◌*◌, ◌≤◌, arith}
 use Rattle.recursion.proofs.Across.{side_few, row_inside, lifted_none, lifted_more}
 use Rattle.recursion.proofs.square.lift.Goals as goal

@@ -1,4 +1,3 @@
--- `store` meets its contract: after r turns of the loop the first r rows are stored.
 use Rattle.lists.proofs.Kit.{◌≡◌, ◌+◌, ◌*◌, ◌≤◌, arith}
 use Rattle.recursion.proofs.Across.{side_few, row_inside, stored_none, stored_more}
 use Rattle.recursion.proofs.square.store.Goals as goal

@@ -1,4 +1,3 @@
--- `block::blocks` meets its contract. The loop's invariant: the first e blocks are turned; the measure is how many are left.
 use Rattle.lists.proofs.Kit.{◌≡◌, refl, ◌∙◌, ◌+◌, ◌*◌, ◌≤◌, arith, length}
 use Rattle.strips.proofs.Blocks.{turned_none, all-turned}
 use Rattle.strips.proofs.Tiles.{block_inside, block_more, rows_stand, columns_stand}

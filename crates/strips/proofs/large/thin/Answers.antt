@@ -1,4 +1,3 @@
--- `large::thin` meets its contract: the first number is one of those, and so is each later one.
 use Rattle.lists.proofs.Kit.{arith}
 use Rattle.strips.proofs.Cuts.{cut_first, cut_next, cut_last, few_lines, some_lines}
 use Rattle.strips.proofs.large.thin.Goals as goal

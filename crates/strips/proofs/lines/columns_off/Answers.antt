@@ -1,4 +1,3 @@
--- `lines::columns_off` meets its contract. The loop keeps that the runs are narrowed down to p words; the measure is how many they have.
 use Rattle.lists.proofs.Kit.{◌≡◌, refl, ◌∙◌, arith}
 use Rattle.strips.proofs.Strips.{columns_more}
 use Rattle.strips.proofs.Widening.{widened_same, runs_inside}

@@ -1,4 +1,3 @@
--- `lines::narrow` meets its contract. The loop keeps that the runs before j have closed up; the measure is how many are left.
 use Rattle.lists.proofs.Kit.{◌≡◌, refl, ◌∙◌, inl, ◌+◌, ◌*◌, ◌≤◌, mul-add, arith, length}
 use Rattle.lists.proofs.Words.{next_run}
 use Rattle.strips.proofs.Tiles.{column_inside}

@@ -1,4 +1,3 @@
--- `lines::rows_in` meets its contract. The loop keeps that the runs are widened up to p words; the measure is how many rows are left.
 use Rattle.lists.proofs.Kit.{◌≡◌, refl, ◌∙◌, arith}
 use Rattle.strips.proofs.Strips.{rows_more}
 use Rattle.strips.proofs.Widening.{widened_same, runs_inside}

@@ -1,4 +1,3 @@
--- `lines::widen` meets its contract. The loop keeps that the runs from j on are widened; the measure is how many are left.
 use Rattle.lists.proofs.Kit.{◌≡◌, refl, ◌+◌, ◌*◌, ◌-◌, ◌≤◌, mul-add, arith, length}
 use Rattle.lists.proofs.Words.{next_run}
 use Rattle.strips.proofs.Tiles.{column_inside}

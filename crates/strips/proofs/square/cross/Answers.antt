@@ -1,4 +1,3 @@
--- `square::cross` meets its contract. The loop keeps that the elements passed have traded places; the measure is how many are left.
 use Rattle.lists.proofs.Kit.{◌≡◌, inr, ◌*◌, ◌≤◌, le-mul_of_pos_right, arith}
 use Rattle.strips.proofs.Squares.{Pair, pair, crossed_none, crossed_more}
 use Rattle.strips.proofs.square.cross.Goals as goal

@@ -1,4 +1,3 @@
--- `square::turned` meets its contract. The loop keeps that the first i rows and columns stand turned; the measure is how many are left.
 use Rattle.lists.proofs.Kit.{◌≡◌, arith}
 use Rattle.strips.proofs.Squares.{here, square_first, square_more, square_all}
 use Rattle.strips.proofs.square.turned.Goals as goal

@@ -1,4 +1,3 @@
--- `tile::columns_out` meets its contract: the stretch is filled from the front, column by column.
 use Rattle.lists.proofs.Kit.{◌≡◌, ◌+◌, ◌*◌, ◌≤◌, mul_comm, le-mul_of_pos_right, arith, length}
 use Rattle.lists.proofs.Words.{next_run}
 use Rattle.moves.proofs.Filling.{all_filled}

@@ -1,4 +1,3 @@
--- `tile::lifted` meets its contract: elements of one word are copied at once, others row by row; the loop keeps that the rows passed stand in the tile.
 use Rattle.lists.proofs.Kit.{◌≡◌, ◌*◌, arith}
 use Rattle.lists.proofs.Words.{next_run}
 use Rattle.strips.proofs.Tiles.{lifted_none, lifted_more, lifted_words, sizes}

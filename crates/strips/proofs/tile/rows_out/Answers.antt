@@ -1,4 +1,3 @@
--- `tile::rows_out` meets its contract: the loop keeps that the rows passed are written as columns.
 use Rattle.lists.proofs.Kit.{◌≡◌, ◌+◌, ◌*◌, ◌≤◌, mul_comm, arith, length}
 use Rattle.strips.proofs.Tiles.{rows_none, row_more, column_inside, block_inside}
 use Rattle.strips.proofs.tile.rows_out.Goals as goal

@@ -1,4 +1,3 @@
--- `tile::smalls` meets its contract. The loop's invariant: the first t blocks are turned; the measure is how many are left.
 use Rattle.lists.proofs.Kit.{◌≡◌, refl, ◌∙◌, ◌+◌, ◌*◌, ◌≤◌, arith, length}
 use Rattle.strips.proofs.Blocks.{turned_none, all-turned}
 use Rattle.strips.proofs.Tiles.{block_inside, block_more, rows_stand, columns_stand, sizes, one_held}

@@ -1,4 +1,3 @@
--- `gather` meets its contract: the stretch is filled from the front.
 use Rattle.lists.proofs.Kit.{refl, ◌+◌, ◌*◌, ◌<◌, arith, length}
 use Rattle.moves.proofs.Filling.{nothing_filled, all_filled, filled_up}
 use Rattle.strips.proofs.words.gather.Goals as goal

@@ -1,4 +1,3 @@
--- `scatter` meets its contract: the words are stored one by one, each apart from those before it.
 use Rattle.lists.proofs.Kit.{refl, ◌+◌, ◌*◌, ◌<◌, arith, length}
 use Rattle.strips.proofs.Spreading.{nothing_spread, spread_more, all_spread}
 use Rattle.strips.proofs.words.scatter.Goals as goal

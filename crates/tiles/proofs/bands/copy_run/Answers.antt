@@ -1,4 +1,3 @@
--- `copy_run` meets its contract: the stretch is filled from the front.
 use Rattle.lists.proofs.Kit.{refl, arith}
 use Rattle.moves.proofs.Filling.{nothing_filled, all_filled, filled_up}
 use Rattle.tiles.proofs.bands.copy_run.Goals as goal

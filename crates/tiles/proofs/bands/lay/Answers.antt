@@ -1,4 +1,3 @@
--- `lay` meets its contract: piece after piece is laid; the piece that comes next starts at a multiple of the narrower tiles' width.
 use Rattle.lists.proofs.Kit.{◌∙◌, add-mod_right, zero-mod, arith}
 use Rattle.tiles.proofs.TileByTile.{columns_few, piece, laid_none, laid_as, fits_on}
 use Rattle.tiles.proofs.bands.lay.Goals as goal

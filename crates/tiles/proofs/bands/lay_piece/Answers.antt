@@ -1,4 +1,3 @@
--- `lay_piece` meets its contract: row after row is copied from its place in the band to its new place.
 use Rattle.lists.proofs.Kit.{◌∙◌, ℕ, ◌+◌, ◌*◌, ◌<◌, ◌≤◌, arith}
 use Rattle.tiles.specs.Private.{RowsAt, BandSmall, PieceAt}
 use Rattle.tiles.specs.declared.bands.Band.{Band}

@@ -1,4 +1,3 @@
--- `move_bands` meets its contract: band after band moves; the band that comes next starts at a multiple of the tiles' height.
 use Rattle.lists.proofs.Kit.{◌∙◌, add-mod_right, zero-mod, mul-le-mul_right, arith}
 use Rattle.tiles.proofs.BandByBand.{none_moved, band_fits, band_more, all_moved}
 use Rattle.tiles.proofs.bands.move_bands.Goals as goal

@@ -1,4 +1,3 @@
--- `put_rows` meets its contract. The loop's invariant: the rows left lead to all rows.
 use Rattle.lists.proofs.Kit.{arith, ◌≡◌, ◌+◌, ◌-◌}
 use Rattle.checks.proofs.SheetBlock.{room_left}
 use Rattle.writer.proofs.Puts.{leads_start}

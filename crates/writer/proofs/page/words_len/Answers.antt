@@ -1,4 +1,3 @@
--- `words_len` meets its contract. The loop's invariant: the bytes counted and those of the fields left are all.
 use Rattle.lists.proofs.Kit.{arith, get_or}
 use Rattle.sheets.proofs.Length.{decimal_few, fields_few}
 use Rattle.writer.proofs.Pages.{measure_next, measure_all}

@@ -1,4 +1,3 @@
--- `digits_of` meets its contract. The loop's invariant: the digits counted and those of what is left are all, and one.
 use Rattle.lists.proofs.Kit.{arith}
 use Rattle.sheets.proofs.Length.{decimal_few}
 use Rattle.writer.proofs.Spelling.{length_last, length_one}

@@ -1,4 +1,3 @@
--- `put_number` meets its contract. The loop's invariant: the digits of what is left, put before those that stand, are the number.
 use Rattle.lists.proofs.Kit.{arith, ◌≡◌, refl, sym, ◌∙◌, suc, ◌+◌, ◌-◌, ◌/◌, ◌%◌, length, set, length-set, sets}
 use Rattle.sheets.specs.Print.{decimal}
 use Rattle.writer.proofs.Spelling.{spell, no_digits, spell_decimal, spell_back}

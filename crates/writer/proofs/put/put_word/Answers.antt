@@ -1,4 +1,3 @@
--- `put_word` meets its contract. The loop's invariant: the bytes left of the word lead to the whole word.
 use Rattle.lists.proofs.Kit.{arith, ◌≡◌, refl, ◌+◌}
 use Rattle.writer.proofs.Puts.{leads_start, next_byte, all_bytes}
 use Rattle.writer.proofs.put.put_word.Goals as goal

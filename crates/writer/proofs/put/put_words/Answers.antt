@@ -1,4 +1,3 @@
--- `put_words` meets its contract. The loop's invariant: the fields of the words left lead to those of all.
 use Rattle.lists.proofs.Kit.{arith}
 use Rattle.writer.proofs.Puts.{leads_start, next_room, next-put, all-put}
 use Rattle.writer.proofs.put.put_words.Goals as goal
