@@ -1,15 +1,31 @@
 // How often a flat turn with the same sides is repeated until every block of that shape is home.
 #![tactic(auto)]
 
-ghost use Rattle.std.specs.Prelude.{◌*◌, ◌<◌, ◌≤◌};
-ghost use Rattle.home.specs.Promise.{Counts, RepeatsPromise};
+ghost use Rattle.std.specs.Prelude.{◌≡◌, ◌*◌, ◌<◌, ◌≤◌};
+ghost use Rattle.home.specs.Promise.{Counts, RepeatsPromise, in_c};
 
-// The number that the call answers, and the count of repeats.
+use refusals::Refusal;
+
+// What C sees of the answer: its number, and the count of repeats.
 #[repr(C)]
 #[derive(Clone, Copy)]
 pub struct Home {
     pub number: u32,
     pub count: usize,
+}
+
+impl From<Result<usize, Refusal>> for Home {
+    ghost from_gives = { λ answer home. home ≡ in_c answer };
+
+    fn from(answer: Result<usize, Refusal>) -> Home {
+        match answer {
+            Ok(count) => Home { number: 0, count },
+            Err(refusal) => Home {
+                number: refusal.number(),
+                count: 0,
+            },
+        }
+    }
 }
 
 // The least positive power for which m leaves 1 modulo mn - 1: the powers are gone through one by one.
@@ -31,15 +47,10 @@ fn count_of(m: usize, n: usize) -> usize
     count
 }
 
-// How many turns of m by n bring every block of that shape back: 0 and the fewest, at least one, or 1, 2.
-pub fn repeats(m: usize, n: usize) -> Home
-    ensures { RepeatsPromise m n result }
+// How many turns of m by n bring every block of that shape back: the fewest, at least one; or 1, 2.
+pub fn repeats(m: usize, n: usize) -> Result<usize, Refusal>
+    ensures { RepeatsPromise m n (in_c result) }
 {
-    let sides = [m, n];
-    let number = checks::size_number(&sides);
-    if number != 0 {
-        return Home { number, count: 0 };
-    }
-    let count = count_of(m, n);
-    Home { number: 0, count }
+    checks::check_size(&[m, n])?;
+    Ok(count_of(m, n))
 }
