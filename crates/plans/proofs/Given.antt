@@ -13,7 +13,8 @@ use Rattle.refusals.proofs.FirstOf.{first-is, silent_zero}
 use Rattle.refusals.proofs.Conditions.{is_order, no_order_false}
 use Rattle.refusals.proofs.Calls.{plan_accepted}
 use Rattle.plans.specs.declared.Planned.{Planned}
-use Rattle.plans.specs.Promise.{planned_as, no_plan, PlanPromise}
+use Rattle.plans.specs.declared.Swaps.{Swaps}
+use Rattle.plans.specs.Promise.{planned_as, plan_as, no_plan, PlanPromise}
 
 pub refused : (r order : ℕ) {p : Planned} → order_count r ≤ order → p ≡ no_plan 7 → PlanPromise r order p
 refused r order {p} h e =
@@ -23,11 +24,11 @@ refused r order {p} h e =
 
 -- the falling pairs counted, and as many swaps of the plan: the plan
 pub as_planned : (o : List ℕ) {count : ℕ} {swaps : List ℕ} → count ≡ falling o → swaps ≡ planned count o ++ replicate (10 - count) 0
-    → ◌≡◌ {A = Planned} (record { number = 0; swaps = swaps; count = count }) (planned_as (plan_of o))
+    → ◌≡◌ {A = Swaps} (record { places = swaps; count = count }) (plan_as (plan_of o))
 unfolding plan_of
 as_planned o {count} e f =
     let long : count ≡ length (plan_of o) = e ∙ sym (length_plan o) in
-    ap₂ (λ (s : List ℕ) (l : ℕ). let p : Planned = record { number = 0; swaps = s; count = l } in p)
+    ap₂ (λ (s : List ℕ) (l : ℕ). let p : Swaps = record { places = s; count = l } in p)
     (f ∙ ap₂ (λ (s : List ℕ) (l : ℕ). s ++ replicate (10 - l) 0) (ap (λ (n : ℕ). planned n o) e) long)
     long
 

@@ -3,5 +3,4 @@ use Rattle.plans.proofs.Given.{as_planned}
 use Rattle.plans.proofs.plan_of.Goals as goal
 
 pub returns : goal.returns
-returns c =
-    as_planned _ c.falling_pairs-count.ensures c.planned_swaps-swaps.ensures
+returns c = as_planned _ c.falling_pairs-count.ensures c.planned_swaps-places.ensures
