@@ -16,33 +16,12 @@ struct Runs {
     pub wide: usize,
 }
 
-// The smaller of two numbers, told by what is asked of it: `min` would double the cases of every sum that it stands in.
-fn smaller(x: usize, y: usize) -> usize
-    ensures { (result ≤ x) × (result ≤ y) × (result < y → result ≡ x) }
-{
-    if x < y {
-        return x;
-    }
-    y
-}
-
-// The words of a run, rounded up to sixteens.
-fn sixteens(n: usize) -> usize
-    requires { (0 < n) × (n ≤ 4096) }
-    ensures { (n ≤ result) × (result < n + 16) }
-{
-    16 + (n - 1) / 16 * 16
-}
-
 // How many of the first runs move too short a way for sixteens: past them, those reach no further than the run and the way that it moves.
 fn few_runs(n: usize, wide: usize) -> usize
-    requires { (n ≤ wide) × (wide < n + 16) }
+    requires { (n ≤ 4096) × (n ≤ wide) × (wide < n + 16) }
     ensures { (wide ≤ n + result + 1) × (result < 15) }
 {
-    if wide == n {
-        return 0;
-    }
-    wide - 1 - n
+    wide.saturating_sub(n + 1)
 }
 
 // How many of the last runs that close lie too near to the buffer's end for sixteens: none, unless the column is one of the last.
@@ -75,10 +54,10 @@ fn close_runs(buf: &mut [u32], last: usize, n: usize, k: usize)
     if last == 0 {
         return;
     }
-    let wide = sixteens(n);
+    let wide = n.next_multiple_of(16);
     let few = few_runs(n, wide);
-    let low = smaller(few, last);
-    let high = last - smaller(ending_runs(n, k, few), last - low);
+    let low = few.min(last);
+    let high = last - ending_runs(n, k, few).min(last - low);
     let first = Runs {
         low: 0,
         high: low,
@@ -123,9 +102,7 @@ fn open_range(buf: &mut [u32], t: Runs, column: &[u32])
     requires { RunsOpen t column.now buf.old }
     ensures { RunsOpened t.low t.high t.n t.k column.now buf.old buf.new }
 {
-    let mut r = t.high;
-    while t.low < r {
-        r -= 1;
+    for r in (t.low..t.high).rev() {
         let from = r * t.n + t.k;
         let end = from + t.n;
         moves::rise(buf, end + r + 1 - t.wide, end - t.wide, t.wide);
@@ -141,9 +118,9 @@ fn open_runs(buf: &mut [u32], last: usize, n: usize, k: usize, column: &[u32])
     if last == 0 {
         return;
     }
-    let wide = sixteens(n);
+    let wide = n.next_multiple_of(16);
     let few = few_runs(n, wide);
-    let low = smaller(few + 1 - smaller(k, 1), last);
+    let low = (few + 1 - k.min(1)).min(last);
     let ending = Runs {
         low,
         high: last,

@@ -4,6 +4,3 @@ use Rattle.cameras.proofs.rows.open_range.Given as goal
 
 abbrev pub invariant-loop-r : goal.invariant-loop-r
 invariant-loop-r l = Opening l.t.low l.t.high l.t.n l.t.k l.r l.column l.initial.buf l.buf
-
-abbrev pub decreases-loop-r : goal.decreases-loop-r
-decreases-loop-r l = l.r
