@@ -4,18 +4,24 @@
 mod bands;
 mod refusal;
 
+ghost use Rattle.refusals.specs.Refusal.{answered};
 ghost use Rattle.tiles.specs.Promises.{ToTilesPromise, FromTilesPromise};
 
 use crate::bands::Tiling;
+use refusals::Refusal;
 
-// Stores an m by n block as tiles of r by s words within its buffer, through scratch of r·n words: 0, or 1, 2, 15, 3, 13, 4.
-pub fn to_tiles(buf: &mut [u32], scratch: &mut [u32], m: usize, n: usize, r: usize, s: usize) -> u32
-    ensures { ToTilesPromise m n r s buf.old scratch.old result buf.new scratch.new }
+// Stores an m by n block as tiles of r by s words within its buffer, through scratch of r·n words, or refuses: 1, 2, 15, 3, 13, 4.
+pub fn to_tiles(
+    buf: &mut [u32],
+    scratch: &mut [u32],
+    m: usize,
+    n: usize,
+    r: usize,
+    s: usize,
+) -> Result<(), Refusal>
+    ensures { ToTilesPromise m n r s buf.old scratch.old (answered result) buf.new scratch.new }
 {
-    let number = refusal::tiles_number(buf, scratch, m, n, r, s);
-    if number != 0 {
-        return number;
-    }
+    refusal::check_tiles(buf, scratch, m, n, r, s)?;
     let t = Tiling {
         rows: m,
         columns: n,
@@ -24,7 +30,7 @@ pub fn to_tiles(buf: &mut [u32], scratch: &mut [u32], m: usize, n: usize, r: usi
         to: s,
     };
     bands::convert(buf, scratch, t);
-    0
+    Ok(())
 }
 
 // Stores the tiles of r by s words of an m by n block as the block again: the same checks and the same scratch.
@@ -35,13 +41,10 @@ pub fn from_tiles(
     n: usize,
     r: usize,
     s: usize,
-) -> u32
-    ensures { FromTilesPromise m n r s buf.old scratch.old result buf.new scratch.new }
+) -> Result<(), Refusal>
+    ensures { FromTilesPromise m n r s buf.old scratch.old (answered result) buf.new scratch.new }
 {
-    let number = refusal::tiles_number(buf, scratch, m, n, r, s);
-    if number != 0 {
-        return number;
-    }
+    refusal::check_tiles(buf, scratch, m, n, r, s)?;
     let t = Tiling {
         rows: m,
         columns: n,
@@ -50,5 +53,5 @@ pub fn from_tiles(
         to: n,
     };
     bands::convert(buf, scratch, t);
-    0
+    Ok(())
 }
