@@ -1,6 +1,6 @@
 -- A refusal is told by its number, which is never 0, and an answer by the number that C sees of it. By a table of the numbers.
 use Rattle.lists.proofs.Kit.{◌≡◌, refl, sym, ap, ◌∙◌, List, [], ◌∷◌, ℕ, ◌<◌, get_or, T, ltb, ltb→lt, arith}
-use Rattle.std.specs.Prelude.{Result, Ok, Err}
+use Rattle.std.specs.Prelude.{Result, Ok, Err, IsOk}
 use Rattle.refusals.specs.declared.Refusal.{Refusal}
 use Rattle.refusals.specs.declared.Refusal.TheVariants.{BadLength, TooManyWords, ShortBuffer, ShortScratch, LongChain, BadSwap, BadOrder, LongSheet, BadLine, LargeSheet, PastLines, LongBuffer, BadRelease, BadTile, BadColumn, NoRoom, FarNumber, NothingUsable, NoneCommon, BadTicks, OtherCycles, PastStages, ShortBytes, OtherColumn, BadRun}
 use Rattle.refusals.specs.Refusal.{number_of, answered}
@@ -89,3 +89,8 @@ one_answer (Err r) (Err s) e f = ap Err (one_refusal r s e)
 -- a bare answer is told by its number
 pub one_bare : (x y : Result (Unit {0}) Refusal) → answered x ≡ answered y → x ≡ y
 one_bare x y e = one_answer x y e (λ a b _ _. refl)
+
+-- an answer with the number 0 is not a refusal
+pub accepted_ok : {A : Type 0} (x : Result A Refusal) → answered x ≡ 0 → IsOk x
+accepted_ok (Ok a) e = refl
+accepted_ok (Err r) e = absurd (refuses r e)
