@@ -7,8 +7,7 @@ use Rattle.flat.specs.Turn.{sides}
 use Rattle.passes.specs.Lines.{line_count, line_of, LineMoved, pos_on, received}
 use Rattle.passes.specs.PrivateScratch.{Filled}
 use Rattle.passes.specs.Plain.{LineTicked}
-use Rattle.passes.specs.Ticks.{TickPromise, LinesPromise}
-use Rattle.passes.specs.declared.Ticked.{Ticked}
+use Rattle.passes.specs.Ticks.{Ticked, TickPromise, LinesPromise}
 use Rattle.passes.specs.declared.LineCount.{LineCount}
 use Rattle.flat.proofs.Sides.{sides_are}
 use Rattle.passes.proofs.Accepted.{flat_accepted}

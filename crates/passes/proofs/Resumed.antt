@@ -7,10 +7,10 @@ use Rattle.refusals.proofs.FirstOf.{refused_by, passed_first, through}
 use Rattle.flat.specs.Turn.{sides}
 use Rattle.stages.specs.Stages.{Memory, call}
 use Rattle.passes.specs.Lines.{line_count}
-use Rattle.passes.specs.PrivateScratch.{Grouped, Mapped}
+use Rattle.passes.specs.PrivateScratch.{Mapped}
 use Rattle.passes.specs.Restart.{turn_stages, past_stages, resume_checks, ResumePromise}
 use Rattle.passes.specs.declared.sides.GroupedSides.{GroupedSides}
-use Rattle.passes.proofs.Accepted.{Accepted, flat_asked}
+use Rattle.passes.proofs.Accepted.{Accepted, flat_asked, flat_room}
 
 -- a call that is refused
 pub resume_refused : {m n budget number : ℕ} {x : Memory} → number ≡ first_of (resume_checks m n x) → (number ≡ 0 → ⊥) → ResumePromise m n budget x number x
@@ -45,12 +45,12 @@ module _ (m n : ℕ) (x : Memory) where
       (lt-or-ge (line_count m n * 2 + 1) x.progress)
 
 -- in the sides as they are grouped: how many stages there are, that the turn can go on, and that it has gone on
-module _ {m n : ℕ} {s : GroupedSides} (is : (s.m ≡ m) × (s.n ≡ n) × Grouped s) where
+module _ {m n : ℕ} (s : GroupedSides) (is : (s.m ≡ m) × (s.n ≡ n)) where
   pub stages_of_lem : {total : ℕ} → total ≡ line_count s.m s.n * 2 + 1 → total ≡ line_count m n * 2 + 1
   stages_of_lem e = rw (is.0, is.1) at e
 
-  pub mapped : {b sc : List ℕ} → Accepted m n b sc → Mapped s b sc
-  mapped a = let asked = flat_asked is a in record { grouped = asked.0; lies = asked.1; room = rw (is.0, is.1) a.room }
+  pub mapped : {b sc : List ℕ} → Accepted m n b sc → Mapped s.m s.n b sc
+  mapped a = record { lies = flat_asked s is a; room = flat_room s is a }
 
   pub resumed : {budget : ℕ} {x y : Memory} → first_of (passes_checks (sides m n) x.buffer x.scratch) ≡ 0 → x.progress ≤ line_count s.m s.n * 2 + 1
       → y ≡ call (turn_stages s.m s.n) budget x → ResumePromise m n budget x 0 y

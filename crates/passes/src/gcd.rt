@@ -12,9 +12,7 @@ pub(crate) fn gcd(m: usize, n: usize) -> usize
     let mut y = n;
     // Divides: once a step of Euclid, a few times a turn.
     while y != 0 {
-        let rest = x % y;
-        x = y;
-        y = rest;
+        (x, y) = (y, x % y);
     }
     x
 }
@@ -30,12 +28,8 @@ pub(crate) fn inverse(a: usize, b: usize) -> usize
     let mut u = 1 % b;
     // Divides: a few times a step of Euclid, which a turn or a tick makes once.
     while x != 0 {
-        let rest = y % x;
-        let w = (v + (b - y / x * u % b)) % b;
-        y = x;
-        x = rest;
-        v = u;
-        u = w;
+        (v, u) = (u, (v + (b - y / x * u % b)) % b);
+        (y, x) = (x, y % x);
     }
     v
 }
