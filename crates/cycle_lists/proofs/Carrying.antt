@@ -1,5 +1,5 @@
 -- The loops that move words: along one cycle what is left to carry, and along all what is left of the list, leaves what the whole leaves.
-use Rattle.lists.proofs.Kit.{◌≡◌, refl, sym, ap, ◌∙◌, List, [], ◌∷◌, ℕ, suc, ◌+◌, ◌*◌, ◌-◌, ◌<◌, ◌≤◌, sub-zero, arith, length, get_or, set, drop, length-set, length-drop, drop-drop}
+use Rattle.lists.proofs.Kit.{◌≡◌, refl, sym, ap, ◌∙◌, List, [], ◌∷◌, ℕ, suc, ◌+◌, ◌*◌, ◌-◌, ◌<◌, ◌≤◌, arith, length, get_or, set, drop, length-set, length-drop, drop-drop}
 use Rattle.cycles.specs.Cycles.{takes, cycles, Pair}
 use Rattle.cycles.specs.Along.{handed_on, along_cycles}
 use Rattle.cycles.proofs.Pairs.{first_pair}
@@ -19,9 +19,6 @@ pub next_low : {m n count start at word k next : ℕ} {before words : List ℕ} 
 next_low {m} {n} {at = at} c e = omega (arith, e, (takes_permutes m n).within at c.low, c.long)
 
 module _ (m n count start : ℕ) (before : List ℕ) where
-  pub carries_none : start < m * n → length before ≡ m * n → Carries m n count start before before start (get_or before start 0) 0
-  carries_none low long = record { low = low; long = long; few = omega arith; left = rw sub-zero refl }
-
   module _ {words : List ℕ} {at word k : ℕ} (c : Carries m n count start before words at word k) where
     pub carries_more : {next : ℕ} → k < count → next ≡ takes m n at → Carries m n count start before (set words next word) next (get_or words next 0) (k + 1)
     unfolding handed_on

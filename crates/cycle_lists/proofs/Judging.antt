@@ -83,10 +83,7 @@ module _ (cs : List Check) (m n : ℕ) (list : List ℕ) where
     otherwise = λ o. ⊎_elim (λ z. (c.right z).1) (λ d. absurd (o d)) c.either;
   }
 
--- neither the checks of the size nor those of the block give 22
-pub size_not_22 : (m n : ℕ) → first_of (size_checks (sides m n)) ≡ 22 → ⊥
-size_not_22 m n = not_22 (bad_length (sides m n)) (too_many_words (sides m n)) false false
-
+-- the checks of the block do not give 22
 pub block_not_22 : (m n : ℕ) (buffer : List ℕ) → first_of (block_checks (sides m n) buffer) ≡ 22 → ⊥
 block_not_22 m n buffer =
     not_22 (bad_length (sides m n)) (too_many_words (sides m n)) (short_buffer (sides m n) buffer) (long_buffer (sides m n) buffer)

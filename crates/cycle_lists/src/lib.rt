@@ -50,6 +50,7 @@ fn compare(list: &[u32], turn: Turn) -> Result<(), Refused>
     ensures { Compared turn.m turn.n list.now (in_c result) }
 {
     let mut rest = list;
+    // Kept: the place counts the pairs that are found, and not the offsets that the loop goes over.
     let mut place = 0;
     for start in 0..turn.words() {
         let Some(count) = turn.length_from(start) else {

@@ -59,6 +59,7 @@ impl Turn {
     {
         let mut at = self.step(least);
         let mut count = 1;
+        // Kept: the loop counts the steps that it makes until one shows, so that there is no range and no list to go through.
         while least < at {
             at = self.step(at);
             count += 1;

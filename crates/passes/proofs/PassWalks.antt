@@ -8,7 +8,7 @@ use Rattle.walks.specs.PrivateSource.{Inverse, StateAt}
 use Rattle.walks.specs.PrivateWalk.{walk}
 use Rattle.walks.proofs.Steps.{walk_start, walk_more, walk_lt}
 use Rattle.walks.proofs.Passes.{shared_le, row1_start, row3-walk, row_below}
-use Rattle.walks.proofs.Source.{state_first, next_group, next_lap, next_round, row_next, row_round, source_at, column_lt}
+use Rattle.walks.proofs.Source.{state_first, next_group, next_lap, next_round, row_round, source_at, column_lt}
 use Rattle.passes.specs.PrivateScratch.{Apart, OfPass}
 use Rattle.passes.specs.PrivateWalks.{begun, risen, onward, stands, Low, Small, Follows, SourceAt, Begins, WalkOf}
 use Rattle.passes.specs.declared.sides.GroupedSides.{GroupedSides}
@@ -267,18 +267,6 @@ module _ (s : GroupedSides) {x : ℕ} (v : Inverse (row_group s.m s.n) (column_g
 
   -- carried on from row i: the group before, or the last one, where its row and group do not reach m and where they do
   module _ {i : ℕ} {p : Place} (w : SourceAt s.m s.n i 0 p) where
-    pub below_group : 0 < p.group → SourceAt s.m s.n (i + 1) 0 (record { place = p.place - s.b; group = p.group - 1; lap = p.lap })
-    below_group h =
-        let e : p.group ≡ p.group - 1 + 1 = omega arith in
-        record {
-          column = w.column;
-          state = row_next whole (subst (λ (z : ℕ). StateAt s.m s.n i 0 z p.lap w.column) e w.state);
-          place =
-              let b = column_group s.m s.n in
-              let up : p.group * b ≡ (p.group - 1 + 1) * b = ap (λ (z : ℕ). z * b) e in
-              omega (arith, s.b_is, w.place, add-mul (p.group - 1) 1 b, one-mul b);
-        }
-
     module _ (none : p.group ≡ 0) (h : i < s.m) {lap : ℕ} (is : lap ≡ (p.lap + (s.b - x)) % s.b) where
       last : StateAt s.m s.n (i + 1) 0 (s.c - 1) lap ((lap + (i + s.c) / s.m) % s.b)
       last = rw (is, s.b_is, s.c_is) (row_round whole v (subst (λ (z : ℕ). StateAt s.m s.n i 0 z p.lap w.column) none w.state))

@@ -7,7 +7,6 @@ use Rattle.flat.specs.Passes.{column_group}
 use Rattle.flat.proofs.Sides.{Sides, sides_are}
 use Rattle.passes.specs.Lines.{column, row, line_at, skipped, pos_on, LineMoved}
 use Rattle.passes.specs.declared.line.Line.{Line}
-use Rattle.passes.specs.declared.sides.GroupedSides.{GroupedSides}
 use Rattle.passes.specs.declared.line.Pass.{Pass}
 use Rattle.passes.specs.declared.line.Pass.TheVariants.{First, Second, Third}
 use Rattle.passes.specs.PrivateScratch.{Gone, line_in, lines_in, moved_from}
@@ -49,12 +48,7 @@ skipped_le m n hm hn = go (ltb 1 (gcd_of m n)) refl
 pub groups_le : (m n : ℕ) → 0 < m → 0 < n → column_group m n ≤ n
 groups_le m n hm hn = let s = sides_are m n hm hn in omega (arith, le-mul_of_pos_right {m = gcd_of m n} (column_group m n) s.c_pos, s.columns)
 
--- a pass has few lines, and its first line that moves is one of them or the one after its last
-pub lines_few : (s : GroupedSides) (p : Pass) → lines_in s.m s.n p ≤ 4096
-lines_few s First = s.n_few
-lines_few s Second = s.m_few
-lines_few s Third = s.n_few
-
+-- the first line of a pass that moves is one of its lines or the one after its last
 pub moved_few : (m n : ℕ) → 0 < m → 0 < n → (p : Pass) → moved_from m n p ≤ lines_in m n p
 moved_few m n hm hn First = groups_le m n hm hn
 moved_few m n hm hn Second = omega arith

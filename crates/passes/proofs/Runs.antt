@@ -1,9 +1,8 @@
 -- Runs of a line into scratch: the numbers fit, a run that does not come round is a copy, and a line that was lifted and put back has moved.
-use Rattle.lists.proofs.Kit.{◌≡◌, sym, ap, ◌∙◌, Bool, true, false, cond, List, ⊎_elim, ℕ, ◌+◌, ◌*◌, ◌-◌, ◌<◌, ◌≤◌, mul-le-mul, mul-le-mul_left, mul-add, mul_assoc, mul-one, arith, length, get_or, lt-or-ge}
+use Rattle.lists.proofs.Kit.{◌≡◌, sym, ap, ◌∙◌, Bool, true, false, cond, List, ⊎_elim, ℕ, ◌+◌, ◌*◌, ◌-◌, ◌<◌, ◌≤◌, mul-le-mul_left, mul-add, mul_assoc, mul-one, arith, length, get_or, lt-or-ge}
 use Rattle.walks.proofs.Steps.{walk_straight, walk_lt}
 use Rattle.passes.specs.Lines.{pos_on}
-use Rattle.moves.specs.Stretch.{Past}
-use Rattle.passes.specs.PrivateScratch.{Apart, Lain, CanCopy, Copied, Filled, Lifted, LineGone, goes_to}
+use Rattle.passes.specs.PrivateScratch.{Apart, Lain, CanCopy, Copied, goes_to}
 use Rattle.passes.specs.PrivateWalks.{place_at, Walks, Ahead, steps, RunFits, RunLifted}
 use Rattle.passes.specs.declared.line.Line.{Line}
 use Rattle.passes.specs.declared.line.Strides.{Strides}
@@ -17,12 +16,6 @@ pub lain_same : {l : Line} {xs scratch held : List ℕ} → length held ≡ leng
 lain_same e a = record { inside = a.inside; step = a.step; room = rw e a.room; few = a.few; near = a.near; front = a.front }
 
 module _ {l : Line} {w : Walk} {r : Run} {xs scratch : List ℕ} (a : Lain l xs scratch) (f : RunFits w l.count r) where
-  -- the products fit
-  pub run_small : (w.step * r.size ≤ 16777216) × (l.stride * w.step ≤ 16777216)
-  run_small =
-      let step : w.step ≤ 4096 = omega (arith, f.short, f.round, a.few) in
-      (mul-le-mul {n₂ = 4096} {m₂ = 4096} step (omega (arith, f.on_line, a.few)), mul-le-mul {n₂ = 4096} {m₂ = 4096} a.near step)
-
   -- a run that does not come round: its places, and where they stand
   module _ (h : r.place + w.step * r.size < w.modulus + w.step) where
     pub plain_place : (t : ℕ) → t < r.size → steps w r.place t ≡ r.place + w.step * t
@@ -102,20 +95,3 @@ module _ {w : Walk} {first : Place} {count : ℕ} (y : Walks w first count) wher
   pub goes_apart : (home : Bool) → Apart (goes_to home (place_at w first)) count
   goes_apart true = y.apart
   goes_apart false = λ i j _ _ e. e
-
-  pub goes_within : (home : Bool) (k : ℕ) → k < count → goes_to home (place_at w first) k < count
-  goes_within true k h = omega (arith, (y.low k h).place, y.small.modulus)
-  goes_within false k h = h
-
--- lifted, then put back
-module _ (l : Line) {w : Walk} {first : Place} (y : Walks w first l.count) (home : Bool) (xs : List ℕ) {scratch held : List ℕ}
-    (h : Lifted l (place_at w first) home l.count xs scratch held) where
-  pub moved_through : {ys : List ℕ} → Filled (pos_on l) (λ k. get_or held k 0) l.count xs ys → LineGone l (place_at w first) home xs ys
-  moved_through r = record {
-    same = r.same;
-    placed = λ k d. r.placed (goes_to home (place_at w first) k) (goes_within y home k d) ∙ h.placed k d;
-    others = r.others;
-  }
-
-  pub lifted_past : Past l.count scratch held
-  lifted_past = record { same = h.same; rest = λ p d. h.others p (λ j g q. omega (arith, goes_within y home j g)) }

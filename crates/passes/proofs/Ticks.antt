@@ -1,11 +1,10 @@
 -- The outcomes of a tick: refused by the flat call's checks or by 12, one line moved and scratch cleared, or none left. The checks of the
 -- flat turn come first, so 12 decides where they are passed; a line that is left fits, as it does in the whole turn.
-use Rattle.lists.proofs.Kit.{◌≡◌, refl, sym, ◌∙◌, cond, List, [], ◌∷◌, ℕ, ◌+◌, ◌<◌, ◌≤◌, arith, lt-ltb, le-ltb}
+use Rattle.lists.proofs.Kit.{◌≡◌, refl, ◌∙◌, cond, List, [], ◌∷◌, ℕ, ◌+◌, ◌<◌, ◌≤◌, arith, lt-ltb, le-ltb}
 use Rattle.refusals.specs.FirstOf.{check, first_of}
-use Rattle.refusals.specs.Calls.{size_checks, passes_checks}
+use Rattle.refusals.specs.Calls.{passes_checks}
 use Rattle.refusals.specs.Scratch.{need, cleared}
 use Rattle.refusals.proofs.FirstOf.{refused_by, passed_first, through}
-use Rattle.refusals.proofs.Conditions.{InRange, size_valid}
 use Rattle.refusals.proofs.Promise as promise
 use Rattle.flat.specs.Turn.{sides}
 use Rattle.passes.specs.Lines.{skipped, line_count, line_of, LineMoved}
@@ -19,13 +18,6 @@ use Rattle.passes.proofs.Accepted.{flat_accepted, flat_lies, flat_asked}
 use Rattle.passes.proofs.Fits.{line_fits, left_fits, left_short, past_none, past_more}
 use Rattle.passes.proofs.Passed.{skipped_few}
 use Rattle.passes.proofs.Plain.{Stepped, plain_ticked}
-
--- sides that pass the checks of a block's size
-pub sized_sides : (m n : ℕ) → first_of (size_checks (sides m n)) ≡ 0 → (0 < m) × (0 < n) × (m ≤ 4096) × (n ≤ 4096)
-sized_sides m n e = go (size_valid (sides m n) [] e).0.lengths
-  where
-    go : InRange (sides m n) → (0 < m) × (0 < n) × (m ≤ 4096) × (n ≤ 4096)
-    go (InRange.more pm fm (InRange.more pn fn InRange.none)) = (pm, pn, fm, fn)
 
 -- the line count, of the sides as they were given
 pub counted : {m n count : ℕ} (s : GroupedSides) → (s.m ≡ m) × (s.n ≡ n) → count ≡ line_count s.m s.n → count ≡ line_count m n
@@ -45,9 +37,6 @@ module _ (m n done : ℕ) (b sc : List ℕ) where
   module _ (good : first_of (passes_checks (sides m n) b sc) ≡ 0) where
     decided : first_of (tick_checks m n done b sc) ≡ cond (past_count m n done) 12 0
     decided = through (passes_checks (sides m n) b sc) (check 12 (past_count m n done) ∷ []) tt good
-
-    pub too_late : line_count m n < done → 12 ≡ first_of (tick_checks m n done b sc)
-    too_late h = sym (decided ∙ rw (lt-ltb (line_count m n) done h))
 
     pub in_time : done ≤ line_count m n → first_of (tick_checks m n done b sc) ≡ 0
     in_time h = decided ∙ rw (le-ltb (line_count m n) done h)

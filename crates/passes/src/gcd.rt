@@ -11,6 +11,7 @@ pub(crate) fn gcd(m: usize, n: usize) -> usize
     let mut x = m;
     let mut y = n;
     // Divides: once a step of Euclid, a few times a turn.
+    // Kept: Euclid's algorithm goes through no range and no list, so that no `for` or iterator says it more plainly.
     while y != 0 {
         (x, y) = (y, x % y);
     }
@@ -27,6 +28,7 @@ pub(crate) fn inverse(a: usize, b: usize) -> usize
     let mut v = 0;
     let mut u = 1 % b;
     // Divides: a few times a step of Euclid, which a turn or a tick makes once.
+    // Kept: Euclid's algorithm again.
     while x != 0 {
         (v, u) = (u, (v + (b - y / x * u % b)) % b);
         (y, x) = (x, y % x);

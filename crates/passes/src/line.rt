@@ -37,6 +37,7 @@ struct Strides {
 }
 
 impl Strides {
+    // Kept: `step_by` takes no step of 0, which a line of one word has, so that a `zip` of it needs cases of their own.
     fn copy_words(self, source: &[u32], target: &mut [u32])
         requires { CanCopy self source.now target.old }
         ensures { Copied self source.now target.old target.new }
@@ -47,6 +48,7 @@ impl Strides {
     }
 
     // The same; words that stand side by side and go side by side are one move.
+    // Kept: `copy_from_slice` in the last case asks that the first place is there, also for no word, which takes a test more than the loop.
     fn copy(self, source: &[u32], target: &mut [u32])
         requires { CanCopy self source.now target.old }
         ensures { Copied self source.now target.old target.new }
@@ -75,6 +77,8 @@ fn either<const HOME: bool>(home: usize, forth: usize) -> usize
     if HOME { home } else { forth }
 }
 
+// Kept: `Lain` stands in four contracts, and buffer and scratch are two parameters: specs make a `Line` of any sides, which a ghost field would forbid,
+// and a line is lifted from the one into the other and put back the other way, which a struct that holds both would not show.
 impl Line {
     // Where the word of place k stands.
     fn offset_of(self, k: usize) -> usize
@@ -132,6 +136,7 @@ impl Line {
     {
         let mut p = first;
         let mut k = 0;
+        // Kept: no other loop goes over the runs, and an iterator over them, with its state, would be longer than this loop.
         while k < until {
             let size = w.ahead(p).min(until - k);
             let run = Run {

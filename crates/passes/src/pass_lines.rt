@@ -45,9 +45,8 @@ impl PassLines {
         ensures { result ≡ lines_in self.sides.m self.sides.n self.pass }
     {
         match self.pass {
-            Pass::First => self.sides.n,
+            Pass::First | Pass::Third => self.sides.n,
             Pass::Second => self.sides.m,
-            Pass::Third => self.sides.n,
         }
     }
 
@@ -57,8 +56,7 @@ impl PassLines {
     {
         match self.pass {
             Pass::First => self.sides.b,
-            Pass::Second => 0,
-            Pass::Third => 0,
+            Pass::Second | Pass::Third => 0,
         }
     }
 
@@ -68,9 +66,8 @@ impl PassLines {
         ensures { result ≡ line_in self.sides.m self.sides.n self.pass t }
     {
         match self.pass {
-            Pass::First => self.sides.column(Pass::First, t),
+            Pass::First | Pass::Third => self.sides.column(self.pass, t),
             Pass::Second => self.sides.row(t),
-            Pass::Third => self.sides.column(Pass::Third, t),
         }
     }
 

@@ -77,9 +77,8 @@ impl GroupedSides {
         ensures { Inverted self.m self.n pass result }
     {
         match pass {
-            Pass::First => 0,
+            Pass::First | Pass::Third => 0,
             Pass::Second => gcd::inverse(self.a, self.b),
-            Pass::Third => 0,
         }
     }
 
