@@ -15,7 +15,7 @@ fn with_digit(value: u32, digit: u8) -> Option<u32>
     requires { 48 ≤ digit }
     ensures { result ≡ one_more (value * 10 + (digit - 48)) }
 {
-    value.checked_mul(10)?.checked_add(u32::from(digit - b'0'))
+    u32::try_from(u64::from(value) * 10 + u64::from(digit - b'0')).ok()
 }
 
 // A number whose digits so far say `start`, and which goes on at the head of the bytes.
