@@ -63,7 +63,7 @@ no_place f (x ∷ l) h = go (f x) h (no_place f l)
     go false h ih = ih (le_of_suc-le-suc h)
 
 -- the library's words for the same: a test at some entry, the first entry that passes
-pub some_any : (f : ℕ → Bool) (l : List ℕ) → list_any f l ≡ some f l
+pub some_any : {A : Type 0} (f : A → Bool) (l : List A) → list_any f l ≡ some f l
 some_any f [] = refl
 some_any f (x ∷ l) = rw (some_any f l)
 
