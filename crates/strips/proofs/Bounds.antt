@@ -1,5 +1,5 @@
 -- The sizes of strips: a tile takes 8 to 64 lines, the long side is cut in as many lines and a rest, and what is left over, the tiles and the marks have room.
-use Rattle.lists.proofs.Kit.{◌≡◌, ap, subst, ◌∙◌, List, ◌++◌, ◌⊎◌, inl, inr, ⊎_elim, ℕ, ◌+◌, ◌*◌, ◌-◌, ◌/◌, ◌%◌, ◌<◌, ◌≤◌, mod-lt, div-add-mod', div-lt_iff_lt-mul, mul-le-mul, mul-le-mul_right, le-mul_of_pos_right, mul-pos, arith, length, take, drop, replicate, length-replicate, length-take-le, lt-or-ge}
+use Rattle.lists.proofs.Kit.{◌≡◌, ap, subst, ◌∙◌, List, ◌++◌, ◌⊎◌, inl, inr, ⊎_elim, ℕ, ◌+◌, ◌*◌, ◌-◌, ◌/◌, ◌%◌, ◌<◌, ◌≤◌, min, mod-lt, div-add-mod', div-lt_iff_lt-mul, mul-le-mul, mul-le-mul_right, le-mul_of_pos_right, mul-pos, arith, length, take, drop, replicate, length-replicate, length-take-le, lt-or-ge}
 use borrow.Rule.Slice.PartMut.{mid_of, mid_len}
 use Rattle.grids.specs.Promises.{Turnable}
 use Rattle.lists.proofs.Parts.{whole}
@@ -9,15 +9,11 @@ use Rattle.strips.specs.PrivateSteps.{BlocksTurned, PartTurned, Widened}
 use Rattle.strips.proofs.Strips.{by_rows, by_columns, joined_turn, parted_turn}
 
 -- as many lines as fit, and no more than 64
-pub lines_all : {x : ℕ} → 0 < x → x ≤ 64 → 512 / x < 64 → Lines x (512 / x)
-lines_all {x} some few less = record {
-  some = ⊎_elim (λ (h : 512 / x < 8). absurd (omega (arith, (div-lt_iff_lt-mul some).0 h))) (λ (h : 8 ≤ 512 / x). h) (lt-or-ge (512 / x) 8);
-  few = omega arith;
-  room = omega (arith, div-add-mod' 512 x);
-}
-
-pub lines_most : {x : ℕ} → 64 ≤ 512 / x → Lines x 64
-lines_most {x} many = record { some = omega arith; few = omega arith; room = omega (arith, div-add-mod' 512 x, mul-le-mul_right x many) }
+pub lines_fit : {x : ℕ} → 0 < x → x ≤ 64 → Lines x (min 64 (512 / x))
+lines_fit {x} some few =
+    let eight : 8 ≤ 512 / x = ⊎_elim (λ (h : 512 / x < 8). absurd (omega (arith, (div-lt_iff_lt-mul some).0 h))) (λ (h : 8 ≤ 512 / x). h) (lt-or-ge (512 / x) 8) in
+    let low : min 64 (512 / x) ≤ 512 / x = omega arith in
+    record { some = omega arith; few = omega arith; room = omega (arith, div-add-mod' 512 x, mul-le-mul_right x low) }
 
 -- a long side in y times s lines and q left over
 pub record Parted (short long g s y q : ℕ) : Type 0 where
@@ -33,7 +29,7 @@ pub record Parted (short long g s y q : ℕ) : Type 0 where
   pub chunk : s * g ≤ 4096
   pub rest : q * g ≤ 512
 
-module _ {short long g s : ℕ} {xs tile : List ℕ} (t : Strip short long g xs tile) (l : Lines (short * g) s) where
+module _ {short long g s : ℕ} {xs : List ℕ} (t : Strip short long g xs) (l : Lines (short * g) s) where
   -- no more lines than the long side has
   reaches : s ≤ long
   reaches = ⊎_elim (λ (k : long < s). absurd (omega (arith, t.enough, l.room, mul-le-mul_right (short * g) k))) (λ (k : s ≤ long). k) (lt-or-ge long s)
@@ -82,31 +78,31 @@ pub lent_back : (k : ℕ) (room : List ℕ) {marks : List ℕ} → marks ≡ rep
 lent_back k room {marks} zero inside = whole k room marks inside (ap length zero ∙ length-replicate _ _)
 
 -- the steps of a strip have room: of a tall one and of a wide one
-module _ {short long g s y q : ℕ} {xs tile : List ℕ} (t : Strip short long g xs tile) (l : Lines (short * g) s) (p : Parted short long g s y q) where
+module _ {short long g s y q : ℕ} {xs : List ℕ} (t : Strip short long g xs) (l : Lines (short * g) s) (p : Parted short long g s y q) where
   some_lines : 0 < s
   some_lines = omega (arith, l.some)
 
   module _ {ys : List ℕ} (same : length ys ≡ length xs) where
-    pub tall_tiles : {room : List ℕ} → length room ≡ length tile → Held y s short g ys room
-    tall_tiles same-room = record {
+    pub tall_tiles : Held y s short g ys
+    tall_tiles = record {
       rows = some_lines;
       columns = t.some;
       words = t.words;
       inside = omega (arith, t.inside, p.sum);
-      room = omega (arith, t.room, l.room);
+      room = omega (arith, l.room);
     }
 
-    pub wide_tiles : {room : List ℕ} → length room ≡ length tile → Held y short s g ys room
-    wide_tiles same-room = record {
+    pub wide_tiles : Held y short s g ys
+    wide_tiles = record {
       rows = t.some;
       columns = some_lines;
       words = t.words;
       inside = omega (arith, t.inside, p.sum);
-      room = omega (arith, t.room, l.room);
+      room = omega (arith, l.room);
     }
 
-    pub tall_grid : {room : List ℕ} → length room ≡ length tile → Turnable y short (s * g) ys room
-    tall_grid same-room = record {
+    pub tall_grid : {room : List ℕ} → length room ≡ 1024 → Turnable y short (s * g) ys room
+    tall_grid long-room = record {
       some_rows = p.some;
       some_columns = t.some;
       far_rows = omega (arith, p.far);
@@ -114,11 +110,11 @@ module _ {short long g s y q : ℕ} {xs tile : List ℕ} (t : Strip short long g
       few = omega (arith, p.marks);
       some_words = mul-pos some_lines t.words;
       inside = omega (arith, t.inside, p.sum);
-      marked = omega (arith, p.marks, t.room);
+      marked = omega (arith, p.marks);
     }
 
-    pub wide_grid : {room : List ℕ} → length room ≡ length tile → Turnable short y (s * g) ys room
-    wide_grid same-room = record {
+    pub wide_grid : {room : List ℕ} → length room ≡ 1024 → Turnable short y (s * g) ys room
+    wide_grid long-room = record {
       some_rows = t.some;
       some_columns = p.some;
       far_rows = omega (arith, p.thin);
@@ -126,7 +122,7 @@ module _ {short long g s y q : ℕ} {xs tile : List ℕ} (t : Strip short long g
       few = omega (arith, p.marks);
       some_words = mul-pos some_lines t.words;
       inside = omega (arith, t.inside, p.sum);
-      marked = omega (arith, p.marks, t.room);
+      marked = omega (arith, p.marks);
     }
 
     pub tall_rest : From (short * (y * s * g)) q short g ys
@@ -157,13 +153,13 @@ pub wide_turned : {m n g s y q : ℕ} {xs vs ws ys zs : List ℕ} → y * s + q 
 wide_turned {m} {g = g} {xs = xs} {zs = zs} whole w a t b = subst (λ (k : ℕ). GridTurned m k g xs zs) whole (parted_turn w a (by_columns t b))
 
 -- what one strip is: a grid, small, tall or wide
-module _ {y m n g : ℕ} {xs tile : List ℕ} (t : Narrow y m n g xs tile) where
+module _ {y m n g : ℕ} {xs : List ℕ} (t : Narrow y m n g xs) where
   pub narrow_places : m * n ≤ 1048576
   narrow_places = omega (arith, t.few, le-mul_of_pos_right (m * n) t.words)
 
   -- one of many blocks
-  pub one_narrow : (base end : ℕ) (ys : List ℕ) {kept : List ℕ} → length kept ≡ length tile → end ≡ base + m * n * g → end ≤ length ys → Narrow 1 m n g (mid_of base (end - base) ys) kept
-  one_narrow base end ys same is inside = record {
+  pub one_narrow : (base end : ℕ) (ys : List ℕ) → end ≡ base + m * n * g → end ≤ length ys → Narrow 1 m n g (mid_of base (end - base) ys)
+  one_narrow base end ys is inside = record {
     rows = t.rows;
     columns = t.columns;
     words = t.words;
@@ -172,12 +168,11 @@ module _ {y m n g : ℕ} {xs tile : List ℕ} (t : Narrow y m n g xs tile) where
     few = t.few;
     narrow = t.narrow;
     inside = omega (arith, mid_len base end ys inside);
-    room = same ∙ t.room;
   }
 
-module _ {m n g : ℕ} {xs tile : List ℕ} (t : Narrow 1 m n g xs tile) where
-  pub narrow_grid : 8 ≤ g → Turnable m n g xs tile
-  narrow_grid long = record {
+module _ {m n g : ℕ} {xs : List ℕ} (t : Narrow 1 m n g xs) where
+  pub narrow_grid : {room : List ℕ} → length room ≡ 1024 → 8 ≤ g → Turnable m n g xs room
+  narrow_grid long-room long = record {
     some_rows = t.rows;
     some_columns = t.columns;
     far_rows = t.far_rows;
@@ -185,7 +180,7 @@ module _ {m n g : ℕ} {xs tile : List ℕ} (t : Narrow 1 m n g xs tile) where
     few = narrow_places t;
     some_words = t.words;
     inside = omega (arith, t.inside);
-    marked = omega (arith, t.room, marks);
+    marked = omega (arith, marks);
   }
     where
       eight : (k : ℕ) → k * g ≤ 64 → k ≤ 8
@@ -199,14 +194,14 @@ module _ {m n g : ℕ} {xs tile : List ℕ} (t : Narrow 1 m n g xs tile) where
           (λ k. k.1)
           t.narrow
 
-  pub narrow_small : m * n * g ≤ 512 → Held 1 m n g xs tile
-  narrow_small few = record { rows = t.rows; columns = t.columns; words = t.words; inside = t.inside; room = omega (arith, t.room) }
+  pub narrow_small : m * n * g ≤ 512 → Held 1 m n g xs
+  narrow_small few = record { rows = t.rows; columns = t.columns; words = t.words; inside = t.inside; room = omega arith }
 
   module _ (light : g < 8) (many : 512 < m * n * g) where
     a_line : (m * g ≤ 64) ⊎ (n * g ≤ 64)
     a_line = ⊎_elim (λ h. h) (λ k. absurd (omega (arith, k.0))) t.narrow
 
-    pub narrow_tall : n ≤ m → Strip n m g xs tile
+    pub narrow_tall : n ≤ m → Strip n m g xs
     narrow_tall less = record {
       some = t.columns;
       words = t.words;
@@ -214,10 +209,9 @@ module _ {m n g : ℕ} {xs tile : List ℕ} (t : Narrow 1 m n g xs tile) where
       far = t.far_rows;
       enough = omega arith;
       inside = omega (arith, t.inside);
-      room = t.room;
     }
 
-    pub narrow_wide : m ≤ n → Strip m n g xs tile
+    pub narrow_wide : m ≤ n → Strip m n g xs
     narrow_wide less = record {
       some = t.rows;
       words = t.words;
@@ -225,13 +219,12 @@ module _ {m n g : ℕ} {xs tile : List ℕ} (t : Narrow 1 m n g xs tile) where
       far = t.far_columns;
       enough = omega arith;
       inside = omega (arith, t.inside);
-      room = t.room;
     }
 
 -- blocks of words from an offset on
-pub from_narrow : {base end y m n : ℕ} {xs tile : List ℕ} → From base y m n xs → (m ≤ 64) ⊎ (n ≤ 64) → length tile ≡ 1024 → end ≡ base + y * (m * n)
-    → Narrow y m n 1 (mid_of base (end - base) xs) tile
-from_narrow {base} {end} {xs = xs} f short room is = record {
+pub from_narrow : {base end y m n : ℕ} {xs : List ℕ} → From base y m n xs → (m ≤ 64) ⊎ (n ≤ 64) → end ≡ base + y * (m * n)
+    → Narrow y m n 1 (mid_of base (end - base) xs)
+from_narrow {base} {end} {xs = xs} f short is = record {
   rows = f.rows;
   columns = f.columns;
   words = omega arith;
@@ -240,5 +233,4 @@ from_narrow {base} {end} {xs = xs} f short room is = record {
   few = ⊎_elim (λ h. omega (arith, mul-le-mul h f.far_columns)) (λ h. omega (arith, mul-le-mul f.far_rows h)) short;
   narrow = inl (⊎_elim (λ h. inl (omega arith)) (λ h. inr (omega arith)) short);
   inside = omega (arith, mid_len base end xs (omega (arith, f.inside)));
-  room = room;
 }

@@ -1,5 +1,5 @@
 -- The sizes of large blocks: a side cut in strips of 32 to 64 words or in halves, the strips, the marks of their grid and the lines left over have room.
-use Rattle.lists.proofs.Kit.{◌≡◌, ap, subst, ◌∙◌, List, ◌⊎◌, inl, inr, ⊎_elim, ℕ, ◌+◌, ◌*◌, ◌-◌, ◌/◌, ◌%◌, ◌<◌, ◌≤◌, div-add-mod', div-lt_iff_lt-mul, mod-lt, mul-le-mul, mul-le-mul_left, mul-le-mul_right, le-mul_of_pos_right, mul-pos, arith, length, lt-or-ge}
+use Rattle.lists.proofs.Kit.{◌≡◌, ap, subst, List, ◌⊎◌, inl, inr, ⊎_elim, ℕ, ◌+◌, ◌*◌, ◌-◌, ◌/◌, ◌%◌, ◌<◌, ◌≤◌, div-add-mod', div-lt_iff_lt-mul, mod-lt, mul-le-mul, mul-le-mul_left, mul-le-mul_right, le-mul_of_pos_right, mul-pos, arith, length, lt-or-ge}
 use Rattle.grids.specs.Promises.{Turnable}
 use Rattle.strips.specs.PrivateBounds.{From, Waiting, Narrow, Thin, Cut, Large}
 use Rattle.grids.specs.Grids.{GridTurned}
@@ -121,7 +121,7 @@ short_line {x} {other} {g} {r} {y} {q} p some few left less = ⊎_elim
     after_too k h = omega arith
 
 -- a large block cut by rows
-module _ {m n g r y q : ℕ} {xs tile : List ℕ} (t : Large m n g xs tile) (c : Cut m n g r) (p : Stripped m n g r y q) {ys : List ℕ} (same : length ys ≡ length xs) where
+module _ {m n g r y q : ℕ} {xs : List ℕ} (t : Large m n g xs) (c : Cut m n g r) (p : Stripped m n g r y q) {ys : List ℕ} (same : length ys ≡ length xs) where
   pub rows_rest : From (n * (y * r * g)) q n g ys
   rows_rest = record {
     rows = some_side g t.columns;
@@ -131,43 +131,40 @@ module _ {m n g r y q : ℕ} {xs tile : List ℕ} (t : Large m n g xs tile) (c :
     inside = omega (arith, t.inside, p.sum);
   }
 
-  module _ {room : List ℕ} (same-room : length room ≡ length tile) where
-    pub rows_strips : Narrow y r n g ys room
-    rows_strips = record {
-      rows = p.some_lines;
-      columns = some_side g t.columns;
-      words = t.words;
-      far_rows = omega (arith, c.low, t.far_rows);
-      far_columns = t.far_columns;
-      few = omega (arith, p.strip, t.few);
-      narrow = ⊎_elim (λ h. inl (inl h)) (λ k. inr k) c.strip;
-      inside = omega (arith, t.inside, p.sum);
-      room = same-room ∙ t.room;
-    }
+  pub rows_strips : Narrow y r n g ys
+  rows_strips = record {
+    rows = p.some_lines;
+    columns = some_side g t.columns;
+    words = t.words;
+    far_rows = omega (arith, c.low, t.far_rows);
+    far_columns = t.far_columns;
+    few = omega (arith, p.strip, t.few);
+    narrow = ⊎_elim (λ h. inl (inl h)) (λ k. inr k) c.strip;
+    inside = omega (arith, t.inside, p.sum);
+  }
 
-    pub rows_grid : Turnable y n (r * g) ys room
-    rows_grid = record {
-      some_rows = p.some_strips;
-      some_columns = some_side g t.columns;
-      far_rows = p.far;
-      far_columns = t.far_columns;
-      few = omega (arith, p.marks);
-      some_words = mul-pos p.some_lines t.words;
-      inside = omega (arith, t.inside, p.sum);
-      marked = omega (arith, p.marks, t.room);
-    }
+  pub rows_grid : {room : List ℕ} → length room ≡ 1024 → Turnable y n (r * g) ys room
+  rows_grid long = record {
+    some_rows = p.some_strips;
+    some_columns = some_side g t.columns;
+    far_rows = p.far;
+    far_columns = t.far_columns;
+    few = omega (arith, p.marks);
+    some_words = mul-pos p.some_lines t.words;
+    inside = omega (arith, t.inside, p.sum);
+    marked = omega (arith, p.marks);
+  }
 
-    pub rows_wait : (q ≡ 0) ⊎ (n ≤ m) → Waiting n (y * r * g) (m * g) ys room
-    rows_wait left = record {
-      some = some_side g t.columns;
-      order = omega (arith, p.words);
-      short = short_line p t.words t.few left;
-      inside = omega (arith, t.inside);
-      room = same-room ∙ t.room;
-    }
+  pub rows_wait : (q ≡ 0) ⊎ (n ≤ m) → Waiting n (y * r * g) (m * g) ys
+  rows_wait left = record {
+    some = some_side g t.columns;
+    order = omega (arith, p.words);
+    short = short_line p t.words t.few left;
+    inside = omega (arith, t.inside);
+  }
 
 -- and by columns
-module _ {m n g r z q : ℕ} {xs tile : List ℕ} (t : Large m n g xs tile) (c : Cut n m g r) (p : Stripped n m g r z q) {ys : List ℕ} (same : length ys ≡ length xs) where
+module _ {m n g r z q : ℕ} {xs : List ℕ} (t : Large m n g xs) (c : Cut n m g r) (p : Stripped n m g r z q) {ys : List ℕ} (same : length ys ≡ length xs) where
   pub columns_rest : From (m * (z * r * g)) q g m ys
   columns_rest = record {
     rows = t.words;
@@ -177,40 +174,37 @@ module _ {m n g r z q : ℕ} {xs tile : List ℕ} (t : Large m n g xs tile) (c :
     inside = omega (arith, t.inside, p.sum);
   }
 
-  module _ {room : List ℕ} (same-room : length room ≡ length tile) where
-    pub columns_strips : Narrow z m r g ys room
-    columns_strips = record {
-      rows = some_side g t.rows;
-      columns = p.some_lines;
-      words = t.words;
-      far_rows = t.far_rows;
-      far_columns = omega (arith, c.low, t.far_columns);
-      few = omega (arith, p.strip, t.few);
-      narrow = ⊎_elim (λ h. inl (inr h)) (λ k. inr (k.0, omega (arith, k.1))) c.strip;
-      inside = omega (arith, t.inside, p.sum);
-      room = same-room ∙ t.room;
-    }
+  pub columns_strips : Narrow z m r g ys
+  columns_strips = record {
+    rows = some_side g t.rows;
+    columns = p.some_lines;
+    words = t.words;
+    far_rows = t.far_rows;
+    far_columns = omega (arith, c.low, t.far_columns);
+    few = omega (arith, p.strip, t.few);
+    narrow = ⊎_elim (λ h. inl (inr h)) (λ k. inr (k.0, omega (arith, k.1))) c.strip;
+    inside = omega (arith, t.inside, p.sum);
+  }
 
-    pub columns_grid : Turnable m z (r * g) ys room
-    columns_grid = record {
-      some_rows = some_side g t.rows;
-      some_columns = p.some_strips;
-      far_rows = t.far_rows;
-      far_columns = p.far;
-      few = omega (arith, p.marks);
-      some_words = mul-pos p.some_lines t.words;
-      inside = omega (arith, t.inside, p.sum);
-      marked = omega (arith, p.marks, t.room);
-    }
+  pub columns_grid : {room : List ℕ} → length room ≡ 1024 → Turnable m z (r * g) ys room
+  columns_grid long = record {
+    some_rows = some_side g t.rows;
+    some_columns = p.some_strips;
+    far_rows = t.far_rows;
+    far_columns = p.far;
+    few = omega (arith, p.marks);
+    some_words = mul-pos p.some_lines t.words;
+    inside = omega (arith, t.inside, p.sum);
+    marked = omega (arith, p.marks);
+  }
 
-    pub columns_wait : (q ≡ 0) ⊎ (m ≤ n) → Waiting m (z * r * g) (n * g) ys room
-    columns_wait left = record {
-      some = some_side g t.rows;
-      order = omega (arith, p.words);
-      short = short_line p t.words (omega (arith, t.few)) left;
-      inside = omega (arith, t.inside);
-      room = same-room ∙ t.room;
-    }
+  pub columns_wait : (q ≡ 0) ⊎ (m ≤ n) → Waiting m (z * r * g) (n * g) ys
+  columns_wait left = record {
+    some = some_side g t.rows;
+    order = omega (arith, p.words);
+    short = short_line p t.words (omega (arith, t.few)) left;
+    inside = omega (arith, t.inside);
+  }
 
 -- the steps of a large block are its turn, the lines left over being joined to those of the strips
 pub rows_joined : {m n g r y q : ℕ} {xs vs ws ys zs : List ℕ} → Stripped m n g r y q → BlocksTurned y r n g xs vs → GridTurned y n (r * g) vs ws

@@ -1,7 +1,7 @@
 -- A square turned across its diagonal: row by row, each element before the diagonal trades places with the one that mirrors it. After i rows the elements of the
 -- first i rows and columns stand turned, and the others stand where they stood. A square of words goes by recursion, which takes what it is lent.
-use Rattle.lists.proofs.Kit.{◌≡◌, refl, sym, ap, ◌∙◌, List, ◌⊎◌, inl, inr, ⊎_elim, ℕ, ◌+◌, ◌*◌, ◌-◌, ◌/◌, ◌%◌, ◌<◌, ◌≤◌, mul-le-mul, le-ltb, arith, digits_div, digits_mod, digits_lt, length, get_or, eq-or-ne, lt-or-ge}
-use borrow.Rule.Slice.PartMut.{mid_of, put_mid, mid_len}
+use Rattle.lists.proofs.Kit.{◌≡◌, refl, sym, ap, ◌∙◌, subst, List, ◌++◌, take, drop, length-take-le, ◌⊎◌, inl, inr, ⊎_elim, ℕ, ◌+◌, ◌*◌, ◌-◌, ◌/◌, ◌%◌, ◌<◌, ◌≤◌, mul-le-mul, le-ltb, arith, digits_div, digits_mod, digits_lt, length, get_or, eq-or-ne, lt-or-ge}
+use borrow.Rule.Slice.PartMut.{mid_of, put_mid}
 use Rattle.layout.specs.Layout.{volume}
 use Rattle.refusals.specs.FirstOf.{first_of}
 use Rattle.refusals.specs.Calls.{recursion_checks}
@@ -162,21 +162,27 @@ module _ {n : ℕ} {xs : List ℕ} (q : Square n 1 xs) where
       above : 4096 < n → 4097 ≤ n
       above h = h
 
-  exact : length (mid_of 0 (n * n - 0) xs) ≡ volume (sides n n)
-  exact = omega (arith, mid_len 0 (n * n) xs (omega (arith, q.inside)), volume_two n n)
+  exact : length (take (n * n) xs) ≡ volume (sides n n)
+  exact = length-take-le (n * n) xs (omega (arith, q.inside)) ∙ omega (arith, volume_two n n)
 
-  pub lent_accepted : first_of (recursion_checks (sides n n) (mid_of 0 (n * n - 0) xs)) ≡ 0
+  pub lent_accepted : first_of (recursion_checks (sides n n) (take (n * n) xs)) ≡ 0
   lent_accepted =
       rw (
         range_in n (λ e. omega (arith, q.some)) side,
         le-ltb 1048576 (volume (sides n n)) (omega (arith, q.few, volume_two n n)),
-        not_short (sides n n) (mid_of 0 (n * n - 0) xs) exact,
-        not_long (sides n n) (mid_of 0 (n * n - 0) xs) exact,
+        not_short (sides n n) (take (n * n) xs) exact,
+        not_long (sides n n) (take (n * n) xs) exact,
       )
 
-  pub lent_turned : {ys : List ℕ} → Turn n n (mid_of 0 (n * n - 0) xs) ys → GridTurned n n 1 xs (put_mid 0 (n * n - 0) xs ys)
-  lent_turned {ys} t =
+  -- the same where the part is said to begin at 0
+  part_back : {ys : List ℕ} → Turn n n (mid_of 0 (n * n - 0) xs) ys → GridTurned n n 1 xs (put_mid 0 (n * n - 0) xs ys)
+  part_back {ys} t =
       let b = part_turned {m = n} {n = n} {chunk = 1} {base = 0} {end = n * n} {xs = xs} {ys = ys} (omega arith) (omega (arith, q.inside)) (laid-turned (turn_flat t)) in
       from_words n n 1 b.same
       (λ i j u hi hj hu. same_word (put_mid 0 (n * n - 0) xs ys) (omega arith) ∙ b.placed i j u hi hj hu ∙ same_word xs (omega arith))
       (λ k h. b.others k (inr (omega arith)))
+
+  pub lent_turned : {ys : List ℕ} → Turn n n (take (n * n) xs) ys → GridTurned n n 1 xs (ys ++ drop (n * n) xs)
+  lent_turned {ys} t =
+      let e : n * n - 0 ≡ n * n = omega arith in
+      subst (λ (k : ℕ). GridTurned n n 1 xs (ys ++ drop k xs)) e (part_back (subst (λ (k : ℕ). Turn n n (take k xs) ys) (sym e) t))

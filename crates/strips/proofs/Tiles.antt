@@ -1,6 +1,6 @@
 -- A small block is lifted into the tile, its rows apart, and written back row by row or column by column: column j of the tile is the stretch of m words
 -- from j·m on. Blocks so turned one after the other, each a part of the buffer, are the layout whose two axes in the middle are exchanged.
-use Rattle.lists.proofs.Kit.{◌≡◌, refl, sym, ap, ap₂, ◌∙◌, ⊎_elim, List, ℕ, ◌+◌, ◌*◌, ◌-◌, ◌/◌, ◌%◌, ◌<◌, ◌≤◌, zero-mul, mul_comm, add-mul, one-mul, le-mul_of_pos_right, arith, digits_div, digits_mod, digits_lt, length, get_or, eq-or-ne}
+use Rattle.lists.proofs.Kit.{◌≡◌, refl, sym, ap, ap₂, ◌∙◌, ◌⊎◌, ⊎_elim, List, ℕ, ◌+◌, ◌*◌, ◌-◌, ◌/◌, ◌%◌, ◌<◌, ◌≤◌, zero-mul, mul_comm, add-mul, one-mul, le-mul_of_pos_right, arith, digits_div, digits_mod, digits_lt, length, get_or, eq-or-ne}
 use borrow.Rule.Slice.PartMut.{mid_of, put_mid, mid_len}
 use Rattle.strips.proofs.Blocks.{laid-turned, part_turned, TurnedTo, turned_more, all-turned}
 use Rattle.moves.specs.Stretch.{Stretch}
@@ -115,7 +115,7 @@ pub record Sizes (m n g size : ℕ) : Type 0 where
   pub lines : m * g ≤ size
   pub places : m * n ≤ size
 
-pub sizes : {y m n g : ℕ} {xs tile : List ℕ} → Held y m n g xs tile → Sizes m n g (length tile)
+pub sizes : {y m n g : ℕ} {xs : List ℕ} → Held y m n g xs → Sizes m n g 1024
 sizes {m = m} {n} {g} h =
     let a = le-mul_of_pos_right (n * g) h.rows in
     let b = le-mul_of_pos_right (m * g) h.columns in
@@ -123,9 +123,9 @@ sizes {m = m} {n} {g} h =
     record { row = omega (arith, h.room, a); lines = omega (arith, h.room, b); places = omega (arith, h.room, c) }
 
 -- one of many blocks
-pub one_held : (base end : ℕ) (ys : List ℕ) {y m n g : ℕ} {xs tile kept : List ℕ} → Held y m n g xs tile → length kept ≡ length tile → end ≡ base + m * n * g → end ≤ length ys
-    → Held 1 m n g (mid_of base (end - base) ys) kept
-one_held base end ys h same is inside = record {
+pub one_held : (base end : ℕ) (ys : List ℕ) {y m n g : ℕ} {xs : List ℕ} → Held y m n g xs → end ≡ base + m * n * g → end ≤ length ys
+    → Held 1 m n g (mid_of base (end - base) ys)
+one_held base end ys h is inside = record {
   rows = h.rows;
   columns = h.columns;
   words = h.words;
@@ -134,7 +134,7 @@ one_held base end ys h same is inside = record {
 }
 
 -- blocks of words from an offset on
-pub from_held : {base end y m n : ℕ} {xs tile : List ℕ} → From base y m n xs → m * n ≤ length tile → end ≡ base + y * (m * n) → Held y m n 1 (mid_of base (end - base) xs) tile
+pub from_held : {base end y m n : ℕ} {xs : List ℕ} → From base y m n xs → m * n ≤ 1024 → end ≡ base + y * (m * n) → Held y m n 1 (mid_of base (end - base) xs)
 from_held {base} {end} {xs = xs} f room is = record {
   rows = f.rows;
   columns = f.columns;
@@ -150,14 +150,17 @@ pub block_more : {m n g t : ℕ} {xs ys zs : List ℕ} → TurnedTo m n g t xs y
 block_more a room s = turned_more a (part_turned refl room (laid-turned s))
 
 -- blocks of one line, turned, are as they were
-pub rows_stand : {y m n g : ℕ} {xs : List ℕ} → m ≡ 1 → BlocksTurned y m n g xs xs
+rows_stand : {y m n g : ℕ} {xs : List ℕ} → m ≡ 1 → BlocksTurned y m n g xs xs
 rows_stand {y} {m} {n} {g} {xs} one = all-turned (record { same = refl; placed = λ k i j u hk hi hj hu. stands k i j u (omega arith); stands = λ p h. refl })
   where
     stands : (k i j u : ℕ) → i ≡ 0 → get_or xs (k * (m * n * g) + ((j * m + i) * g + u)) 0 ≡ get_or xs (k * (m * n * g) + ((i * n + j) * g + u)) 0
     stands k i j u z = rw (z, one) (same_word xs (omega arith))
 
-pub columns_stand : {y m n g : ℕ} {xs : List ℕ} → n ≡ 1 → BlocksTurned y m n g xs xs
+columns_stand : {y m n g : ℕ} {xs : List ℕ} → n ≡ 1 → BlocksTurned y m n g xs xs
 columns_stand {y} {m} {n} {g} {xs} one = all-turned (record { same = refl; placed = λ k i j u hk hi hj hu. stands k i j u (omega arith); stands = λ p h. refl })
   where
     stands : (k i j u : ℕ) → j ≡ 0 → get_or xs (k * (m * n * g) + ((j * m + i) * g + u)) 0 ≡ get_or xs (k * (m * n * g) + ((i * n + j) * g + u)) 0
     stands k i j u z = rw (z, one) (same_word xs (omega arith))
+
+pub line_stands : {y m n g : ℕ} {xs : List ℕ} → (m ≡ 1) ⊎ ((m ≡ 1 → ⊥) × (n ≡ 1)) → BlocksTurned y m n g xs xs
+line_stands one = ⊎_elim rows_stand (λ h. columns_stand h.1) one

@@ -19,8 +19,8 @@ pub(crate) fn by_recursion(buf: &mut [u32], n: usize)
     requires { Square n 1 buf.old }
     ensures { GridTurned n n 1 buf.old buf.new }
 {
-    let end = n * n;
-    recursion::turn(&mut buf[0..end], n, n);
+    // A square of accepted sides is not refused.
+    let _ = recursion::turn(&mut buf[..n * n], n, n);
 }
 
 // Turns the square of n rows and n columns of elements that the buffer begins with.
