@@ -6,6 +6,7 @@ mod gcd;
 mod line;
 mod pass_lines;
 mod restart;
+mod rows;
 mod sides;
 mod turning;
 mod walk;

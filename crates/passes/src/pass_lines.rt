@@ -5,10 +5,11 @@ ghost use Rattle.passes.specs.PrivateScratch.{line_in, lines_in, moved_from};
 ghost use Rattle.passes.specs.PrivateWalks.{Inverted, WalkOf};
 
 use crate::line::{Line, Pass};
+use crate::rows::Rows;
 use crate::sides::GroupedSides;
 use crate::walk::Walk;
 
-// The sides of a block, one pass over it, and the inverse of a modulo b, which the rows of pass 2 need.
+// The sides of a block, one pass over it, and, for pass 2, the inverse that its rows need.
 #[derive(Clone, Copy)]
 pub(crate) struct PassLines {
     pub sides: GroupedSides,
@@ -21,21 +22,23 @@ impl PassLines {
     pub(crate) fn new(sides: GroupedSides, pass: Pass) -> PassLines
         ensures { (result.sides ≡ sides) × (result.pass ≡ pass) }
     {
-        PassLines {
-            sides,
-            pass,
-            inverse: sides.inverse_for(pass),
+        match pass {
+            Pass::First | Pass::Third => PassLines {
+                sides,
+                pass,
+                inverse: 0,
+            },
+            Pass::Second => Rows::new(sides).lines_of(pass),
         }
     }
 
-    // The lines of another pass over the same block: the inverse that pass 2 needs serves every pass.
-    pub(crate) fn with_pass(self, pass: Pass) -> PassLines
+    // The lines of pass 2 are rows.
+    pub(crate) fn rows(self) -> Rows
         requires { self.pass ≡ Pass.Second }
-        ensures { (result.sides ≡ self.sides) × (result.pass ≡ pass) }
+        ensures { (result.sides ≡ self.sides) × (result.inverse ≡ self.inverse) }
     {
-        PassLines {
+        Rows {
             sides: self.sides,
-            pass,
             inverse: self.inverse,
         }
     }

@@ -1,11 +1,9 @@
 // A turn in stages: two a line, into scratch and back, then the clearing. Each stage is counted in the progress word after its words.
 ghost use Rattle.std.specs.Prelude.{◌≡◌, ◌+◌, ◌*◌, ◌≤◌};
-ghost use Rattle.passes.specs.declared.line.Pass.{Pass};
 ghost use Rattle.passes.specs.Lines.{line_count};
 ghost use Rattle.passes.specs.PrivateScratch.{Mapped, StageStored, GoneOn, stage_words};
 
-use crate::line::Pass;
-use crate::pass_lines::PassLines;
+use crate::rows::Rows;
 use crate::sides::GroupedSides;
 
 impl GroupedSides {
@@ -37,7 +35,7 @@ impl GroupedSides {
         requires { Mapped self.m self.n buf.old scratch.old × (progress.old ≤ line_count self.m self.n * 2 + 1) }
         ensures { GoneOn self.m self.n budget buf.old scratch.old progress.old buf.new scratch.new progress.new }
     {
-        let rows = PassLines::new(self, Pass::Second);
+        let rows = Rows::new(self);
         let mut left = budget;
         // Divides: for a line, to find where it starts.
         for p in *progress as usize..self.stage_count() {
@@ -52,10 +50,9 @@ impl GroupedSides {
     }
 }
 
-impl PassLines {
-    // The first `until` words of stage p are stored; these are the lines of pass 2, whose inverse serves every pass.
+impl Rows {
+    // The first `until` words of stage p are stored.
     fn store(self, buf: &mut [u32], scratch: &mut [u32], p: usize, until: usize)
-        requires second { self.pass ≡ Pass.Second }
         requires mapped { Mapped self.sides.m self.sides.n buf.old scratch.old }
         requires few { until ≤ stage_words self.sides.m self.sides.n p }
         ensures { StageStored self.sides.m self.sides.n p until buf.old scratch.old buf.new scratch.new }
@@ -69,7 +66,7 @@ impl PassLines {
             line.put_back(buf, scratch, until);
             return;
         }
-        let lines = self.with_pass(line.pass);
+        let lines = self.lines_of(line.pass);
         let w = lines.walk(line.index);
         line.lift::<false>(buf, scratch, w, lines.first(line.index), until);
     }

@@ -5,7 +5,6 @@ ghost use Rattle.flat.specs.Gcd.{gcd_of};
 ghost use Rattle.flat.specs.Passes.{row_group, column_group};
 ghost use Rattle.flat.specs.Turn.{sides};
 ghost use Rattle.passes.specs.Lines.{column, row, skipped, line_count, line_of};
-ghost use Rattle.passes.specs.PrivateWalks.{Inverted};
 
 use crate::gcd;
 use crate::line::{Line, Pass};
@@ -70,16 +69,6 @@ impl GroupedSides {
         ensures { scratch.new ≡ cleared (need (sides self.m self.n)) scratch.old }
     {
         moves::zero(scratch, 0, self.longest());
-    }
-
-    // The inverse of a modulo b, which the rows of pass 2 need; the columns need none.
-    pub(crate) fn inverse_for(self, pass: Pass) -> usize
-        ensures { Inverted self.m self.n pass result }
-    {
-        match pass {
-            Pass::First | Pass::Third => 0,
-            Pass::Second => gcd::inverse(self.a, self.b),
-        }
     }
 
     // How many lines the passes have.

@@ -2,9 +2,6 @@ use Rattle.lists.proofs.Kit.{arith}
 use Rattle.cycle_lists.proofs.Carrying.{next_low, carries_more, carries_all}
 use Rattle.cycle_lists.proofs.turn.Turn.follow.Goals as goal
 
-pub step-at-requires : goal.step-at-requires
-step-at-requires c = c.loop.invariant.low
-
 pub offset_bounds-buf-at : goal.offset_bounds-buf-at
 offset_bounds-buf-at c =
     record { fits = omega (arith, next_low c.loop.invariant c.step-at.ensures, c.loop.invariant.long, c.args.self.small.few) }

@@ -2,7 +2,7 @@ use Rattle.lists.proofs.Kit.{◌≡◌, ap, ◌∙◌, List, [], refl, ℕ, zero
 use Rattle.std.specs.Simd.{first_chunks}
 use Rattle.cycles.specs.Cycles.{pair_at, Pair}
 use Rattle.cycles.proofs.Pairs.{pair_words}
-use Rattle.cycle_lists.proofs.Carrying.{runs_none, start_low, runs_more, runs_all}
+use Rattle.cycle_lists.proofs.Carrying.{start_low, runs_more, runs_all}
 use Rattle.cycle_lists.proofs.turn.Turn.follow_all.Goals as goal
 
 -- the arrays of two that a list is cut into are its pairs
@@ -18,9 +18,6 @@ cut : (list : List ℕ) (i : ℕ) (pairs : List (List ℕ)) → pairs ≡ first_
 cut list i pairs e h =
     let words = ap (λ (l : List (List ℕ)). get_or l i []) e ∙ chunk_at (length list / 2) i list h ∙ pair_words i list (omega arith) in
     rw words (pair_words i list (omega arith))
-
-pub loop-start-init : goal.loop-start-init
-loop-start-init c = runs_none c.args.self.m c.args.self.n c.args.list.now c.requires.right c.args.buf.now c.requires.exact
 
 pub follow-requires-clause-start_in : goal.follow-requires-clause-start_in
 follow-requires-clause-start_in c =

@@ -11,10 +11,6 @@ pub loop-k-init : goal.loop-k-init
 unfolding stands
 loop-k-init g c = record { within = omega arith; at = λ _. refl; lifted = filled_none _ _ _ }
 
-pub ahead-requires : goal.ahead-requires
-ahead-requires g c =
-    (subst (Low c.args.w) (sym (c.loop-k.invariant.at (omega arith))) (c.requires.1.low c.loop-k.k (omega (arith, c.requires.2)))).group
-
 pub lift_run-requires : goal.lift_run-requires
 lift_run-requires g c = (
   lain_same c.loop-k.invariant.lifted.same c.requires.0,

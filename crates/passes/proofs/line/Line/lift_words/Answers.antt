@@ -6,7 +6,7 @@ use Rattle.passes.proofs.line.Line.lift_words.Invariants.{home}
 use Rattle.passes.proofs.line.Line.lift_words.Goals as goal
 
 pub loop-t-init : goal.loop-t-init
-loop-t-init g c = record { within = omega arith; stands = sym (walk_start _ _ _ c.requires.1.low); lifted = filled_none _ _ _ }
+loop-t-init g c = record { stands = sym (walk_start _ _ _ c.requires.1.low); lifted = filled_none _ _ _ }
 
 pub offset_of-offset-requires : goal.offset_of-offset-requires
 offset_of-offset-requires g c =
@@ -40,7 +40,6 @@ pub loop-t-preserved : goal.loop-t-preserved
 loop-t-preserved g c =
     let w = c.args.w in
     let low = put_low c.requires.0 c.requires.1 (home g) c.loop-t.t (omega arith) in record {
-      within = omega arith;
       stands = c.step_on-p.ensures ∙ ap (λ (z : ℕ). (z + w.step) % w.modulus) c.loop-t.invariant.stands ∙ sym (walk_more _ _ _ _);
       lifted =
           rw (c.either-in-loop-t.ensures, c.offset_of-offset.ensures, c.either.ensures, c.loop-t.invariant.stands)

@@ -11,7 +11,7 @@ returns-then-left-words c =
     let m = memory c.loop-p.buf c.loop-p.scratch c.loop-p.p in
     let s = turn_stages c.args.self.m c.args.self.n in
     let all : c.min.result ≡ c.loop-p.left = omega arith in
-    let stored = rw (c.new-rows.ensures.0, all) at c.store.ensures in
+    let stored = rw (c.new-rows.ensures, all) at c.store.ensures in
     rw c.loop-p.invariant.counted
     (loop-part s c.loop-p.left m c.stage_words-words.result (memory c.store.new.buf c.store.new.scratch c.loop-p.p) (stage_size c.args.self.m c.args.self.n c.loop-p.p m ∙ sym c.stage_words-words.ensures) (omega arith) (omega arith) stored
     ∙ c.loop-p.invariant.left)
@@ -22,7 +22,7 @@ loop-p-preserved c =
     let m = memory c.loop-p.buf c.loop-p.scratch c.loop-p.p in
     let s = turn_stages c.args.self.m c.args.self.n in
     let all : c.min.result ≡ c.stage_words-words.result = omega arith in
-    let stored = rw (c.new-rows.ensures.0, all) at c.store.ensures in record {
+    let stored = rw (c.new-rows.ensures, all) at c.store.ensures in record {
       counted = omega arith;
       buffer = search rules;
       scratch = search rules;
