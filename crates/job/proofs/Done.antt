@@ -3,6 +3,10 @@
 -- its result sheet; the chain is lent the block's part of the buffer, and what it makes of it is the computed layout, since two layouts
 -- of one order are equal.
 use Rattle.lists.proofs.Kit.{◌≡◌, refl, sym, ap, ◌∙◌, false, List, [], ◌∷◌, ◌++◌, ℕ, ◌≤◌, arith, length, take, drop, length-append, length-drop, take-append-drop, take_at, drop_at, le-ltb}
+use Rattle.std.specs.Prelude.{Result, Ok, Err}
+use Rattle.std.specs.Result.{IsOk, IsErr, IsErrAnd}
+use Rattle.refusals.specs.declared.Refusal.{Refusal}
+use Rattle.refusals.proofs.Numbers.{refuses}
 use Rattle.layout.specs.Layout.{volume, pick, Laid, laid}
 use Rattle.layout.proofs.Picks.{length-pick}
 use Rattle.orders.specs.Chains.{named}
@@ -11,6 +15,8 @@ use Rattle.orders.proofs.Chains.{pick-named, length-named}
 use Rattle.orders.proofs.Layouts.{chain_volume, chain_once, chain_laid}
 use Rattle.orders.proofs.Numbers.{number_below}
 use Rattle.refusals.specs.Conditions.{bad_length}
+use Rattle.refusals.specs.Refusal.{number_of as number_of_refusal}
+use Rattle.refusals.specs.declared.Refused.{Refused}
 use Rattle.refusals.proofs.Scratch.{chain_few}
 use Rattle.axes.specs.declared.Answer.{Answer}
 use Rattle.axes.specs.Promises.{ChainPromise}
@@ -21,36 +27,36 @@ use Rattle.sheets.specs.Meaning.{Outcome, meaning}
 use Rattle.sheets.proofs.Length.{fields_few, result_fits}
 use Rattle.reader.specs.declared.Sheet.{Sheet}
 use Rattle.writer.specs.declared.Written.{Written}
-use Rattle.writer.specs.Writer.{writer_number, WriteResultPromise}
-use Rattle.writer.specs.RefusalWriter.{WriteRefusalPromise}
+use Rattle.writer.specs.Writer.{in_c as written_in_c, writer_number, WriteResultPromise}
+use Rattle.writer.specs.RefusalWriter.{refusal_number, WriteRefusalPromise}
 use Rattle.writer.proofs.Writes.{number_0}
 use Rattle.writer.proofs.RefusalLine.{length_refusal, line_fits}
 use Rattle.writer.proofs.InFull.{in_full}
 use Rattle.job.specs.Job.{job_words, job_text, JobPromise}
-use Rattle.job.specs.Private.{RunOn}
-use Rattle.job.proofs.Readings.{swaps_of, Turned-away, Taken}
+use Rattle.job.specs.Private.{RunOn, RefusalLine}
+use Rattle.job.proofs.Readings.{swaps_of, Taken}
 use Rattle.job.proofs.Sizes.{longest_le_volume}
 
 -- the line of a refusal has at most thirty bytes
 short_line : (number place : ℕ) → length (refusal_text number place) ≤ 16384
 short_line number place = omega (arith, length_refusal number place, fields_few (number ∷ place ∷ []))
 
--- a sheet that was refused, and its line written
-pub met_refused : {bytes words scratch out : List ℕ} {r : Sheet} {words' : List ℕ} {w : Written} {out' : List ℕ} → length out ≡ 16384
-    → Turned-away words bytes r words' → WriteRefusalPromise r.number r.place out w out'
-    → JobPromise bytes words scratch out r.number r.place w.count words' scratch out'
-met_refused {out = out} {r = r} long t p =
-    let short = short_line r.number r.place in
-    let full = in_full (refusal_text r.number r.place) out (line_fits r.number r.place out (omega arith)) p.answers p.bytes in
-    record {
-      words_are = rw t.means t.same;
-      scratch_is = rw t.means;
-      number_is = rw t.means;
-      place_is = rw t.means;
-      count_is = rw t.means full.0;
-      fits = omega arith;
-      text_is = rw (t.means, full.0) full.1;
-    }
+-- the line of a refusal is written, whatever the buffer of 16,384 bytes
+module _ (r : Refused) {out : List ℕ} (long : length out ≡ 16384) {w : Written} {out' : List ℕ}
+    (p : WriteRefusalPromise (number_of_refusal r.refusal) r.place out w out') where
+  abbrev line : List ℕ
+  line = refusal_text (number_of_refusal r.refusal) r.place
+
+  zero : refusal_number (number_of_refusal r.refusal) r.place out ≡ 0
+  zero = line_fits (number_of_refusal r.refusal) r.place out (omega (arith, short_line (number_of_refusal r.refusal) r.place))
+
+  pub line_accepted : w.number ≡ 0
+  line_accepted = ap (λ (s : Written). s.number) p.answers ∙ zero
+
+  pub line_written : RefusalLine r out w.count out'
+  line_written =
+      let full = in_full line out zero p.answers p.bytes in
+      record { count_is = full.0; fits = omega (arith, full.0, short_line (number_of_refusal r.refusal) r.place); text_is = rw full.0 full.1 }
 
 -- the buffer of a right sheet: the block's part holds the sheet's words, and what is past it is as it was
 module _ {bytes words : List ℕ} {r : Sheet} {words₁ ws : List ℕ} (t : Taken words bytes r words₁ ws) where
@@ -164,6 +170,10 @@ module _ {bytes words scratch out : List ℕ} {r : Sheet} {words₁ ws : List �
   text_of : text ≡ job_text (Outcome.accepted ds (swaps_of r) ws) words
   text_of = ap (result_text (pick order ds) (number_of 4 order)) words_of
 
+  -- the writer never refuses a right sheet
+  pub text_accepted : w.number ≡ 0
+  text_accepted = ap (λ (s : Written). s.number) promised.answers ∙ writes
+
   pub met_accepted : JobPromise bytes words scratch out 0 0 w.count words₂ scratch₂ out'
   met_accepted = record {
     words_are = rw t.means words_of;
@@ -179,3 +189,13 @@ module _ {bytes words scratch out : List ℕ} {r : Sheet} {words₁ ws : List �
 pub text_inside : {bytes words scratch out : List ℕ} {k p n : ℕ} {w s o : List ℕ} → JobPromise bytes words scratch out k p n w s o → n ≤ length o
 text_inside {bytes} {words} {scratch} {out} {n = n} p =
     omega (arith, p.count_is, ap length p.text_is, length-append (job_text (meaning words bytes) words) (drop n out))
+
+-- an answer that is an error, which a `?` made
+pub err_is : {A : Type 0} (r : Result A Refused) (x : Refused) → IsErr r × IsErrAnd r (λ e. e ≡ x) → r ≡ Err x
+err_is (Ok a) x h = absurd h.1
+err_is (Err e) x h = ap Err h.1
+
+-- an answer of a writer whose number is 0 is a count
+pub accepted_ok : (r : Result ℕ Refusal) → (written_in_c r).number ≡ 0 → IsOk r
+accepted_ok (Ok count) e = refl
+accepted_ok (Err x) e = absurd (refuses x e)
