@@ -1,9 +1,19 @@
 -- These definitions serve only the contracts of private functions: a reader of the promises can pass over them.
--- What a page is, and what it needs to be measured and written. Assumes nothing.
+-- What a thin writer does, what a page is, and what it needs to be measured and written. Assumes nothing.
 use Rattle.std.specs.Prelude.{◌≡◌, List, ◌++◌, ℕ, ◌*◌, ◌≤◌, length, drop, Option, Some, None}
 use Rattle.sheets.specs.Print.{line}
 use Rattle.sheets.specs.Sheet.{shape_word, order_word, rows_text}
+use Rattle.writer.specs.PrivateBytes.{Room, Put}
+use Rattle.writer.specs.declared.writer.Writer.{Writer}
 use Rattle.writer.specs.declared.page.Page.{Page}
+
+-- the text has room from the writer's place on
+abbrev pub HasRoom : Writer → List ℕ → Type 0
+HasRoom w = Room w.out.now w.at
+
+-- the text was written at the writer's place, which is the one after it then
+abbrev pub Writes : Writer → List ℕ → Writer → Type 0
+Writes w text w' = Put w.out.now w.at text w'.at w'.out.now
 
 -- the release as a result sheet has it: 0 stands for none
 abbrev pub named : Option ℕ → ℕ

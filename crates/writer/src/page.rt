@@ -1,8 +1,7 @@
 // A result sheet, measured and written: private to the library.
 ghost use Rattle.std.specs.Prelude.{◌≡◌, ◌≤◌, length};
 ghost use Rattle.sheets.specs.Print.{decimal, fields};
-ghost use Rattle.writer.specs.PrivateBytes.{Room, Put};
-ghost use Rattle.writer.specs.PrivateWriter.{page_of, Measured};
+ghost use Rattle.writer.specs.PrivateWriter.{HasRoom, Writes, page_of, Measured};
 
 use crate::writer::Writer;
 
@@ -50,9 +49,9 @@ impl Page<'_> {
 
     // Its two lines, then its rows.
     pub(crate) fn write(&self, writer: &mut Writer<'_>)
-        requires { Measured self.now × Room writer.old.out.now writer.old.at (page_of self.now) }
+        requires { Measured self.now × HasRoom writer.old (page_of self.now) }
         ensures same_reference { writer.new.out.ghost_name ≡ writer.old.out.ghost_name }
-        ensures put { Put writer.old.out.now writer.old.at (page_of self.now) writer.new.at writer.new.out.now }
+        ensures put { Writes writer.old (page_of self.now) writer.new }
     {
         writer.line(b"shape", self.shape);
         writer.line(b"order", self.order);

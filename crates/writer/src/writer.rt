@@ -2,7 +2,7 @@
 ghost use Rattle.std.specs.Prelude.{◌≡◌, ◌*◌, ◌≤◌, length};
 ghost use Rattle.sheets.specs.Print.{decimal, field, fields, line};
 ghost use Rattle.sheets.specs.Sheet.{rows_text};
-ghost use Rattle.writer.specs.PrivateBytes.{Room, Put};
+ghost use Rattle.writer.specs.PrivateWriter.{HasRoom, Writes};
 
 // The lent bytes, and the place of the next one.
 #[derive(Drop)]
@@ -29,9 +29,9 @@ impl<'a> Writer<'a> {
 
     // A text as it is.
     fn text(&mut self, text: &[u8])
-        requires { Room self.old.out.now self.old.at text.now }
+        requires { HasRoom self.old text.now }
         ensures same_reference { self.new.out.ghost_name ≡ self.old.out.ghost_name }
-        ensures put { Put self.old.out.now self.old.at text.now self.new.at self.new.out.now }
+        ensures put { Writes self.old text.now self.new }
     {
         let end = self.at + text.len();
         self.out[self.at..end].copy_from_slice(text);
@@ -40,9 +40,9 @@ impl<'a> Writer<'a> {
 
     // A field: a tab and a number.
     fn field(&mut self, value: u32)
-        requires { Room self.old.out.now self.old.at (field value) }
+        requires { HasRoom self.old (field value) }
         ensures same_reference { self.new.out.ghost_name ≡ self.old.out.ghost_name }
-        ensures put { Put self.old.out.now self.old.at (field value) self.new.at self.new.out.now }
+        ensures put { Writes self.old (field value) self.new }
     {
         self.text(b"\t");
         let mut buffer = itoa::Buffer::new();
@@ -51,9 +51,9 @@ impl<'a> Writer<'a> {
 
     // A field for each number.
     fn fields(&mut self, numbers: &[u32])
-        requires { Room self.old.out.now self.old.at (fields numbers.now) }
+        requires { HasRoom self.old (fields numbers.now) }
         ensures same_reference { self.new.out.ghost_name ≡ self.old.out.ghost_name }
-        ensures put { Put self.old.out.now self.old.at (fields numbers.now) self.new.at self.new.out.now }
+        ensures put { Writes self.old (fields numbers.now) self.new }
     {
         for &number in numbers {
             self.field(number);
@@ -62,9 +62,9 @@ impl<'a> Writer<'a> {
 
     // A line of a word and numbers.
     pub(crate) fn line(&mut self, word: &[u8], numbers: &[u32])
-        requires { Room self.old.out.now self.old.at (line word.now numbers.now) }
+        requires { HasRoom self.old (line word.now numbers.now) }
         ensures same_reference { self.new.out.ghost_name ≡ self.old.out.ghost_name }
-        ensures put { Put self.old.out.now self.old.at (line word.now numbers.now) self.new.at self.new.out.now }
+        ensures put { Writes self.old (line word.now numbers.now) self.new }
     {
         self.text(word);
         self.fields(numbers);
@@ -73,9 +73,9 @@ impl<'a> Writer<'a> {
 
     // So many rows of a width.
     pub(crate) fn rows(&mut self, words: &[u32], count: usize, width: usize)
-        requires { (count * width ≤ length words.now) × Room self.old.out.now self.old.at (rows_text count width words.now) }
+        requires { (count * width ≤ length words.now) × HasRoom self.old (rows_text count width words.now) }
         ensures same_reference { self.new.out.ghost_name ≡ self.old.out.ghost_name }
-        ensures put { Put self.old.out.now self.old.at (rows_text count width words.now) self.new.at self.new.out.now }
+        ensures put { Writes self.old (rows_text count width words.now) self.new }
     {
         for i in 0..count {
             let from = i * width;
