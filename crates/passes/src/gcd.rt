@@ -28,7 +28,7 @@ pub(crate) fn inverse(a: usize, b: usize) -> usize
     let mut v = 0;
     let mut u = 1 % b;
     // Divides: a few times a step of Euclid, which a turn or a tick makes once.
-    // Kept: Euclid's algorithm again.
+    // Kept: as in `gcd`, there is no range and no list to go through.
     while x != 0 {
         (v, u) = (u, (v + (b - y / x * u % b)) % b);
         (y, x) = (x, y % x);

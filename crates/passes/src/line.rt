@@ -37,6 +37,7 @@ struct Strides {
 }
 
 impl Strides {
+    // The words are copied one by one.
     // Kept: `step_by` takes no step of 0, which a line of one word has, so that a `zip` of it needs cases of their own.
     fn copy_words(self, source: &[u32], target: &mut [u32])
         requires { CanCopy self source.now target.old }
@@ -77,8 +78,8 @@ fn either<const HOME: bool>(home: usize, forth: usize) -> usize
     if HOME { home } else { forth }
 }
 
-// Kept: `Lain` stands in four contracts, and buffer and scratch are two parameters: specs make a `Line` of any sides, which a ghost field would forbid,
-// and a line is lifted from the one into the other and put back the other way, which a struct that holds both would not show.
+// Kept: `Lain` stands in four contracts, because `line_of` of specs/ makes a `Line` of any sides, which a ghost field would forbid.
+// Kept: buffer and scratch stay two parameters, because a line is lifted from the one into the other and put back the other way.
 impl Line {
     // Where the word of place k stands.
     fn offset_of(self, k: usize) -> usize

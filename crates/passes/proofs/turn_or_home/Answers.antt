@@ -1,7 +1,5 @@
 -- `turn_or_home` meets its contract: refused by the checks, or the block is turned, or turned home, and scratch cleared.
 use Rattle.lists.proofs.Kit.{sym}
-use Rattle.passes.specs.contracts.turn_or_home.{HOME-type}
-use denote.Param.{number}
 use Rattle.passes.proofs.Accepted.{flat_accepted, flat_asked, turned_outcome}
 use Rattle.passes.proofs.turn_or_home.Goals as goal
 
@@ -11,4 +9,4 @@ turn_at-requires g c =
 
 pub returns : goal.returns
 returns g c =
-    turned_outcome c.new-s.result c.new-s.ensures (HOME-type (number g.row.HOME)) (sym c.in_ok-check_passes.ensures) c.clear.ensures c.turn_at.ensures
+    turned_outcome c.new-s.result c.new-s.ensures _ (sym c.in_ok-check_passes.ensures) c.clear.ensures c.turn_at.ensures
