@@ -1,5 +1,7 @@
 -- The lines of a result sheet one behind the other, and their lengths added. By induction on the rows and on the numbers.
-use Rattle.lists.proofs.Kit.{◌≡◌, refl, sym, ap, ◌∙◌, List, [], ◌∷◌, ◌++◌, append_assoc, ℕ, zero, suc, ◌+◌, ◌-◌, ◌*◌, ◌<◌, ◌≤◌, arith, length, take, drop, get_or, ne_eqb, length-take-le, length-append, drop-drop, take-add, take_all}
+use Rattle.lists.proofs.Kit.{◌≡◌, refl, sym, ap, ◌∙◌, List, [], ◌∷◌, ◌++◌, append_assoc, ℕ, zero, suc, ◌+◌, ◌*◌, ◌/◌, ◌<◌, ◌≤◌, arith, add-one, mul-div_cancel, length, take, drop, get_or, ne_eqb, length-take-le, length-append, take_at, drop_at, div-eq_of_lt, take-add, take_all}
+use native.Mathlib.Nat.{add-div_left}
+use Rattle.refusals.proofs.Conditions.{length_at}
 use Rattle.layout.specs.Layout.{volume}
 use Rattle.sheets.specs.Print.{line_feed, decimal, field, fields, line}
 use Rattle.sheets.specs.Sheet.{shape_word, order_word, row_word, row_count, row_width, rows_text, order_numbers, result_by}
@@ -36,40 +38,34 @@ module _ {out : List ℕ} {at : ℕ} (word vs : List ℕ) (r : Room out at (line
       → Put out₂ b (line_feed ∷ []) next out₃ → Put out at (line word vs) next out₃
   line-put p q e = three_put word (fields vs) (line_feed ∷ []) (line-parts word vs) r p q e
 
--- one row, then the others
-rows_next : (count n i : ℕ) (words : List ℕ) → i < count
-    → rows_text (count - i) n (drop (i * n) words) ≡ line row_word (take n (drop (i * n) words)) ++ rows_text (count - (i + 1)) n (drop ((i + 1) * n) words)
+-- one row of a width, then the others
+rows_next : (n : ℕ) (row rest : List ℕ) → 0 < n → length row ≡ n
+    → rows_text (length (row ++ rest) / n) n (row ++ rest) ≡ line row_word row ++ rows_text (length rest / n) n rest
 unfolding rows_text
-rows_next count n i words h =
-    let a : count - i ≡ suc (count - (i + 1)) = omega arith in
-    let b : (i + 1) * n ≡ i * n + n = omega arith in
-    rw (a, b) (ap (λ (l : List ℕ). line row_word (take n (drop (i * n) words)) ++ rows_text (count - (i + 1)) n l) (drop-drop n (i * n) words))
+rows_next n row rest h e =
+    let a : length (row ++ rest) / n ≡ suc (length rest / n) =
+    ap (λ (k : ℕ). k / n) (length-append row rest ∙ ap (λ (k : ℕ). k + length rest) e) ∙ add-div_left (length rest) h ∙ add-one (length rest / n) in
+    rw (a, take_at row rest n e, drop_at row rest n e)
 
-no_rows : (count n i : ℕ) (words : List ℕ) → count ≤ i → rows_text (count - i) n words ≡ []
+no_rows : (n : ℕ) (words : List ℕ) → length words < n → rows_text (length words / n) n words ≡ []
 unfolding rows_text
-no_rows count n i words h = let a : count - i ≡ 0 = omega arith in rw a
+no_rows n words h = rw (div-eq_of_lt h)
 
-pub all_rows : (count n : ℕ) (words : List ℕ) → rows_text count n words ≡ rows_text (count - 0) n (drop (0 * n) words)
-all_rows count n words = let a : count - 0 ≡ count = omega arith in let b : 0 * n ≡ 0 = omega arith in rw (a, b)
+-- rows put one by one: those that are left lead to the whole text
+module _ (n : ℕ) {out₀ : List ℕ} {at : ℕ} {text out : List ℕ} {p : ℕ} where
+  module _ (row rest : List ℕ) (pos : 0 < n) (long : length row ≡ n) {left : List ℕ} (so : left ≡ row ++ rest)
+      (h : Leads out₀ at text out p (rows_text (length left / n) n left)) where
+    split : Leads out₀ at text out p (line row_word row ++ rows_text (length rest / n) n rest)
+    split = leads_same (rows_next n row rest pos long) (rw so at h)
 
--- rows put one by one: those from row i on lead to the whole text
-module _ (count n i : ℕ) (words : List ℕ) {out₀ : List ℕ} {at : ℕ} {text out : List ℕ} {p : ℕ}
-    (h : Leads out₀ at text out p (rows_text (count - i) n (drop (i * n) words))) where
-  abbrev row : List ℕ
-  row = line row_word (take n (drop (i * n) words))
+    pub next_row_room : Room out p (line row_word row)
+    next_row_room = leads_room (line row_word row) (rows_text (length rest / n) n rest) split
 
-  abbrev rest : List ℕ
-  rest = rows_text (count - (i + 1)) n (drop ((i + 1) * n) words)
+    pub next-row-put : {next : ℕ} {out' : List ℕ} → Put out p (line row_word row) next out' → Leads out₀ at text out' next (rows_text (length rest / n) n rest)
+    next-row-put = leads_step (line row_word row) (rows_text (length rest / n) n rest) split
 
-  pub next_row_room : i < count → Room out p (line row_word (take n (drop (i * n) words)))
-  next_row_room k = leads_room row rest (leads_same (rows_next count n i words k) h)
-
-  pub next-row-put : i < count → {next : ℕ} {out' : List ℕ} → Put out p (line row_word (take n (drop (i * n) words))) next out'
-      → Leads out₀ at text out' next (rows_text (count - (i + 1)) n (drop ((i + 1) * n) words))
-  next-row-put k = leads_step row rest (leads_same (rows_next count n i words k) h)
-
-  pub all_rows_put : count ≤ i → Put out₀ at text p out
-  all_rows_put k = leads_end (leads_same (no_rows count n i (drop (i * n) words) k) h)
+  pub all_rows_put : (left : List ℕ) → length left < n → Leads out₀ at text out p (rows_text (length left / n) n left) → Put out₀ at text p out
+  all_rows_put left k h = leads_end (leads_same (no_rows n left k) h)
 
 fields-append : (us vs : List ℕ) → fields (us ++ vs) ≡ fields us ++ fields vs
 unfolding fields
@@ -165,6 +161,12 @@ built ds words release order {size} {rows} p four h s e f shape second part coun
             few_rows = rw rows-is k.few_rows;
             few = rw words-are (omega (arith, long, h.few));
             all = rw (rows-is, width-is, words-are, long) v;
+            wide = rw wide (length_at ds h.lengths 3 (omega arith)).0;
           };
       whole = rw (shape, second, n.0, rows-is, width-is, words-are) (result_first ds (named release) order words four h.enough);
     }
+
+-- the rows of a page are as many as its words make
+pub page_rows : (p : Page) → Measured p → rows_text (length p.words.now / p.width) p.width p.words.now ≡ rows_text p.rows p.width p.words.now
+page_rows p m =
+    ap (λ (k : ℕ). rows_text k p.width p.words.now) (ap (λ (k : ℕ). k / p.width) (sym m.all) ∙ mul-div_cancel p.rows m.wide)

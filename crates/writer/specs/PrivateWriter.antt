@@ -1,6 +1,6 @@
 -- These definitions serve only the contracts of private functions: a reader of the promises can pass over them.
 -- What a thin writer does, what a page is, and what it needs to be measured and written. Assumes nothing.
-use Rattle.std.specs.Prelude.{◌≡◌, List, ◌++◌, ℕ, ◌*◌, ◌≤◌, length, drop, Option, Some, None}
+use Rattle.std.specs.Prelude.{◌≡◌, List, ◌++◌, ℕ, ◌*◌, ◌<◌, ◌≤◌, length, drop, Option, Some, None}
 use Rattle.sheets.specs.Print.{line}
 use Rattle.sheets.specs.Sheet.{shape_word, order_word, rows_text}
 use Rattle.writer.specs.PrivateBytes.{Room, Put}
@@ -35,10 +35,11 @@ pub record Second (release : Option ℕ) (order : ℕ) : Type 0 where
 abbrev pub page_of : Page → List ℕ
 page_of p = line shape_word p.shape.now ++ (line order_word p.order.now ++ rows_text p.rows p.width p.words.now)
 
--- a page is small: its lines have four numbers at most, and its words are those of its rows
+-- a page is small: its lines have four numbers at most, and its words are those of its rows, which are not empty
 pub record Measured (p : Page) : Type 0 where
   pub first : length p.shape.now ≤ 4
   pub second : length p.order.now ≤ 4
   pub few_rows : p.rows ≤ 1024
   pub few : length p.words.now ≤ 1024
   pub all : p.rows * p.width ≡ length p.words.now
+  pub wide : 0 < p.width

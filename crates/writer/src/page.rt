@@ -55,6 +55,6 @@ impl Page<'_> {
     {
         writer.line(b"shape", self.shape);
         writer.line(b"order", self.order);
-        writer.rows(self.words, self.rows, self.width);
+        writer.rows(self.words, self.width);
     }
 }

@@ -1,5 +1,5 @@
 // A thin writer over lent bytes: it keeps the place of the next byte. Private to the library.
-ghost use Rattle.std.specs.Prelude.{◌≡◌, ◌*◌, ◌≤◌, length};
+ghost use Rattle.std.specs.Prelude.{◌≡◌, ◌/◌, ◌<◌, length};
 ghost use Rattle.sheets.specs.Print.{decimal, field, fields, line};
 ghost use Rattle.sheets.specs.Sheet.{rows_text};
 ghost use Rattle.writer.specs.PrivateWriter.{HasRoom, Writes};
@@ -71,15 +71,14 @@ impl<'a> Writer<'a> {
         self.text(b"\n");
     }
 
-    // So many rows of a width.
-    pub(crate) fn rows(&mut self, words: &[u32], count: usize, width: usize)
-        requires { (count * width ≤ length words.now) × HasRoom self.old (rows_text count width words.now) }
+    // Rows of a width.
+    pub(crate) fn rows(&mut self, words: &[u32], width: usize)
+        requires { (0 < width) × HasRoom self.old (rows_text (length words.now / width) width words.now) }
         ensures same_reference { self.new.out.ghost_name ≡ self.old.out.ghost_name }
-        ensures put { Writes self.old (rows_text count width words.now) self.new }
+        ensures put { Writes self.old (rows_text (length words.now / width) width words.now) self.new }
     {
-        for i in 0..count {
-            let from = i * width;
-            self.line(b"row", &words[from..from + width]);
+        for row in words.chunks_exact(width) {
+            self.line(b"row", row);
         }
     }
 }

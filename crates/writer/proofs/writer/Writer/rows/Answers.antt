@@ -1,25 +1,29 @@
-use Rattle.lists.proofs.Kit.{◌≡◌, refl, ◌∙◌, ◌+◌, ◌*◌, ◌-◌, arith}
-use Rattle.writer.proofs.Puts.{leads_start, leads_same}
-use Rattle.writer.proofs.Pages.{all_rows, next_row_room, next-row-put, all_rows_put}
+use Rattle.lists.proofs.Kit.{refl, ◌∙◌}
+use Rattle.std.specs.Slice.Iter.{chunks_exact_rest}
+use Rattle.writer.proofs.Puts.{leads_start}
+use Rattle.writer.proofs.Pages.{next_row_room, next-row-put, all_rows_put}
 use Rattle.writer.proofs.writer.Writer.rows.Goals as goal
 
-pub loop-i-init : goal.loop-i-init
-loop-i-init c =
-    (omega arith, refl, leads_same (all_rows c.args.count c.args.width c.args.words.now) (leads_start c.requires.1))
-
-pub returns-clause-put : goal.returns-clause-put
-returns-clause-put c = all_rows_put c.args.count c.args.width c.loop-i.i c.args.words.now c.loop-i.invariant.2 (omega arith)
+pub loop-row-init : goal.loop-row-init
+loop-row-init c =
+    rw (c.into_iter-row-iterator.ensures.into_iter_gives, c.chunks_exact-row-items.ensures.rest)
+    (c.chunks_exact-row-items.ensures.size, refl, leads_start c.requires.1)
 
 pub line-requires : goal.line-requires
 line-requires c =
-    let e : c.loop-i.i * c.args.width + c.args.width - c.loop-i.i * c.args.width ≡ c.args.width = omega arith in
-    rw e (next_row_room c.args.count c.args.width c.loop-i.i c.args.words.now c.loop-i.invariant.2 (omega arith))
+    let h = c.in-Some.ensures.steps in
+    next_row_room c.args.width c.in-Some.row.now (chunks_exact_rest c.next.new.self) c.requires.0 (h.1.1 ∙ c.loop-row.invariant.0) h.1.0 c.loop-row.invariant.2
 
-pub loop-i-preserved : goal.loop-i-preserved
-loop-i-preserved c =
-    let l = c.loop-i in
-    let e : l.i * c.args.width + c.args.width - l.i * c.args.width ≡ c.args.width = omega arith in (
-      omega arith,
-      c.line.ensures.same_reference ∙ l.invariant.1,
-      next-row-put c.args.count c.args.width l.i c.args.words.now l.invariant.2 (omega arith) (rw e at c.line.ensures.put),
+pub loop-row-preserved : goal.loop-row-preserved
+loop-row-preserved c =
+    let h = c.in-Some.ensures.steps in (
+      h.0 ∙ c.loop-row.invariant.0,
+      c.line.ensures.same_reference ∙ c.loop-row.invariant.1,
+      next-row-put c.args.width c.in-Some.row.now (chunks_exact_rest c.next.new.self) c.requires.0 (h.1.1 ∙ c.loop-row.invariant.0) h.1.0 c.loop-row.invariant.2
+          c.line.ensures.put,
     )
+
+pub returns-clause-put : goal.returns-clause-put
+returns-clause-put c =
+    let h = c.in-None.ensures.steps in
+    all_rows_put c.args.width (chunks_exact_rest c.loop-row.row-iterator) (rw c.loop-row.invariant.0 at h.1.0) c.loop-row.invariant.2
