@@ -12,6 +12,9 @@ const MOST_BYTES: usize = 16384;
 // The most swaps of a chain.
 const MOST_SWAPS: usize = 32;
 
+// The last order number of four axes.
+const LAST_ORDER: usize = 23;
+
 // Kept: a number becomes a `usize` by `as`, here three times, since the library has no `From<u32>` for `usize`.
 // Line 1 of a sheet: its lengths, and the bytes after it.
 #[derive(Clone, Copy)]
@@ -111,7 +114,7 @@ pub(crate) fn order_from(bytes: &[u8]) -> Result<Order<'_>, Refused>
     let rest = line::line_from(bytes, b"order", count, &mut numbers).ok_or(bad_line(2))?;
     let (release, order) = named(count, numbers);
     // A sheet that names no release is judged as one of release 1.
-    checks::check_named(23, release.unwrap_or(1), order)?;
+    checks::check_named(LAST_ORDER, release.unwrap_or(1), order)?;
     Ok(Order {
         release,
         order,

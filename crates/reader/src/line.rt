@@ -6,6 +6,7 @@ ghost use Rattle.reader.specs.Private.{ReadInto};
 use crate::field;
 
 // n fields. Their first numbers are stored, as many as `out` has places for.
+// Kept: an index, since a chain may have more numbers than there are places, and is then read to its end.
 fn fields_from<'a>(bytes: &'a [u8], n: usize, out: &mut [u32]) -> Option<&'a [u8]>
     ensures { ReadInto (read_fields n bytes.now) result out.old out.new }
 {

@@ -12,6 +12,7 @@ use refusals::Refused;
 const MOST_WORDS: usize = 1024;
 
 // So many rows of a width, and nothing after them. Their words are stored from the start of `block`.
+// Kept: an index, since a refusal names the line of the row that is wrong.
 fn rows_from(bytes: &[u8], count: usize, width: usize, block: &mut [u32]) -> Result<(), Refused>
     requires { (count ≤ 1024) × (count * width ≤ length block.old) }
     ensures told { rows_told (take (count * width) block.new) result ≡ row_lines 3 count width bytes.now }

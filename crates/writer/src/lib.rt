@@ -17,6 +17,9 @@ use page::Page;
 use refusals::Refusal;
 use writer::Writer;
 
+// The last order number of four axes.
+const LAST_ORDER: usize = 23;
+
 // What C sees of a writer's answer: its number, and the count of bytes written.
 #[repr(C)]
 #[derive(Clone, Copy)]
@@ -103,7 +106,7 @@ pub fn write_result(
     ensures { WriteResultPromise lens order words.now out.old (in_c result) out.new }
 {
     checks::check_sheet(&lens, words)?;
-    if 23 < order {
+    if LAST_ORDER < order {
         return Err(Refusal::BadOrder);
     }
     put_result(lens, None, order, words, out)
@@ -120,7 +123,7 @@ pub fn write_release(
     ensures { WriteReleasePromise lens release order words.now out.old (in_c result) out.new }
 {
     checks::check_sheet(&lens, words)?;
-    checks::check_named(23, release, order)?;
+    checks::check_named(LAST_ORDER, release, order)?;
     put_result(lens, Some(release), order, words, out)
 }
 

@@ -12,8 +12,8 @@ returns-in_err-check_sheet c =
     rw (err_is c.from_residual.result x c.from_residual.ensures)
     (refused_block (words_held c.args.words.now (λ k. omega (arith, c.type_inv.words k))) c.in_err-check_sheet.ensures (refuses x) refl)
 
-pub returns-then-order-gt23 : goal.returns-then-order-gt23
-returns-then-order-gt23 c =
+pub returns-then-order-gt-LAST_ORDER : goal.returns-then-order-gt-LAST_ORDER
+returns-then-order-gt-LAST_ORDER c =
     refused_order (words_held c.args.words.now (λ k. omega (arith, c.type_inv.words k))) (sym c.in_ok-check_sheet.ensures) (search) refl
 
 pub put_result-requires : goal.put_result-requires
