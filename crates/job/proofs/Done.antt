@@ -79,11 +79,10 @@ module _ {bytes words : List ℕ} {r : Sheet} {words₁ ws : List ℕ} (t : Take
   pub run_asks : (volume r.lengths ≤ 1048576) × (volume r.lengths ≤ length words₁)
   run_asks = (omega (arith, t.right.few_words), omega (arith, same_words, t.right.room))
 
--- a right sheet, its chain run and its result sheet written
-module _ {bytes words scratch out : List ℕ} {r : Sheet} {words₁ ws : List ℕ} {a : Answer} {words₂ scratch₂ : List ℕ} {w : Written} {out' : List ℕ}
-    (block : length words ≡ 1024) (room : length scratch ≡ 1024) (long : length out ≡ 16384)
-    (t : Taken words bytes r words₁ ws) (p : RunOn r.lengths (swaps_of r) words₁ scratch a words₂ scratch₂)
-    {lengths : List ℕ} (front-is : lengths ≡ take 4 a.lengths) (q : WriteResultPromise lengths a.order words₂ out w out') where
+-- a right sheet and its chain run
+module _ {bytes words scratch : List ℕ} {r : Sheet} {words₁ ws : List ℕ} {a : Answer} {words₂ scratch₂ : List ℕ}
+    (block : length words ≡ 1024) (room : length scratch ≡ 1024)
+    (t : Taken words bytes r words₁ ws) (p : RunOn r.lengths (swaps_of r) words₁ scratch a words₂ scratch₂) where
   abbrev ds : List ℕ
   ds = r.lengths
 
@@ -130,60 +129,63 @@ module _ {bytes words scratch out : List ℕ} {r : Sheet} {words₁ ws : List �
       ∙ length-append front (drop (volume ds) words)
       ∙ omega (arith, laid_out.same, t.right.block, length-drop (volume ds) words, t.right.few_words)
 
-  new_lengths : lengths ≡ pick order ds
-  new_lengths =
-      front-is
-      ∙ ap (λ (s : Answer). take 4 s.lengths) (chain_on.given chain_runs)
-      ∙ first_of_five (pick order ds) (length-pick order ds ∙ length-named 4 (swaps_of r))
+  -- its result sheet written
+  module _ {out : List ℕ} {w : Written} {out' : List ℕ} (long : length out ≡ 16384)
+      {lengths : List ℕ} (front-is : lengths ≡ take 4 a.lengths) (q : WriteResultPromise lengths a.order words₂ out w out') where
+    new_lengths : lengths ≡ pick order ds
+    new_lengths =
+        front-is
+        ∙ ap (λ (s : Answer). take 4 s.lengths) (chain_on.given chain_runs)
+        ∙ first_of_five (pick order ds) (length-pick order ds ∙ length-named 4 (swaps_of r))
 
-  new_order : a.order ≡ number_of 4 order
-  new_order = ap (λ (s : Answer). s.order) (chain_on.given chain_runs)
+    new_order : a.order ≡ number_of 4 order
+    new_order = ap (λ (s : Answer). s.order) (chain_on.given chain_runs)
 
-  good_lengths : bad_length (pick order ds) ≡ false
-  good_lengths =
-      ap bad_length (pick-named ds (swaps_of r) t.right.axes) ∙ (block_after runs.block (swaps_of r) {ys = ws} refl).lengths
+    good_lengths : bad_length (pick order ds) ≡ false
+    good_lengths =
+        ap bad_length (pick-named ds (swaps_of r) t.right.axes) ∙ (block_after runs.block (swaps_of r) {ys = ws} refl).lengths
 
-  few : volume (pick order ds) ≤ 1024
-  few = omega (arith, chain_volume ds t.right.axes (swaps_of r), t.right.few_words)
+    few : volume (pick order ds) ≤ 1024
+    few = omega (arith, chain_volume ds t.right.axes (swaps_of r), t.right.few_words)
 
-  abbrev text : List ℕ
-  text = result_text (pick order ds) (number_of 4 order) words₂
+    abbrev text : List ℕ
+    text = result_text (pick order ds) (number_of 4 order) words₂
 
-  text_fits : length text ≤ 16384
-  text_fits = result_fits (pick order ds) 0 (number_of 4 order) words₂ (length-pick order ds ∙ length-named 4 (swaps_of r)) good_lengths few
+    text_fits : length text ≤ 16384
+    text_fits = result_fits (pick order ds) 0 (number_of 4 order) words₂ (length-pick order ds ∙ length-named 4 (swaps_of r)) good_lengths few
 
-  -- the writer never refuses
-  writes : writer_number (pick order ds) (number_of 4 order) words₂ out ≡ 0
-  writes =
-      number_0 (pick order ds) (number_of 4 order) words₂ out (record { lengths = good_lengths; few = few; enough = omega (arith, few, as_many) })
-      (omega (arith, number_below 4 (swaps_of r))) (omega (arith, text_fits))
+    -- the writer never refuses
+    writes : writer_number (pick order ds) (number_of 4 order) words₂ out ≡ 0
+    writes =
+        number_0 (pick order ds) (number_of 4 order) words₂ out (record { lengths = good_lengths; few = few; enough = omega (arith, few, as_many) })
+        (omega (arith, number_below 4 (swaps_of r))) (omega (arith, text_fits))
 
-  promised : WriteResultPromise (pick order ds) (number_of 4 order) words₂ out w out'
-  promised = rw (new_lengths, new_order) at q
+    promised : WriteResultPromise (pick order ds) (number_of 4 order) words₂ out w out'
+    promised = rw (new_lengths, new_order) at q
 
-  full : (w.count ≡ length text) × (out' ≡ text ++ drop (length text) out)
-  full = in_full text out writes promised.answers promised.bytes
+    full : (w.count ≡ length text) × (out' ≡ text ++ drop (length text) out)
+    full = in_full text out writes promised.answers promised.bytes
 
-  words_of : words₂ ≡ job_words (Outcome.accepted ds (swaps_of r) ws) words
-  words_of = in_two ∙ ap (λ (f : List ℕ). f ++ drop (volume ds) words) words_laid
+    words_of : words₂ ≡ job_words (Outcome.accepted ds (swaps_of r) ws) words
+    words_of = in_two ∙ ap (λ (f : List ℕ). f ++ drop (volume ds) words) words_laid
 
-  text_of : text ≡ job_text (Outcome.accepted ds (swaps_of r) ws) words
-  text_of = ap (result_text (pick order ds) (number_of 4 order)) words_of
+    text_of : text ≡ job_text (Outcome.accepted ds (swaps_of r) ws) words
+    text_of = ap (result_text (pick order ds) (number_of 4 order)) words_of
 
-  -- the writer never refuses a right sheet
-  pub text_accepted : w.number ≡ 0
-  text_accepted = ap (λ (s : Written). s.number) promised.answers ∙ writes
+    -- the writer never refuses a right sheet
+    pub text_accepted : w.number ≡ 0
+    text_accepted = ap (λ (s : Written). s.number) promised.answers ∙ writes
 
-  pub met_accepted : JobPromise bytes words scratch out 0 0 w.count words₂ scratch₂ out'
-  met_accepted = record {
-    words_are = rw t.means words_of;
-    scratch_is = rw t.means (chain_on.block.zeroed chain_runs);
-    number_is = rw t.means;
-    place_is = rw t.means;
-    count_is = rw t.means (full.0 ∙ ap length text_of);
-    fits = omega (arith, full, text_fits);
-    text_is = rw (t.means, ← text_of, full.0) full.1;
-  }
+    pub met_accepted : JobPromise bytes words scratch out 0 0 w.count words₂ scratch₂ out'
+    met_accepted = record {
+      words_are = rw t.means words_of;
+      scratch_is = rw t.means (chain_on.block.zeroed chain_runs);
+      number_is = rw t.means;
+      place_is = rw t.means;
+      count_is = rw t.means (full.0 ∙ ap length text_of);
+      fits = omega (arith, full, text_fits);
+      text_is = rw (t.means, ← text_of, full.0) full.1;
+    }
 
 -- the byte buffer holds as many bytes as the job counts
 pub text_inside : {bytes words scratch out : List ℕ} {k p n : ℕ} {w s o : List ℕ} → JobPromise bytes words scratch out k p n w s o → n ≤ length o

@@ -3,9 +3,12 @@
 
 ghost use Rattle.std.specs.Prelude.{◌≡◌, ◌≤◌, length};
 ghost use Rattle.layout.specs.Layout.{volume};
+ghost use Rattle.axes.specs.Answers.{in_c as answer_in_c};
 ghost use Rattle.job.specs.Job.{number_in, place_in, in_c, JobPromise};
 ghost use Rattle.job.specs.Private.{RunOn, ResultOrRefusal, RefusalLine};
 
+use axes::{Reached, Shape};
+use plans::Axes;
 use refusals::Refused;
 
 // What the job left: the refusal, where the sheet was refused, and how many bytes its text has.
@@ -45,15 +48,20 @@ impl From<Finished> for JobAnswer {
 }
 
 // Runs a chain on the block at the start of the words: the chain is lent the block's part only.
-fn run(words: &mut [u32], scratch: &mut [u32], lengths: [usize; 4], swaps: &[usize]) -> axes::Answer
+fn run(
+    words: &mut [u32],
+    scratch: &mut [u32],
+    lengths: [usize; 4],
+    swaps: &[usize],
+) -> Result<Reached, Refused>
     requires { (volume lengths ≤ 1048576) × (volume lengths ≤ length words.old) }
-    ensures { RunOn lengths swaps.now words.old scratch.old result words.new scratch.new }
+    ensures { RunOn lengths swaps.now words.old scratch.old (answer_in_c result) words.new scratch.new }
 {
     let size = checks::words_of(&lengths);
-    let shape = axes::Shape {
+    let shape = Shape {
         lengths: [lengths[0], lengths[1], lengths[2], lengths[3], 0],
     };
-    axes::chain(&mut words[..size], scratch, shape, swaps)
+    axes::chain(Axes::Four, &mut words[..size], scratch, shape, swaps)
 }
 
 // Reads the sheet, runs its chain and writes its result sheet: how many bytes that has, or why the reader refuses the sheet. Neither the chain nor
@@ -69,10 +77,10 @@ fn result_of(
     let sheet = reader::read(bytes, words)?;
     let lengths = sheet.lengths;
     let swaps = sheet.swaps;
-    let answer = run(words, scratch, lengths, &swaps[..sheet.count]);
-    let turned = answer.lengths;
+    let reached = run(words, scratch, lengths, &swaps[..sheet.count])?;
+    let turned = reached.lengths;
     let front = [turned[0], turned[1], turned[2], turned[3]];
-    let written = writer::write_result(front, answer.order, words, out)?;
+    let written = writer::write_result(front, reached.order, words, out)?;
     Ok(written)
 }
 

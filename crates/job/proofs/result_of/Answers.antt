@@ -3,7 +3,7 @@ use Rattle.lists.proofs.Kit.{◌≡◌, refl, arith, length, rules}
 use Rattle.refusals.proofs.Numbers.{refuses}
 use Rattle.job.proofs.Parts.{first-four}
 use Rattle.job.proofs.Readings.{turned_away, taken}
-use Rattle.job.proofs.Done.{err_is, run_asks, text_accepted, met_accepted}
+use Rattle.job.proofs.Done.{err_is, run_asks, text_accepted, met_accepted, chain_runs}
 use Rattle.job.proofs.result_of.Goals as goal
 
 pub returns-in_err-sheet : goal.returns-in_err-sheet
@@ -15,19 +15,25 @@ returns-in_err-sheet c =
 pub slice_bounds-swaps-end : goal.slice_bounds-swaps-end
 slice_bounds-swaps-end c = (taken c.in_ok-sheet.ensures refl).1.inside
 
-pub run-answer-requires : goal.run-answer-requires
-run-answer-requires c = run_asks (taken c.in_ok-sheet.ensures refl).1
+pub run-requires : goal.run-requires
+run-requires c = run_asks (taken c.in_ok-sheet.ensures refl).1
+
+pub returns-in_err-reached : goal.returns-in_err-reached
+returns-in_err-reached c =
+    absurd
+    (refuses c.in_err-reached.field-0.0.refusal
+    (chain_runs (omega arith) (omega arith) (taken c.in_ok-sheet.ensures refl).1 c.in_err-reached.ensures))
 
 pub returns-in_err-written : goal.returns-in_err-written
 returns-in_err-written c =
-    let five : length c.run-answer.result.lengths ≡ 5 = search rules in
+    let five : length c.in_ok-reached.reached.lengths ≡ 5 = search rules in
     absurd
     (refuses c.in_err-written.field-0.0
-    (text_accepted (omega arith) (omega arith) (omega arith) (taken c.in_ok-sheet.ensures refl).1 c.run-answer.ensures
-    (first-four c.run-answer.result.lengths (omega arith)) c.in_err-written.ensures))
+    (text_accepted (omega arith) (omega arith) (taken c.in_ok-sheet.ensures refl).1 c.in_ok-reached.ensures (omega arith)
+    (first-four c.in_ok-reached.reached.lengths (omega arith)) c.in_err-written.ensures))
 
 pub returns : goal.returns
 returns c =
-    let five : length c.run-answer.result.lengths ≡ 5 = search rules in
-    met_accepted (omega arith) (omega arith) (omega arith) (taken c.in_ok-sheet.ensures refl).1 c.run-answer.ensures
-    (first-four c.run-answer.result.lengths (omega arith)) c.in_ok-written.ensures
+    let five : length c.in_ok-reached.reached.lengths ≡ 5 = search rules in
+    met_accepted (omega arith) (omega arith) (taken c.in_ok-sheet.ensures refl).1 c.in_ok-reached.ensures (omega arith)
+    (first-four c.in_ok-reached.reached.lengths (omega arith)) c.in_ok-written.ensures
