@@ -112,12 +112,6 @@ module _ {n p q : ℕ} {xs s : List ℕ} (runs : Runs n p q xs) (halves : Halves
   zs_long : length halves.zs ≡ (n - n / 2) * p + (n - n / 2) * q
   zs_long = sym halves.high.same ∙ length-drop (n / 2 * (p + q)) xs ∙ omega (arith, cuts runs, sum runs)
 
-  pub split_runs : Runs n p q s
-  split_runs = record {
-    some = runs.some;
-    fill = ap length halves.back ∙ length-append halves.ys halves.zs ∙ omega (arith, cuts runs, ys_long, zs_long);
-  }
-
   pieces : Four (n / 2 * p) (n / 2 * q) ((n - n / 2) * p) ((n - n / 2) * q) s
   pieces = record {
     a = take (n / 2 * p) halves.ys;

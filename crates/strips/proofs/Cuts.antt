@@ -1,32 +1,12 @@
 -- The sizes of large blocks: a side cut in strips of 32 to 64 words or in halves, the strips, the marks of their grid and the lines left over have room.
-use Rattle.lists.proofs.Kit.{◌≡◌, ap, subst, List, ◌⊎◌, inl, inr, ⊎_elim, ℕ, ◌+◌, ◌*◌, ◌-◌, ◌/◌, ◌%◌, ◌<◌, ◌≤◌, div-add-mod', div-lt_iff_lt-mul, mod-lt, mul-le-mul, mul-le-mul_left, mul-le-mul_right, le-mul_of_pos_right, mul-pos, arith, length, lt-or-ge}
+use Rattle.lists.proofs.Kit.{◌≡◌, ap, subst, List, ◌⊎◌, inl, inr, ⊎_elim, ℕ, ◌+◌, ◌*◌, ◌-◌, ◌/◌, ◌%◌, ◌<◌, ◌≤◌, div-add-mod', div-lt_iff_lt-mul, mul-le-mul, mul-le-mul_left, mul-le-mul_right, le-mul_of_pos_right, mul-pos, arith, length, lt-or-ge}
 use Rattle.grids.specs.Promises.{Turnable}
 use Rattle.strips.specs.PrivateBounds.{From, Waiting, Narrow, Thin, Cut, Large}
 use Rattle.grids.specs.Grids.{GridTurned}
 use Rattle.strips.specs.PrivateSteps.{BlocksTurned, PartTurned, Widened}
 use Rattle.strips.proofs.Bounds.{tall_turned, wide_turned}
 
--- the first number of lines that is tried, and each later one
-pub cut_first : {g : ℕ} → 0 < g → g ≤ 31 → Thin g ((32 + g - 1) / g)
-cut_first {g} some light =
-    let whole = div-add-mod' (32 + g - 1) g in
-    let less = mod-lt (32 + g - 1) some in
-    record { least = omega arith; most = omega arith }
-
-pub cut_next : {g k : ℕ} → 0 < g → (32 + g - 1) / g ≤ k → k ≤ 64 / g → Thin g k
-cut_next {g} {k} some low high =
-    let whole = div-add-mod' (32 + g - 1) g in
-    let less = mod-lt (32 + g - 1) some in
-    let most = div-add-mod' 64 g in
-    record { least = omega (arith, mul-le-mul_right g low); most = omega (arith, mul-le-mul_right g high) }
-
--- and the last one is small
-pub cut_last : {g : ℕ} → 0 < g → 64 / g ≤ 64
-cut_last {g} some = omega (arith, div-add-mod' 64 g, le-mul_of_pos_right (64 / g) some)
-
-pub few_lines : {g r : ℕ} → 0 < g → Thin g r → r ≤ 64
-few_lines {g} {r} some c = omega (arith, c.most, le-mul_of_pos_right r some)
-
+-- a strip has a line
 pub some_lines : {g r : ℕ} → Thin g r → 0 < r
 some_lines {g} {r} c = ⊎_elim (λ (h : r < 1). let z : r ≡ 0 = omega arith in absurd (omega (arith, c.least, ap (λ (k : ℕ). k * g) z))) (λ (h : 1 ≤ r). h) (lt-or-ge r 1)
 

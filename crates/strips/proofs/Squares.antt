@@ -1,6 +1,6 @@
 -- A square turned across its diagonal: row by row, each element before the diagonal trades places with the one that mirrors it. After i rows the elements of the
 -- first i rows and columns stand turned, and the others stand where they stood. A square of words goes by recursion, which takes what it is lent.
-use Rattle.lists.proofs.Kit.{◌≡◌, refl, sym, ap, ◌∙◌, subst, List, ◌++◌, take, drop, length-take-le, ◌⊎◌, inl, inr, ⊎_elim, ℕ, ◌+◌, ◌*◌, ◌-◌, ◌/◌, ◌%◌, ◌<◌, ◌≤◌, mul-le-mul, le-ltb, arith, digits_div, digits_mod, digits_lt, length, get_or, eq-or-ne, lt-or-ge}
+use Rattle.lists.proofs.Kit.{◌≡◌, sym, ap, ◌∙◌, subst, List, ◌++◌, take, drop, length-take-le, ◌⊎◌, inl, inr, ⊎_elim, ℕ, ◌+◌, ◌*◌, ◌-◌, ◌/◌, ◌%◌, ◌<◌, ◌≤◌, mul-le-mul, le-ltb, arith, digits_div, digits_mod, digits_lt, length, get_or, eq-or-ne, lt-or-ge}
 use borrow.Rule.Slice.PartMut.{mid_of, put_mid}
 use Rattle.layout.specs.Layout.{volume}
 use Rattle.refusals.specs.FirstOf.{first_of}
@@ -55,15 +55,6 @@ pair {n} {g} {i} {j} size inside hi hj =
     }
 
 module _ {n g i : ℕ} {xs : List ℕ} where
-  pub crossed_none : RowCrossed n g i 0 xs xs
-  crossed_none = record {
-    same = refl;
-    row = λ j u h. absurd (omega arith);
-    column = λ j u h. absurd (omega arith);
-    others = λ a b u ha hb hu p q. refl;
-    tail = λ k h. refl;
-  }
-
   -- one element more
   pub crossed_more : {e : ℕ} {ys zs : List ℕ} → i < n → e < i → RowCrossed n g i e xs ys → Traded ((i * n + e) * g) ((e * n + i) * g) g ys zs → RowCrossed n g i (e + 1) xs zs
   crossed_more {e} {ys} {zs} hi he c t = record {
@@ -114,14 +105,6 @@ pub record SquareTo (n g i : ℕ) (xs ys : List ℕ) : Type 0 where
   pub tail : (k : ℕ) → n * n * g ≤ k → get_or ys k 0 ≡ get_or xs k 0
 
 module _ {n g : ℕ} {xs : List ℕ} where
-  pub square_first : SquareTo n g 1 xs xs
-  square_first = record {
-    same = refl;
-    gone = λ a b u ha hb hu. let p : a ≡ 0 = omega arith in let q : b ≡ 0 = omega arith in rw (p, q) refl;
-    stand = λ a b u ha hb hu o. refl;
-    tail = λ k h. refl;
-  }
-
   -- one row more
   pub square_more : {i : ℕ} {ys zs : List ℕ} → i < n → SquareTo n g i xs ys → RowCrossed n g i i ys zs → SquareTo n g (i + 1) xs zs
   square_more {i} {ys} {zs} hi s c = record {
