@@ -19,7 +19,7 @@ pub(crate) fn rotate(s: &mut [u32], k: usize)
     if k == 0 {
         return;
     }
-    // Kept: `rotate_left` of the library was tried in place of this loop, and a turn then takes a tenth to a half longer.
+    // Kept: `rotate_left` of the library was tried in place of this loop, and a turn then takes a tenth to two thirds longer.
     let n = s.len();
     let mut at = 0;
     let mut left = k;
