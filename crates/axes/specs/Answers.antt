@@ -26,11 +26,12 @@ refused_place r number chain = cond (eqb number 6) (first_place (no_swap r) chai
 abbrev pub asked_for : ℕ → Answer → Answer
 asked_for order a = record { number = a.number; place = a.place; lengths = a.lengths; order = cond (eqb a.number 0) order a.order; swaps = a.swaps }
 
--- the number and the place that C sees of an answer: 0 and 0 where the call was accepted
+-- the number that C sees of an answer: 0 where the call was accepted
 abbrev pub number_at : {A : Type 0} → Result A Refused → ℕ
 number_at (Ok x) = 0
 number_at (Err r) = number_of r.refusal
 
+-- the place that C sees of an answer: 0 where the call was accepted
 abbrev pub place_at : {A : Type 0} → Result A Refused → ℕ
 place_at (Ok x) = 0
 place_at (Err r) = r.place

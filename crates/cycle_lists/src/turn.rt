@@ -7,8 +7,8 @@ ghost use Rattle.cycles.specs.Private.{Small, Reciprocal};
 
 use std::mem;
 
-// The parts of one that an inverse is counted in.
-const SCALE: usize = 1 << 40;
+// An inverse is counted in parts of one, of which one has 2 to this many.
+const SCALE_BITS: u32 = 40;
 
 // The turn of a block of m by n, and the inverse of n that a step multiplies by: the parts of one by n, rounded down, and one more.
 #[derive(Clone, Copy)]
@@ -29,7 +29,7 @@ impl Turn {
         Turn {
             m,
             n,
-            inverse: SCALE / n + 1,
+            inverse: (1 << SCALE_BITS) / n + 1,
         }
     }
 
@@ -46,7 +46,7 @@ impl Turn {
         requires { offset < self.m * self.n }
         ensures { result ≡ takes self.m self.n offset }
     {
-        let row = offset * self.inverse / SCALE;
+        let row = (offset * self.inverse) >> SCALE_BITS;
         offset * self.m - row * (self.m * self.n - 1)
     }
 

@@ -1,6 +1,9 @@
 // A block of chunks, and where each place of it receives its chunk from.
 ghost use Rattle.cycles.specs.Private.{Small, Reciprocal};
 
+// An inverse is counted in parts of one, of which one has 2 to this many.
+const SCALE_BITS: u32 = 40;
+
 // A block of m rows and n columns of chunks, how many words a chunk has, and the inverse of m that a step multiplies by.
 #[derive(Clone, Copy)]
 pub(crate) struct Grid {
@@ -25,7 +28,7 @@ impl Grid {
         Grid {
             m,
             n,
-            inverse: 1099511627776 / m + 1,
+            inverse: (1 << SCALE_BITS) / m + 1,
             chunk,
         }
     }
@@ -43,7 +46,7 @@ impl Grid {
         requires { p < self.n * self.m }
         ensures { result ≡ takes self.n self.m p }
     {
-        let column = (p * self.inverse) >> 40;
+        let column = (p * self.inverse) >> SCALE_BITS;
         p * self.n - column * (self.n * self.m - 1)
     }
 

@@ -16,6 +16,7 @@ const MOST_SWAPS: usize = 32;
 const LAST_ORDER: usize = 23;
 
 // Kept: a number becomes a `usize` by `as`, here three times, since the library has no `From<u32>` for `usize`.
+
 // Line 1 of a sheet: its lengths, and the bytes after it.
 #[derive(Clone, Copy)]
 pub(crate) struct Shape<'a> {

@@ -1,9 +1,10 @@
 -- One level of merge and of split: what the stretch, the two halves and the whole are at each step, and that the whole is
 -- merged, or split, once both halves are. The slice is read as four parts, the runs of p words and of q words, halved.
-use Rattle.lists.proofs.Kit.{◌≡◌, sym, ap, ◌∙◌, subst, List, ◌++◌, append_assoc, ℕ, ◌+◌, ◌-◌, ◌*◌, ◌/◌, ◌≤◌, ◌<◌, arith, length, take, drop, length-append, length-drop, take-append-drop, length-take-le, take_at, drop_at}
+use Rattle.lists.proofs.Kit.{◌≡◌, refl, sym, ap, ◌∙◌, subst, List, ◌++◌, append_assoc, ℕ, ◌+◌, ◌-◌, ◌*◌, ◌/◌, ◌≤◌, ◌<◌, arith, length, take, drop, length-append, length-drop, take-append-drop, length-take-le, take_at, drop_at}
 use borrow.Rule.Slice.PartMut.{mid_of, put_mid, mid_len}
 use Rattle.recursion.specs.Private.{rotated, Runs}
 use Rattle.recursion.specs.Merge.{Merged}
+use Rattle.lists.proofs.Parts.{second, joined}
 use Rattle.recursion.proofs.Four.{Four, four, middle-turned, Halved, halved}
 use Rattle.recursion.proofs.Merges.{merged_halves, merged_one}
 
@@ -66,10 +67,18 @@ module _ {n p q : ℕ} {xs r : List ℕ} (runs : Runs n p q xs)
       let m = merged_halves (n / 2) (n - n / 2) p q parts.a parts.b parts.c parts.d ys zs parts.la parts.lb parts.lc parts.ld low high in
       subst (λ (k : ℕ). Merged k p q xs (ys ++ zs)) all (subst (λ (l : List ℕ). Merged (n / 2 + (n - n / 2)) p q l (ys ++ zs)) (sym parts.whole) m)
 
-  pub merged_whole : {u v ys zs : List ℕ} → u ≡ take (n / 2 * (p + q)) next → v ≡ drop (n / 2 * (p + q)) next
+  pub merged_of_halves : {u v ys zs : List ℕ} → u ≡ take (n / 2 * (p + q)) next → v ≡ drop (n / 2 * (p + q)) next
       → Merged (n / 2) p q u ys → Merged (n - n / 2) p q v zs → Merged n p q xs (ys ++ zs)
-  merged_whole {ys = ys} {zs = zs} e f low high =
+  merged_of_halves {ys = ys} {zs = zs} e f low high =
       merged_both (subst (λ (l : List ℕ). Merged (n / 2) p q l ys) (e ∙ low_lent) low) (subst (λ (l : List ℕ). Merged (n - n / 2) p q l zs) (f ∙ high_lent) high)
+
+  -- the same where the second half is cut from the slice with the first half back
+  pub merged_whole : {ys zs : List ℕ} → Merged (n / 2) p q (take (n / 2 * (p + q)) next) ys
+      → Merged (n - n / 2) p q (mid_of (n / 2 * (p + q)) (length (ys ++ drop (n / 2 * (p + q)) next) - n / 2 * (p + q)) (ys ++ drop (n / 2 * (p + q)) next)) zs
+      → Merged n p q xs (put_mid (n / 2 * (p + q)) (length (ys ++ drop (n / 2 * (p + q)) next) - n / 2 * (p + q)) (ys ++ drop (n / 2 * (p + q)) next) zs)
+  merged_whole {ys} {zs} low high =
+      let within = cut_within next_runs in
+      rw (joined (n / 2 * (p + q)) next ys within low.same zs) (merged_of_halves refl (second (n / 2 * (p + q)) next ys within low.same) low high)
 
   -- of two runs each, the halves are merged as they stand
   pub merged_two : n ≡ 2 → Merged n p q xs next
@@ -129,10 +138,10 @@ module _ {n p q : ℕ} {xs s : List ℕ} (runs : Runs n p q xs) (halves : Halves
         ∙ append_assoc (take (n / 2 * p) halves.ys) (drop (n / 2 * p) halves.ys) (take ((n - n / 2) * p) halves.zs ++ drop ((n - n / 2) * p) halves.zs);
   }
 
-  pub split_whole : {r : List ℕ} → r ≡ rotated (n / 2 * q) (mid_of (n / 2 * p) (n * p + n / 2 * q - n / 2 * p) s)
+  pub split_of_halves : {r : List ℕ} → r ≡ rotated (n / 2 * q) (mid_of (n / 2 * p) (n * p + n / 2 * q - n / 2 * p) s)
       → Merged n p q (put_mid (n / 2 * p) (n * p + n / 2 * q - n / 2 * p) s r) xs
   unfolding pieces
-  split_whole {r} turned =
+  split_of_halves {r} turned =
       let all : n / 2 + (n - n / 2) ≡ n = omega arith in
       let first : Merged (n / 2) p q (pieces.a ++ pieces.b) (take (n / 2 * (p + q)) xs)
       = subst (λ (l : List ℕ). Merged (n / 2) p q l (take (n / 2 * (p + q)) xs)) (sym (take-append-drop (n / 2 * p) halves.ys)) halves.low in
@@ -143,3 +152,16 @@ module _ {n p q : ℕ} {xs s : List ℕ} (runs : Runs n p q xs) (halves : Halves
       rw (middle-turned pieces (n * p + n / 2 * q - n / 2 * p) (omega (arith, cuts runs)) r turned)
       (subst (λ (k : ℕ). Merged k p q (pieces.a ++ (pieces.c ++ (pieces.b ++ pieces.d))) xs) all
       (subst (λ (l : List ℕ). Merged (n / 2 + (n - n / 2)) p q (pieces.a ++ (pieces.c ++ (pieces.b ++ pieces.d))) l) (take-append-drop (n / 2 * (p + q)) xs) m))
+
+-- the same where the second half is cut from the slice with the first half back
+module _ {n p q : ℕ} {xs ys zs : List ℕ} (runs : Runs n p q xs) (low : Merged (n / 2) p q ys (take (n / 2 * (p + q)) xs))
+    (high : Merged (n - n / 2) p q zs (mid_of (n / 2 * (p + q)) (length (ys ++ drop (n / 2 * (p + q)) xs) - n / 2 * (p + q)) (ys ++ drop (n / 2 * (p + q)) xs))) where
+  -- the slice once both halves are back
+  abbrev both : List ℕ
+  both = put_mid (n / 2 * (p + q)) (length (ys ++ drop (n / 2 * (p + q)) xs) - n / 2 * (p + q)) (ys ++ drop (n / 2 * (p + q)) xs) zs
+
+  pub split_whole : {r : List ℕ} → r ≡ rotated (n / 2 * q) (mid_of (n / 2 * p) (n * p + n / 2 * q - n / 2 * p) both)
+      → Merged n p q (put_mid (n / 2 * p) (n * p + n / 2 * q - n / 2 * p) both r) xs
+  split_whole =
+      let within = cut_within runs in
+      split_of_halves runs (halves_split refl (second (n / 2 * (p + q)) xs ys within (sym low.same)) low high (joined (n / 2 * (p + q)) xs ys within (sym low.same) zs))

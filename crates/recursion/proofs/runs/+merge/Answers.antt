@@ -1,6 +1,6 @@
 -- `merge` meets its contract: the stretch between the first and the last quarter is rotated, then each half is merged.
 use Rattle.lists.proofs.Kit.{arith}
-use Rattle.recursion.proofs.Halving.{stretch_long, high_runs, next_runs, merged_whole, merged_two}
+use Rattle.recursion.proofs.Halving.{stretch_long, high_runs, next_runs, merged_of_halves, merged_two}
 use Rattle.recursion.proofs.runs.+merge.Goals as goal
 
 pub rotate-requires : goal.rotate-requires
@@ -16,4 +16,4 @@ merge-requires-2 t c =
 pub returns : goal.returns
 returns t c =
     let halves = c.split_at_mut-first.ensures in
-    merged_whole c.requires c.rotate.ensures halves.front halves.back c.merge.ensures c.merge-2.ensures
+    merged_of_halves c.requires c.rotate.ensures halves.front halves.back c.merge.ensures c.merge-2.ensures
