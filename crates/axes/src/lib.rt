@@ -45,6 +45,7 @@ impl Shape {
 
 // What an accepted call on a block reaches: the five new lengths (of four axes the last is 0), an order number (a chain's own order in release 1; of a
 // request the number that was asked for), the swaps done.
+// Kept: without a heap the lengths of four axes or five stand in an array of five.
 #[derive(Clone, Copy)]
 pub struct Reached {
     pub lengths: [usize; 5],
@@ -53,6 +54,7 @@ pub struct Reached {
 }
 
 // What C sees of the answer: its number and its place, and what the call reached, all 0 where it was refused.
+// Kept: the C interface reads a number and the values beside it.
 #[repr(C)]
 #[derive(Clone, Copy)]
 pub struct Answer {

@@ -11,6 +11,7 @@ use crate::turn::Turn;
 use refusals::{Refusal, Refused};
 
 // What C sees of the answer: its number, and for 22 the place of the first pair that differs.
+// Kept: the C interface reads a number and the values beside it.
 #[repr(C)]
 #[derive(Clone, Copy)]
 pub struct Judged {
@@ -36,6 +37,7 @@ impl From<Result<(), Refused>> for Judged {
 }
 
 // What follows the pair of this start and this length, if a list begins with it.
+// Kept: a word becomes a `usize` by `as`, since the library has no `From<u32>` for `usize`.
 fn after_pair(list: &[u32], start: usize, count: usize) -> Option<&[u32]>
     ensures { MatchOption result (take 2 list.now ≡ start ∷ count ∷ [] → ⊥) (λ rest. list.now ≡ start ∷ count ∷ rest.now) }
 {

@@ -9,6 +9,9 @@ ghost use Rattle.grids.specs.Private.{mirror, fold, half, pairs, bit_at, Fits, M
 use crate::grid::Grid;
 use crate::marks;
 
+// Kept: that a grid fits its buffer is asked of each function here, since it is about both; a struct of the two would be lent at each call, and taken
+// apart in it.
+
 // Place p receives the chunk of another place x.
 fn carry(buf: &mut [u32], g: Grid, p: usize, x: usize)
     requires { Fits g buf.old × (p < g.n * g.m) × (x < g.n * g.m) × (p ≡ x → ⊥) }

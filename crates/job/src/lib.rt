@@ -19,6 +19,7 @@ pub struct Finished {
 }
 
 // What C sees of that: its number and place, 0 and 0 where the sheet is right, and how many bytes its text has.
+// Kept: the C interface reads a number and the values beside it.
 #[repr(C)]
 #[derive(Clone, Copy)]
 pub struct JobAnswer {

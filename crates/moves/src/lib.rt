@@ -8,6 +8,9 @@ mod words;
 ghost use Rattle.std.specs.Prelude.{true, false, ◌≡◌, ◌+◌, ◌≤◌};
 ghost use Rattle.moves.specs.Promises.{Ahead, Apart, CopyPromise, FallPromise, HandPromise, RisePromise, ZeroPromise, TradePromise};
 
+// Kept: three numbers say a move throughout this crate, since the promises of its public calls name them so; a struct of them would be made at each
+// call, and taken apart in it.
+
 // Whether the run of count words from an offset on ends past a buffer of so many words.
 fn past(len: usize, at: usize, count: usize) -> bool
     ensures { (result ≡ false → at + count ≤ len) × (result ≡ true → (at + count ≤ len → ⊥)) }

@@ -53,6 +53,7 @@ pub fn turn_back(buf: &mut [u32], scratch: &mut [u32], m: usize, n: usize) -> Re
 }
 
 // What C sees of how many lines a turn has: the number, and the count.
+// Kept: the C interface reads a number and the values beside it.
 #[repr(C)]
 #[derive(Clone, Copy)]
 pub struct LineCount {
@@ -129,6 +130,7 @@ pub fn step(
 }
 
 // Goes on with the turn of an m by n block from the stage that the progress word names, and stops after `budget` stores; or 1, 2, 3, 13, 4, 23.
+// Kept: the progress word becomes a `usize` by `as`, since the library has no `From<u32>` for `usize`.
 pub fn resume(
     buf: &mut [u32],
     scratch: &mut [u32],

@@ -13,6 +13,7 @@ ghost use Rattle.reader.specs.ResultReader.{ReadResultPromise, result_in_c, Name
 use refusals::Refused;
 
 // What a sheet says: its lengths, its swaps (unused ones 0) and how many they are.
+// Kept: without a heap the swaps stand in an array that is long enough, beside their count.
 #[derive(Clone, Copy)]
 pub struct ChainSheet {
     pub lengths: [usize; 4],
@@ -29,6 +30,7 @@ pub struct OrderSheet {
 }
 
 // What C sees of the answer to a sheet: its number and place, its lengths, its swaps (unused ones 0) and how many they are.
+// Kept: the C interface reads a number and the values beside it.
 #[repr(C)]
 #[derive(Clone, Copy)]
 pub struct Sheet {
@@ -40,6 +42,7 @@ pub struct Sheet {
 }
 
 // What C sees of the answer to a result sheet: its number and place, its lengths, its release, 0 where it names none, and its order number.
+// Kept: the C interface reads a number and the values beside it.
 #[repr(C)]
 #[derive(Clone, Copy)]
 pub struct ResultSheet {

@@ -4,6 +4,8 @@ mod Rotations
 pub mod Merges
 -- a list in four parts of which the middle two change places
 mod Four
+-- a block cut in two by its rows
+pub mod Cuts
 -- one level of merge and of split
 mod Halving
 -- parts turned and merged, or split and turned, are the block turned

@@ -21,6 +21,7 @@ use writer::Writer;
 const LAST_ORDER: usize = 23;
 
 // What C sees of a writer's answer: its number, and the count of bytes written.
+// Kept: the C interface reads a number and the values beside it.
 #[repr(C)]
 #[derive(Clone, Copy)]
 pub struct Written {
