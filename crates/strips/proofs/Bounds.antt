@@ -1,8 +1,7 @@
 -- The sizes of strips: a tile takes 8 to 64 lines, the long side is cut in as many lines and a rest, and what is left over, the tiles and the marks have room.
-use Rattle.lists.proofs.Kit.{◌≡◌, ap, subst, List, ⊎_elim, ℕ, ◌+◌, ◌*◌, ◌/◌, ◌%◌, ◌<◌, ◌≤◌, mod-lt, div-add-mod', div-lt_iff_lt-mul, mul-le-mul, mul-le-mul_right, le-mul_of_pos_right, mul-pos, arith, length, lt-or-ge}
-use Rattle.grids.specs.Promises.{Turnable}
+use Rattle.lists.proofs.Kit.{◌≡◌, ap, subst, List, ⊎_elim, ℕ, ◌+◌, ◌*◌, ◌/◌, ◌%◌, ◌<◌, ◌≤◌, mod-lt, div-add-mod', div-lt_iff_lt-mul, mul-le-mul, mul-le-mul_right, le-mul_of_pos_right, arith, lt-or-ge}
 use Rattle.lists.proofs.Parts.{whole}
-use Rattle.strips.specs.PrivateBounds.{Held, From, Lines, Strip}
+use Rattle.strips.specs.PrivateBounds.{Lines}
 use Rattle.grids.specs.Grids.{GridTurned}
 use Rattle.strips.specs.PrivateSteps.{BlocksTurned, PartTurned, Widened}
 use Rattle.strips.proofs.Strips.{by_rows, by_columns, joined_turn, parted_turn}
@@ -21,10 +20,10 @@ pub record Parted (short long g s y q : ℕ) : Type 0 where
   pub chunk : s * g ≤ 4096
   pub rest : q * g ≤ 512
 
-module _ {short long g s : ℕ} {xs : List ℕ} (t : Strip short long g xs) (l : Lines (short * g) s) where
+module _ {short long g s : ℕ} (some : 0 < short) (words : 0 < g) (reach : long ≤ 4096) (narrow : short * g ≤ 64) (enough : 512 < long * (short * g)) (l : Lines (short * g) s) where
   -- no more lines than the long side has
   reaches : s ≤ long
-  reaches = ⊎_elim (λ (k : long < s). absurd (omega (arith, t.enough, l.room, mul-le-mul_right (short * g) k))) (λ (k : s ≤ long). k) (lt-or-ge long s)
+  reaches = ⊎_elim (λ (k : long < s). absurd (omega (arith, enough, l.room, mul-le-mul_right (short * g) k))) (λ (k : s ≤ long). k) (lt-or-ge long s)
 
   pub parted : Parted short long g s (long / s) (long % s)
   parted =
@@ -34,10 +33,10 @@ module _ {short long g s : ℕ} {xs : List ℕ} (t : Strip short long g xs) (l :
       let less : long % s < s = mod-lt long pos in
       let one : 0 < y = ⊎_elim (λ (h : y < 1). absurd (omega (arith, reaches, (div-lt_iff_lt-mul pos).0 h))) (λ (h : 1 ≤ y). h) (lt-or-ge y 1) in
       let eight : 8 * y ≤ y * s = omega (arith, mul-le-mul_right y l.some) in
-      let few : y ≤ 512 = omega (arith, t.far) in
-      let thin : short ≤ 64 = omega (arith, t.narrow, le-mul_of_pos_right short t.words) in
-      let up : y * s ≤ 4096 = omega (arith, t.far) in
-      let light : g ≤ 64 = omega (arith, t.narrow, le-mul_of_pos_right g t.some) in
+      let few : y ≤ 512 = omega (arith, reach) in
+      let thin : short ≤ 64 = omega (arith, narrow, le-mul_of_pos_right short words) in
+      let up : y * s ≤ 4096 = omega (arith, reach) in
+      let light : g ≤ 64 = omega (arith, narrow, le-mul_of_pos_right g some) in
       let left : long % s * (short * g) ≤ 512 = omega (arith, l.room, mul-le-mul_right (short * g) less) in
       record {
         whole = whole;
@@ -50,74 +49,8 @@ module _ {short long g s : ℕ} {xs : List ℕ} (t : Strip short long g xs) (l :
         marks = omega (arith, mul-le-mul thin few);
         run = omega (arith, mul-le-mul up light);
         chunk = omega (arith, mul-le-mul l.few light);
-        rest = omega (arith, left, le-mul_of_pos_right (long % s * g) t.some);
+        rest = omega (arith, left, le-mul_of_pos_right (long % s * g) some);
       }
-
--- the steps of a strip have room: of a tall one and of a wide one
-module _ {short long g s y q : ℕ} {xs : List ℕ} (t : Strip short long g xs) (l : Lines (short * g) s) (p : Parted short long g s y q) where
-  some_lines : 0 < s
-  some_lines = omega (arith, l.some)
-
-  module _ {ys : List ℕ} (same : length ys ≡ length xs) where
-    pub tall_tiles : Held y s short g ys
-    tall_tiles = record {
-      rows = some_lines;
-      columns = t.some;
-      words = t.words;
-      inside = omega (arith, t.inside, p.sum);
-      room = omega (arith, l.room);
-    }
-
-    pub wide_tiles : Held y short s g ys
-    wide_tiles = record {
-      rows = t.some;
-      columns = some_lines;
-      words = t.words;
-      inside = omega (arith, t.inside, p.sum);
-      room = omega (arith, l.room);
-    }
-
-    pub tall_grid : {room : List ℕ} → length room ≡ 1024 → Turnable y short (s * g) ys room
-    tall_grid long-room = record {
-      some_rows = p.some;
-      some_columns = t.some;
-      far_rows = omega (arith, p.far);
-      far_columns = omega (arith, p.thin);
-      few = omega (arith, p.marks);
-      some_words = mul-pos some_lines t.words;
-      inside = omega (arith, t.inside, p.sum);
-      marked = omega (arith, p.marks);
-    }
-
-    pub wide_grid : {room : List ℕ} → length room ≡ 1024 → Turnable short y (s * g) ys room
-    wide_grid long-room = record {
-      some_rows = t.some;
-      some_columns = p.some;
-      far_rows = omega (arith, p.thin);
-      far_columns = omega (arith, p.far);
-      few = omega (arith, p.marks);
-      some_words = mul-pos some_lines t.words;
-      inside = omega (arith, t.inside, p.sum);
-      marked = omega (arith, p.marks);
-    }
-
-    pub tall_rest : From (short * (y * s * g)) q short g ys
-    tall_rest = record {
-      rows = t.some;
-      columns = t.words;
-      far_rows = omega (arith, p.thin);
-      far_columns = omega (arith, p.light);
-      inside = omega (arith, t.inside, p.sum);
-    }
-
-    pub wide_rest : From (short * (y * s * g)) q g short ys
-    wide_rest = record {
-      rows = t.words;
-      columns = t.some;
-      far_rows = omega (arith, p.light);
-      far_columns = omega (arith, p.thin);
-      inside = omega (arith, t.inside, p.sum);
-    }
 
 -- the steps of a strip are its turn: of a tall one and of a wide one
 pub tall_turned : {m n g s y q : ℕ} {xs vs ws ys zs : List ℕ} → y * s + q ≡ m → BlocksTurned y s n g xs vs → GridTurned y n (s * g) vs ws

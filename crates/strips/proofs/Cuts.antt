@@ -1,7 +1,6 @@
 -- The sizes of large blocks: a side cut in strips of 32 to 64 words or in halves, the strips, the marks of their grid and the lines left over have room.
-use Rattle.lists.proofs.Kit.{◌≡◌, ap, subst, List, ◌⊎◌, inl, inr, ⊎_elim, ℕ, ◌+◌, ◌*◌, ◌-◌, ◌/◌, ◌%◌, ◌<◌, ◌≤◌, div-add-mod', div-lt_iff_lt-mul, mul-le-mul, mul-le-mul_left, mul-le-mul_right, le-mul_of_pos_right, mul-pos, arith, length, lt-or-ge}
-use Rattle.grids.specs.Promises.{Turnable}
-use Rattle.strips.specs.PrivateBounds.{From, Waiting, Narrow, Thin, Cut, Large}
+use Rattle.lists.proofs.Kit.{◌≡◌, ap, subst, List, ◌⊎◌, inl, inr, ⊎_elim, ℕ, ◌+◌, ◌*◌, ◌-◌, ◌/◌, ◌%◌, ◌<◌, ◌≤◌, div-add-mod', div-lt_iff_lt-mul, mul-le-mul, mul-le-mul_left, mul-le-mul_right, le-mul_of_pos_right, arith, length, lt-or-ge}
+use Rattle.strips.specs.PrivateBounds.{Waiting, Thin, Cut}
 use Rattle.grids.specs.Grids.{GridTurned}
 use Rattle.strips.specs.PrivateSteps.{BlocksTurned, PartTurned, Widened}
 use Rattle.strips.proofs.Bounds.{tall_turned, wide_turned}
@@ -100,91 +99,10 @@ short_line {x} {other} {g} {r} {y} {q} p some few left less = ⊎_elim
     after_too : 1024 < other → other ≤ x → 1025 ≤ x
     after_too k h = omega arith
 
--- a large block cut by rows
-module _ {m n g r y q : ℕ} {xs : List ℕ} (t : Large m n g xs) (c : Cut m n g r) (p : Stripped m n g r y q) {ys : List ℕ} (same : length ys ≡ length xs) where
-  pub rows_rest : From (n * (y * r * g)) q n g ys
-  rows_rest = record {
-    rows = some_side g t.columns;
-    columns = t.words;
-    far_rows = t.far_columns;
-    far_columns = omega (arith, t.light);
-    inside = omega (arith, t.inside, p.sum);
-  }
-
-  pub rows_strips : Narrow y r n g ys
-  rows_strips = record {
-    rows = p.some_lines;
-    columns = some_side g t.columns;
-    words = t.words;
-    far_rows = omega (arith, c.low, t.far_rows);
-    far_columns = t.far_columns;
-    few = omega (arith, p.strip, t.few);
-    narrow = ⊎_elim (λ h. inl (inl h)) (λ k. inr k) c.strip;
-    inside = omega (arith, t.inside, p.sum);
-  }
-
-  pub rows_grid : {room : List ℕ} → length room ≡ 1024 → Turnable y n (r * g) ys room
-  rows_grid long = record {
-    some_rows = p.some_strips;
-    some_columns = some_side g t.columns;
-    far_rows = p.far;
-    far_columns = t.far_columns;
-    few = omega (arith, p.marks);
-    some_words = mul-pos p.some_lines t.words;
-    inside = omega (arith, t.inside, p.sum);
-    marked = omega (arith, p.marks);
-  }
-
-  pub rows_wait : (q ≡ 0) ⊎ (n ≤ m) → Waiting n (y * r * g) (m * g) ys
-  rows_wait left = record {
-    some = some_side g t.columns;
-    order = omega (arith, p.words);
-    short = short_line p t.words t.few left;
-    inside = omega (arith, t.inside);
-  }
-
--- and by columns
-module _ {m n g r z q : ℕ} {xs : List ℕ} (t : Large m n g xs) (c : Cut n m g r) (p : Stripped n m g r z q) {ys : List ℕ} (same : length ys ≡ length xs) where
-  pub columns_rest : From (m * (z * r * g)) q g m ys
-  columns_rest = record {
-    rows = t.words;
-    columns = some_side g t.rows;
-    far_rows = omega (arith, t.light);
-    far_columns = t.far_rows;
-    inside = omega (arith, t.inside, p.sum);
-  }
-
-  pub columns_strips : Narrow z m r g ys
-  columns_strips = record {
-    rows = some_side g t.rows;
-    columns = p.some_lines;
-    words = t.words;
-    far_rows = t.far_rows;
-    far_columns = omega (arith, c.low, t.far_columns);
-    few = omega (arith, p.strip, t.few);
-    narrow = ⊎_elim (λ h. inl (inr h)) (λ k. inr (k.0, omega (arith, k.1))) c.strip;
-    inside = omega (arith, t.inside, p.sum);
-  }
-
-  pub columns_grid : {room : List ℕ} → length room ≡ 1024 → Turnable m z (r * g) ys room
-  columns_grid long = record {
-    some_rows = some_side g t.rows;
-    some_columns = p.some_strips;
-    far_rows = t.far_rows;
-    far_columns = p.far;
-    few = omega (arith, p.marks);
-    some_words = mul-pos p.some_lines t.words;
-    inside = omega (arith, t.inside, p.sum);
-    marked = omega (arith, p.marks);
-  }
-
-  pub columns_wait : (q ≡ 0) ⊎ (m ≤ n) → Waiting m (z * r * g) (n * g) ys
-  columns_wait left = record {
-    some = some_side g t.rows;
-    order = omega (arith, p.words);
-    short = short_line p t.words (omega (arith, t.few)) left;
-    inside = omega (arith, t.inside);
-  }
+-- the lines of a large block that are left over have room
+pub waits : {x other g r y q : ℕ} {xs : List ℕ} → Stripped x other g r y q → 0 < other → 0 < g → x * other * g ≤ 1048576 → (q ≡ 0) ⊎ (other ≤ x) → other * (x * g) ≤ length xs
+    → Waiting other (y * r * g) (x * g) xs
+waits p some words few left inside = record { some = some; order = omega (arith, p.words); short = short_line p words few left; inside = inside }
 
 -- the steps of a large block are its turn, the lines left over being joined to those of the strips
 pub rows_joined : {m n g r y q : ℕ} {xs vs ws ys zs : List ℕ} → Stripped m n g r y q → BlocksTurned y r n g xs vs → GridTurned y n (r * g) vs ws

@@ -1,8 +1,8 @@
 -- A small block is lifted into the tile, its rows apart, and written back row by row or column by column: column j of the tile is the stretch of m words
 -- from j·m on. Blocks so turned one after the other, each a part of the buffer, are the layout whose two axes in the middle are exchanged.
-use Rattle.lists.proofs.Kit.{◌≡◌, refl, sym, ap, ap₂, ◌∙◌, ◌⊎◌, ⊎_elim, List, ℕ, ◌+◌, ◌*◌, ◌-◌, ◌/◌, ◌%◌, ◌<◌, ◌≤◌, mul_comm, add-mul, one-mul, arith, digits_div, digits_mod, digits_lt, length, get_or, eq-or-ne}
+use Rattle.lists.proofs.Kit.{◌≡◌, refl, sym, ap, ap₂, subst, ◌∙◌, ◌⊎◌, ⊎_elim, List, ℕ, ◌+◌, ◌*◌, ◌-◌, ◌/◌, ◌%◌, ◌<◌, ◌≤◌, mul_comm, add-mul, one-mul, arith, digits_div, digits_mod, digits_lt, length, get_or, eq-or-ne}
 use borrow.Rule.Slice.PartMut.{mid_of, put_mid}
-use Rattle.strips.proofs.Blocks.{laid-turned, part_turned, TurnedTo, turned_more, all-turned}
+use Rattle.strips.proofs.Blocks.{TurnedAt, laid-turned, part_turned, TurnedTo, turned_more, all-turned}
 use Rattle.moves.specs.Stretch.{Stretch}
 use Rattle.strips.specs.PrivateMoves.{Scattered, RowsOut, Lifted}
 use Rattle.grids.specs.Grids.{GridTurned}
@@ -96,10 +96,11 @@ pub block_inside : {y t size : ℕ} (words : ℕ) → y * words ≤ size → t <
 block_inside {y} {t} words room h = omega (arith, next_run words {j = t} {k = y} h)
 
 -- one block more is turned
-pub block_more : {m n g t : ℕ} {xs ys zs : List ℕ} → TurnedTo m n g t xs ys → t * (m * n * g) + m * n * g ≤ length ys
-    → GridTurned m n g (mid_of (t * (m * n * g)) (t * (m * n * g) + m * n * g - t * (m * n * g)) ys) zs
-    → TurnedTo m n g (t + 1) xs (put_mid (t * (m * n * g)) (t * (m * n * g) + m * n * g - t * (m * n * g)) ys zs)
-block_more a room s = turned_more a (part_turned refl room (laid-turned s))
+pub block_more : {m n g t words : ℕ} {xs ys zs : List ℕ} → words ≡ m * n * g → TurnedTo m n g t xs ys → t * words + words ≤ length ys
+    → GridTurned m n g (mid_of (t * words) (t * words + words - t * words) ys) zs → TurnedTo m n g (t + 1) xs (put_mid (t * words) (t * words + words - t * words) ys zs)
+block_more {m} {n} {g} {t} {words} {xs} {ys} {zs} e a room s =
+    turned_more a
+    (subst (λ (k : ℕ). TurnedAt m n g (t * k) ys (put_mid (t * words) (t * words + words - t * words) ys zs)) e (part_turned (omega (arith, e)) room (laid-turned s)))
 
 -- blocks of one line, turned, are as they were
 rows_stand : {y m n g : ℕ} {xs : List ℕ} → m ≡ 1 → BlocksTurned y m n g xs xs
@@ -114,5 +115,5 @@ columns_stand {y} {m} {n} {g} {xs} one = all-turned (record { same = refl; place
     stands : (k i j u : ℕ) → j ≡ 0 → get_or xs (k * (m * n * g) + ((j * m + i) * g + u)) 0 ≡ get_or xs (k * (m * n * g) + ((i * n + j) * g + u)) 0
     stands k i j u z = rw (z, one) (same_word xs (omega arith))
 
-pub line_stands : {y m n g : ℕ} {xs : List ℕ} → (m ≡ 1) ⊎ ((m ≡ 1 → ⊥) × (n ≡ 1)) → BlocksTurned y m n g xs xs
-line_stands one = ⊎_elim rows_stand (λ h. columns_stand h.1) one
+pub line_stands : {y m n g : ℕ} {xs : List ℕ} → (m ≡ 1) ⊎ (n ≡ 1) → BlocksTurned y m n g xs xs
+line_stands one = ⊎_elim rows_stand columns_stand one

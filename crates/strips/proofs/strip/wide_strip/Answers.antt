@@ -1,34 +1,52 @@
 -- `wide_strip` meets its contract: the columns left over, the grid of chunks and tiles of columns are one turn.
-use Rattle.lists.proofs.Kit.{sym, ◌∙◌, arith}
-use Rattle.strips.proofs.Bounds.{parted, wide_tiles, wide_grid, wide_rest, wide_turned}
+use Rattle.lists.proofs.Kit.{arith, mul-pos}
+use Rattle.strips.proofs.Bounds.{parted, wide_turned}
+use Rattle.strips.proofs.Strips.{rest_inside, part_blocks}
 use Rattle.strips.proofs.strip.wide_strip.Goals as goal
 
 pub narrow-requires : goal.narrow-requires
 narrow-requires c =
     let lines = c.tile_lines-s.ensures in
-    let p = parted c.requires lines in
-    (omega (arith, c.requires.inside, p.sum), omega (arith, p.left))
-
-pub smalls_from-requires : goal.smalls_from-requires
-smalls_from-requires c =
-    let lines = c.tile_lines-s.ensures in
-    let p = parted c.requires lines in
-    (wide_rest c.requires lines p (sym c.narrow.ensures.same), omega (arith, c.requires.narrow))
-
-pub turned-requires : goal.turned-requires
-turned-requires c =
-    let lines = c.tile_lines-s.ensures in
-    let p = parted c.requires lines in
-    wide_grid c.requires lines p (c.smalls_from.ensures.same ∙ sym c.narrow.ensures.same) (omega arith)
+    let p = parted c.args.shape.rows c.args.shape.words c.args.shape.far_columns c.requires.1 (omega (arith, c.requires.2)) lines in
+    (omega (arith, c.requires.0, p.sum), omega (arith, p.left))
 
 pub smalls-requires : goal.smalls-requires
 smalls-requires c =
     let lines = c.tile_lines-s.ensures in
-    let p = parted c.requires lines in
-    wide_tiles c.requires lines p (c.turned.ensures.same ∙ c.smalls_from.ensures.same ∙ sym c.narrow.ensures.same)
+    let p = parted c.args.shape.rows c.args.shape.words c.args.shape.far_columns c.requires.1 (omega (arith, c.requires.2)) lines in
+    (rest_inside _ c.narrow.new.buf (omega (arith, c.requires.0, p.sum, c.narrow.ensures.same)), omega (arith, c.requires.1))
+
+pub invariant_of-turned : goal.invariant_of-turned
+invariant_of-turned c =
+    let shape = c.args.shape in
+    let lines = c.tile_lines-s.ensures in
+    let p = parted shape.rows shape.words shape.far_columns c.requires.1 (omega (arith, c.requires.2)) lines in
+    record {
+      rows = shape.rows;
+      columns = p.some;
+      words = mul-pos (omega (arith, lines.some)) shape.words;
+      far_rows = shape.far_rows;
+      far_columns = omega (arith, p.far);
+      few = omega (arith, p.sum, shape.few);
+    }
+
+pub turned-requires : goal.turned-requires
+turned-requires c =
+    let lines = c.tile_lines-s.ensures in
+    let p = parted c.args.shape.rows c.args.shape.words c.args.shape.far_columns c.requires.1 (omega (arith, c.requires.2)) lines in
+    let part = part_blocks c.narrow.new.buf c.smalls.ensures (omega (arith, c.requires.0, p.sum, c.narrow.ensures.same)) in
+    (omega (arith, c.requires.0, p.sum, part.same, c.narrow.ensures.same), omega (arith, p.marks))
+
+pub smalls-requires-2 : goal.smalls-requires-2
+smalls-requires-2 c =
+    let lines = c.tile_lines-s.ensures in
+    let p = parted c.args.shape.rows c.args.shape.words c.args.shape.far_columns c.requires.1 (omega (arith, c.requires.2)) lines in
+    let part = part_blocks c.narrow.new.buf c.smalls.ensures (omega (arith, c.requires.0, p.sum, c.narrow.ensures.same)) in
+    (omega (arith, c.requires.0, p.sum, part.same, c.turned.ensures.same, c.narrow.ensures.same), omega (arith, lines.room))
 
 pub returns : goal.returns
 returns c =
     let lines = c.tile_lines-s.ensures in
-    let p = parted c.requires lines in
-    wide_turned p.whole c.narrow.ensures c.smalls_from.ensures c.turned.ensures c.smalls.ensures
+    let p = parted c.args.shape.rows c.args.shape.words c.args.shape.far_columns c.requires.1 (omega (arith, c.requires.2)) lines in
+    let part = part_blocks c.narrow.new.buf c.smalls.ensures (omega (arith, c.requires.0, p.sum, c.narrow.ensures.same)) in
+    wide_turned p.whole c.narrow.ensures part c.turned.ensures c.smalls-2.ensures

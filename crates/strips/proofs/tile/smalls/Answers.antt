@@ -1,23 +1,18 @@
 -- `smalls` meets its contract: block by block the buffer is turned.
-use Rattle.lists.proofs.Kit.{◌≡◌, ◌+◌, ◌*◌, ◌≤◌, arith, length}
+use Rattle.lists.proofs.Kit.{◌≡◌, ◌*◌, ◌≤◌, arith, length}
 use Rattle.strips.proofs.Blocks.{all-turned}
 use Rattle.strips.proofs.Tiles.{block_inside, block_more, line_stands}
 use Rattle.strips.proofs.tile.smalls.Goals as goal
 
-pub returns-then-m-eq1 : goal.returns-then-m-eq1
-returns-then-m-eq1 c = line_stands c.then-m-eq1.either
-
-pub slice_bounds-small-end : goal.slice_bounds-small-end
-slice_bounds-small-end c =
-    let words = c.args.m * c.args.n * c.args.g in
-    let inside : c.loop-t.t * words + words ≤ length c.loop-t.buf = block_inside {y = c.args.y} words (omega (arith, c.requires.inside, c.loop-t.invariant.same)) (omega arith) in
-    omega arith
+pub returns-then-is_line : goal.returns-then-is_line
+returns-then-is_line c = line_stands (c.is_line.ensures.0 c.if-is_line.true)
 
 pub loop-t-preserved : goal.loop-t-preserved
 loop-t-preserved c =
-    let words = c.args.m * c.args.n * c.args.g in
-    let inside : c.loop-t.t * words + words ≤ length c.loop-t.buf = block_inside {y = c.args.y} words (omega (arith, c.requires.inside, c.loop-t.invariant.same)) (omega arith) in
-    block_more c.loop-t.invariant inside c.small.ensures
+    let words = c.size-words.result in
+    let same = c.loop-t.invariant.same in
+    let room : c.args.y * words ≤ length c.loop-t.buf = rw c.size-words.ensures (omega (arith, c.requires.0, same)) in
+    block_more c.size-words.ensures c.loop-t.invariant (block_inside words room (omega arith)) c.small.ensures
 
 pub returns : goal.returns
 returns c =

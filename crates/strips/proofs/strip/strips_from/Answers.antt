@@ -1,7 +1,0 @@
--- `strips_from` meets its contract: blocks turned in a part of the buffer are turned where they lie.
-use Rattle.lists.proofs.Kit.{refl}
-use Rattle.strips.proofs.Strips.{part_blocks}
-use Rattle.strips.proofs.strip.strips_from.Goals as goal
-
-pub returns : goal.returns
-returns c = part_blocks refl c.requires.0.inside c.strips.ensures
