@@ -1,10 +1,12 @@
 -- The sizes of strips: a tile takes 8 to 64 lines, the long side is cut in as many lines and a rest, and what is left over, the tiles and the marks have room.
 use Rattle.lists.proofs.Kit.{◌≡◌, ap, subst, List, ⊎_elim, ℕ, ◌+◌, ◌*◌, ◌/◌, ◌%◌, ◌<◌, ◌≤◌, mod-lt, div-add-mod', div-lt_iff_lt-mul, mul-le-mul, mul-le-mul_right, le-mul_of_pos_right, arith, lt-or-ge}
 use Rattle.lists.proofs.Parts.{whole}
+use Rattle.strips.specs.declared.shape.Shape.{Shape}
+use Rattle.strips.specs.PrivateShapes.{size}
 use Rattle.strips.specs.PrivateBounds.{Lines}
 use Rattle.grids.specs.Grids.{GridTurned}
-use Rattle.strips.specs.PrivateSteps.{BlocksTurned, PartTurned, Widened}
-use Rattle.strips.proofs.Strips.{by_rows, by_columns, joined_turn, parted_turn}
+use Rattle.strips.specs.PrivateSteps.{BlocksTurned, Widened}
+use Rattle.strips.proofs.Strips.{PartTurned, by_rows, by_columns, joined_turn, parted_turn}
 
 -- a long side in y times s lines and q left over
 pub record Parted (short long g s y q : ℕ) : Type 0 where
@@ -13,19 +15,14 @@ pub record Parted (short long g s y q : ℕ) : Type 0 where
   pub left : q * (short * g) ≤ 512
   pub some : 0 < y
   pub far : y ≤ 512
-  pub thin : short ≤ 64
-  pub light : g ≤ 64
   pub marks : short * y ≤ 32768
-  pub run : y * s * g ≤ 262144
-  pub chunk : s * g ≤ 4096
-  pub rest : q * g ≤ 512
 
 module _ {short long g s : ℕ} (some : 0 < short) (words : 0 < g) (reach : long ≤ 4096) (narrow : short * g ≤ 64) (enough : 512 < long * (short * g)) (l : Lines (short * g) s) where
   -- no more lines than the long side has
   reaches : s ≤ long
   reaches = ⊎_elim (λ (k : long < s). absurd (omega (arith, enough, l.room, mul-le-mul_right (short * g) k))) (λ (k : s ≤ long). k) (lt-or-ge long s)
 
-  pub parted : Parted short long g s (long / s) (long % s)
+  parted : Parted short long g s (long / s) (long % s)
   parted =
       let y = long / s in
       let pos : 0 < s = omega (arith, l.some) in
@@ -35,8 +32,6 @@ module _ {short long g s : ℕ} (some : 0 < short) (words : 0 < g) (reach : long
       let eight : 8 * y ≤ y * s = omega (arith, mul-le-mul_right y l.some) in
       let few : y ≤ 512 = omega (arith, reach) in
       let thin : short ≤ 64 = omega (arith, narrow, le-mul_of_pos_right short words) in
-      let up : y * s ≤ 4096 = omega (arith, reach) in
-      let light : g ≤ 64 = omega (arith, narrow, le-mul_of_pos_right g some) in
       let left : long % s * (short * g) ≤ 512 = omega (arith, l.room, mul-le-mul_right (short * g) less) in
       record {
         whole = whole;
@@ -44,13 +39,16 @@ module _ {short long g s : ℕ} (some : 0 < short) (words : 0 < g) (reach : long
         left = left;
         some = one;
         far = few;
-        thin = thin;
-        light = light;
         marks = omega (arith, mul-le-mul thin few);
-        run = omega (arith, mul-le-mul up light);
-        chunk = omega (arith, mul-le-mul l.few light);
-        rest = omega (arith, left, le-mul_of_pos_right (long % s * g) some);
       }
+
+-- the rows of a tall strip and the columns of a wide one
+module _ (s : Shape) {k : ℕ} where
+  pub tall : s.n * s.g ≤ 64 → 512 < size s → Lines (s.n * s.g) k → Parted s.n s.m s.g k (s.m / k) (s.m % k)
+  tall narrow enough l = parted s.columns s.words s.far_rows narrow (omega (arith, enough)) l
+
+  pub wide : s.m * s.g ≤ 64 → 512 < size s → Lines (s.m * s.g) k → Parted s.m s.n s.g k (s.n / k) (s.n % k)
+  wide narrow enough l = parted s.rows s.words s.far_columns narrow (omega (arith, enough)) l
 
 -- the steps of a strip are its turn: of a tall one and of a wide one
 pub tall_turned : {m n g s y q : ℕ} {xs vs ws ys zs : List ℕ} → y * s + q ≡ m → BlocksTurned y s n g xs vs → GridTurned y n (s * g) vs ws

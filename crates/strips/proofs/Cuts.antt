@@ -1,15 +1,16 @@
 -- The sizes of large blocks: a side cut in strips of 32 to 64 words or in halves, the strips, the marks of their grid and the lines left over have room.
-use Rattle.lists.proofs.Kit.{◌≡◌, ap, subst, List, ◌⊎◌, inl, inr, ⊎_elim, ℕ, ◌+◌, ◌*◌, ◌-◌, ◌/◌, ◌%◌, ◌<◌, ◌≤◌, div-add-mod', div-lt_iff_lt-mul, mul-le-mul, mul-le-mul_left, mul-le-mul_right, le-mul_of_pos_right, arith, length, lt-or-ge}
+use Rattle.lists.proofs.Kit.{◌≡◌, ap, subst, List, ◌⊎◌, inl, ⊎_elim, ℕ, ◌+◌, ◌*◌, ◌-◌, ◌/◌, ◌%◌, ◌<◌, ◌≤◌, div-add-mod', div-lt_iff_lt-mul, mul-le-mul, mul-le-mul_right, le-mul_of_pos_right, arith, length, lt-or-ge}
 use Rattle.strips.specs.PrivateBounds.{Waiting, Thin, Cut}
 use Rattle.grids.specs.Grids.{GridTurned}
-use Rattle.strips.specs.PrivateSteps.{BlocksTurned, PartTurned, Widened}
+use Rattle.strips.specs.PrivateSteps.{BlocksTurned, Widened}
+use Rattle.strips.proofs.Strips.{PartTurned}
 use Rattle.strips.proofs.Bounds.{tall_turned, wide_turned}
 
 -- a strip has a line
 pub some_lines : {g r : ℕ} → Thin g r → 0 < r
 some_lines {g} {r} c = ⊎_elim (λ (h : r < 1). let z : r ≡ 0 = omega arith in absurd (omega (arith, c.least, ap (λ (k : ℕ). k * g) z))) (λ (h : 1 ≤ r). h) (lt-or-ge r 1)
 
--- lines of 32 to 64 words may be cut off, and halves where elements are long
+-- lines of 32 to 64 words may be cut off
 module _ {x other g : ℕ} (big : 64 < x * g) (few : x * other * g ≤ 1048576) where
   pub cut_thin : {r : ℕ} → Thin g r → Cut x other g r
   cut_thin {r} c =
@@ -25,25 +26,6 @@ module _ {x other g : ℕ} (big : 64 < x * g) (few : x * other * g ≤ 1048576) 
       within : (r : ℕ) → x / r * r + x % r ≡ x → x / r * r ≤ x
       within r whole = omega arith
 
-  pub cut_half : 8 ≤ g → g ≤ 31 → other ≤ 4096 → Cut x other g (x / 2)
-  cut_half long light narrow =
-      let r = x / 2 in
-      let three : 3 ≤ x = ⊎_elim (λ (h : x < 3). absurd (omega (arith, mul-le-mul (two h) light))) (λ (h : 3 ≤ x). h) (lt-or-ge x 3) in
-      let some : 0 < r = omega arith in
-      let whole : x / r * r + x % r ≡ x = div-add-mod' x r in
-      let times : x / r ≤ 3 = ⊎_elim (λ (h : x / r < 4). omega arith) (λ (h : 4 ≤ x / r). absurd (omega (arith, mul-le-mul_right r h))) (lt-or-ge (x / r) 4) in
-      let half : r * 2 ≤ x = omega arith in
-      let eight : x * other * 8 ≤ x * other * g = mul-le-mul_left (x * other) long in
-      record {
-        some = some;
-        low = omega arith;
-        strip = inr (long, omega (arith, mul-le-mul_right other half));
-        marks = omega (arith, mul-le-mul narrow times);
-      }
-    where
-      two : x < 3 → x ≤ 2
-      two h = omega arith
-
 -- a side cut in y times r lines and q left over
 pub record Stripped (x other g r y q : ℕ) : Type 0 where
   pub whole : y * r + q ≡ x
@@ -52,9 +34,7 @@ pub record Stripped (x other g r y q : ℕ) : Type 0 where
   pub some_lines : 0 < r
   pub some_strips : 0 < y
   pub far : y ≤ 4096
-  pub run : y * r ≤ 4096
   pub marks : other * y ≤ 65536
-  pub chunk : r * g ≤ 126976
   pub strip : r * other * g ≤ x * other * g
 
 pub stripped : {x other g r : ℕ} → Cut x other g r → g ≤ 31 → x ≤ 4096 → Stripped x other g r (x / r) (x % r)
@@ -71,15 +51,9 @@ stripped {x} {other} {g} {r} c light far =
       some_lines = c.some;
       some_strips = one;
       far = omega (arith, le-mul_of_pos_right y c.some);
-      run = omega arith;
       marks = c.marks;
-      chunk = omega (arith, mul-le-mul few light);
       strip = omega (arith, mul-le-mul_right (other * g) c.low);
     }
-
--- an element has words, so that a side with more than 64 words is not empty
-some_side : {x : ℕ} (g : ℕ) → 64 < x * g → 0 < x
-some_side {x} g big = ⊎_elim (λ (h : x < 1). let z : x ≡ 0 = omega arith in absurd (omega (arith, ap (λ (k : ℕ). k * g) z))) (λ (h : 1 ≤ x). h) (lt-or-ge x 1)
 
 -- a line that is left over has at most 1,024 words: none is left, or it is the shorter one
 short_line : {x other g r y q : ℕ} → Stripped x other g r y q → 0 < g → x * other * g ≤ 1048576 → (q ≡ 0) ⊎ (other ≤ x) → y * r * g < x * g → other ≤ 1024
