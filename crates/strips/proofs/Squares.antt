@@ -1,6 +1,6 @@
 -- A square turned across its diagonal: row by row, each element before the diagonal trades places with the one that mirrors it. After i rows the elements of the
 -- first i rows and columns stand turned, and the others stand where they stood. A square of words goes by recursion, which takes what it is lent.
-use Rattle.lists.proofs.Kit.{◌≡◌, sym, ap, ◌∙◌, subst, List, ◌++◌, take, drop, length-take-le, ◌⊎◌, inl, inr, ⊎_elim, ℕ, ◌+◌, ◌*◌, ◌-◌, ◌/◌, ◌%◌, ◌<◌, ◌≤◌, mul-le-mul, le-ltb, arith, digits_div, digits_mod, digits_lt, length, get_or, eq-or-ne, lt-or-ge}
+use Rattle.lists.proofs.Kit.{◌≡◌, sym, ap, ◌∙◌, subst, List, ◌++◌, take, drop, length-take-le, ◌⊎◌, inl, inr, ⊎_elim, ℕ, ◌+◌, ◌*◌, ◌-◌, ◌/◌, ◌%◌, ◌<◌, ◌≤◌, le-ltb, arith, digits_div, digits_mod, digits_lt, length, get_or, eq-or-ne, lt-or-ge}
 use borrow.Rule.Slice.PartMut.{mid_of, put_mid}
 use Rattle.layout.specs.Layout.{volume}
 use Rattle.refusals.specs.FirstOf.{first_of}
@@ -11,7 +11,6 @@ use Rattle.flat.proofs.Turn.{volume_two}
 use Rattle.strips.proofs.Blocks.{laid-turned, part_turned}
 use Rattle.moves.specs.Stretch.{Outside, Traded}
 use Rattle.grids.specs.Grids.{GridTurned}
-use Rattle.strips.specs.PrivateBounds.{Square}
 use Rattle.strips.specs.PrivateMoves.{RowCrossed}
 use Rattle.lists.proofs.Words.{same_word, next_run}
 use Rattle.strips.proofs.Strips.{from_words, turn_flat}
@@ -130,29 +129,19 @@ module _ {n g : ℕ} {xs : List ℕ} where
     tail = λ k h. c.tail k h ∙ s.tail k h;
   }
 
-  -- the square still lies in the words
-  pub here : {i : ℕ} {ys : List ℕ} → Square n g xs → SquareTo n g i xs ys → Square n g ys
-  here q s = record { some = q.some; words = q.words; few = q.few; inside = omega (arith, q.inside, s.same) }
-
   pub square_all : {ys : List ℕ} → SquareTo n g n xs ys → GridTurned n n g xs ys
   square_all s = from_words n n g s.same (λ i j u hi hj hu. s.gone i j u hi hj hu) s.tail
 
 -- a square of words, lent as the part of the buffer that it fills, is accepted by the recursion, and comes back turned
-module _ {n : ℕ} {xs : List ℕ} (q : Square n 1 xs) where
-  side : n ≤ 4096
-  side = ⊎_elim (λ (h : 4096 < n). absurd (omega (arith, q.few, mul-le-mul (above h) (above h)))) (λ (h : n ≤ 4096). h) (lt-or-ge 4096 n)
-    where
-      above : 4096 < n → 4097 ≤ n
-      above h = h
-
+module _ {n : ℕ} (xs : List ℕ) (some : 0 < n) (side : n ≤ 4096) (few : n * n ≤ 1048576) (inside : n * n ≤ length xs) where
   exact : length (take (n * n) xs) ≡ volume (sides n n)
-  exact = length-take-le (n * n) xs (omega (arith, q.inside)) ∙ omega (arith, volume_two n n)
+  exact = length-take-le (n * n) xs (omega (arith, inside)) ∙ omega (arith, volume_two n n)
 
   pub lent_accepted : first_of (recursion_checks (sides n n) (take (n * n) xs)) ≡ 0
   lent_accepted =
       rw (
-        range_in n (λ e. omega (arith, q.some)) side,
-        le-ltb 1048576 (volume (sides n n)) (omega (arith, q.few, volume_two n n)),
+        range_in n (λ e. omega (arith, some)) side,
+        le-ltb 1048576 (volume (sides n n)) (omega (arith, few, volume_two n n)),
         not_short (sides n n) (take (n * n) xs) exact,
         not_long (sides n n) (take (n * n) xs) exact,
       )
@@ -160,7 +149,7 @@ module _ {n : ℕ} {xs : List ℕ} (q : Square n 1 xs) where
   -- the same where the part is said to begin at 0
   part_back : {ys : List ℕ} → Turn n n (mid_of 0 (n * n - 0) xs) ys → GridTurned n n 1 xs (put_mid 0 (n * n - 0) xs ys)
   part_back {ys} t =
-      let b = part_turned {m = n} {n = n} {chunk = 1} {base = 0} {end = n * n} {xs = xs} {ys = ys} (omega arith) (omega (arith, q.inside)) (laid-turned (turn_flat t)) in
+      let b = part_turned {m = n} {n = n} {chunk = 1} {base = 0} {end = n * n} {xs = xs} {ys = ys} (omega arith) (omega (arith, inside)) (laid-turned (turn_flat t)) in
       from_words n n 1 b.same
       (λ i j u hi hj hu. same_word (put_mid 0 (n * n - 0) xs ys) (omega arith) ∙ b.placed i j u hi hj hu ∙ same_word xs (omega arith))
       (λ k h. b.others k (inr (omega arith)))

@@ -32,10 +32,3 @@ pub record Cut (x other g r : ℕ) : Type 0 where
   pub low : r ≤ x
   pub strip : (r * g ≤ 64) ⊎ ((8 ≤ g) × (r * other ≤ 65536))
   pub marks : other * (x / r) ≤ 65536
-
--- a square of elements of g words, of sizes that are accepted, lies in the words
-pub record Square (n g : ℕ) (xs : List ℕ) : Type 0 where
-  pub some : 0 < n
-  pub words : 0 < g
-  pub few : n * n * g ≤ 1048576
-  pub inside : n * n * g ≤ length xs

@@ -8,5 +8,5 @@ loop-i-preserved c = square_more (omega arith) c.loop-i.invariant c.cross.ensure
 
 pub returns : goal.returns
 returns c =
-    let e : c.loop-i.i ≡ c.args.n = omega (arith, c.requires.some) in
-    square_all (rw e at c.loop-i.invariant)
+    let e : c.loop-i.i ≡ c.args.shape.n = omega (arith, c.args.shape.columns) in
+    rw c.requires.1 (square_all (rw e at c.loop-i.invariant))
