@@ -169,6 +169,7 @@ pub fn to_frames(offset: i64, ticks: usize) -> Result<i64, Refusal>
     ensures { ToFramesPromise offset ticks (frames_in_c result) }
 {
     check_frames(offset, ticks)?;
+    // Kept: the check leaves at most a million ticks, so `as` keeps the number. `i64::try_from` would answer an error that no call can meet.
     let t = ticks as i64;
     Ok((offset + offset + t).div_euclid(t + t))
 }
@@ -193,6 +194,7 @@ pub fn join(shifts: &[i64], frames: usize) -> Result<Range<i64>, Refusal>
     check_shifts(shifts, frames)?;
     let span = span_of(shifts);
     let first = span.high;
+    // Kept: the check leaves at most 4,096 frames, so `as` keeps the number. `i64::try_from` would answer an error that no call can meet.
     let end = span.low + frames as i64;
     if end <= first {
         return Err(Refusal::NoneCommon);
