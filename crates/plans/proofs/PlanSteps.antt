@@ -1,53 +1,47 @@
 -- What the loops of the plan carry, over an order of r axes: after k places, what is known and what the rest decides. Each loop has a record,
 -- and laws for its begin, one place more and its end: the equations of the definition at place k.
-use Rattle.lists.proofs.Kit.{◌≡◌, refl, sym, ap, ap₂, ◌∙◌, Bool, true, false, cond, List, ◌∷◌, ◌++◌, map, append-nil, ℕ, zero, suc, ◌+◌, ◌-◌, ◌<◌, ◌≤◌, sub-zero, zero-sub, suc-sub-suc, add-one, arith, ltb, length, get_or, drop, set, replicate, length-map, length-replicate, get_or-drop, drop-drop, tab, tab_more, map-tab, tab-get_or, overlaid_rest, overlaid_length, drop_end}
-use Rattle.layout.specs.Layout.{place_of}
+use Rattle.lists.proofs.Kit.{◌≡◌, refl, sym, ap, ap₂, ◌∙◌, Bool, true, false, List, ◌∷◌, ◌++◌, map, append-nil, ℕ, zero, suc, ◌+◌, ◌-◌, ◌<◌, ◌≤◌, sub-zero, zero-sub, suc-sub-suc, add-one, arith, ltb, length, get_or, drop, set, replicate, length-map, length-replicate, get_or-drop, drop-drop, tab, tab_more, map-tab, tab-get_or, overlaid_rest, overlaid_length, drop_end, ⊎_elim, lt-or-ge, ltb-true, ltb-false}
+use Rattle.std.specs.Prelude.{Option, Some, None, IsSome}
+use Rattle.layout.specs.Layout.{place_of, Below}
+use Rattle.layout.proofs.Picks.{below_at}
 use Rattle.orders.specs.Plans.{relabelled, first_back, planned}
 use Rattle.orders.proofs.Plans.{back_here, back_past, length-planned}
+use Rattle.plans.specs.Private.{FoundBelow}
 
--- the first axis whose follower stands before it is looked for: it is none of the first k
-pub record BackSought (r : ℕ) (o : List ℕ) (k : ℕ) : Type 0 where
-  pub few : k ≤ r
-  pub first : first_back r 0 o ≡ first_back (r - k) k o
+-- whether the follower of axis k stands before it
+abbrev pub falls : List ℕ → ℕ → Bool
+falls o k = ltb (place_of (k + 1) o) (place_of k o)
 
-pub seek_back : (r : ℕ) (o : List ℕ) → BackSought r o 0
-seek_back r o = record { few = omega arith; first = ap (λ (n : ℕ). first_back n 0 o) (sym (sub-zero r)) }
+past : (n k : ℕ) (o : List ℕ) → falls o k ≡ false → first_back (suc n) k o ≡ first_back n (k + 1) o
+past n k o e = back_past n k o (rw (← add-one k) (ltb-false (place_of (k + 1) o) (place_of k o) e)) ∙ rw (add-one k)
 
-module _ {r : ℕ} {o : List ℕ} {k : ℕ} (s : BackSought r o k) where
-  pub back_seen : k < r → place_of (k + 1) o < place_of k o → k ≡ first_back r 0 o
-  back_seen h b =
-      let more : r - k ≡ suc (r - (k + 1)) = omega arith in
-      sym (s.first ∙ rw more (back_here (r - (k + 1)) k o (rw (add-one k) at b)))
+-- an axis whose follower stands before it, and none sooner from k on, is the first such
+pub first_falls : (n k i : ℕ) (o : List ℕ) → k ≤ i → i < k + n → falls o i ≡ true → ((j : ℕ) → k ≤ j → j < i → falls o j ≡ false) → i ≡ first_back n k o
+first_falls zero k i o h m e none = absurd (omega arith)
+first_falls (suc n) k i o h m e none =
+    ⊎_elim
+    (λ (l : k < i). first_falls n (k + 1) i o (omega arith) (omega arith) e (λ j g. none j (omega arith)) ∙ sym (past n k o (none k (omega arith) l)))
+    (λ (l : i ≤ k).
+    let here : i ≡ k = omega arith in
+    here ∙ sym (back_here n k o (rw (add-one k) at (ltb-true (place_of (k + 1) o) (place_of k o) (rw here at e)))))
+    (lt-or-ge k i)
 
-  pub back_next : k < r → place_of k o ≤ place_of (k + 1) o → BackSought r o (k + 1)
-  back_next h b =
-      let more : r - k ≡ suc (r - (k + 1)) = omega arith in
-      record { few = omega arith; first = s.first ∙ rw more (back_past (r - (k + 1)) k o (rw (add-one k) at b) ∙ rw (add-one k)) }
-
-  pub back_nowhere : r ≤ k → r ≡ first_back r 0 o
-  unfolding first_back
-  back_nowhere h =
-      let all : k ≡ r = omega arith in
-      let none : r - r ≡ 0 = omega arith in
-      sym (s.first ∙ ap (λ (j : ℕ). first_back (r - j) j o) all ∙ ap (λ (n : ℕ). first_back n r o) none)
-
-pub back_few : (n k : ℕ) (o : List ℕ) → first_back n k o ≤ k + n
+pub none_falls : (n k : ℕ) (o : List ℕ) → ((j : ℕ) → k ≤ j → j < k + n → falls o j ≡ false) → first_back n k o ≡ k + n
 unfolding first_back
-back_few zero k o = omega arith
-back_few (suc n) k o = go (ltb (place_of (suc k) o) (place_of k o)) (back_few n (suc k) o)
-  where
-    go : (t : Bool) → first_back n (suc k) o ≤ suc k + n → cond t k (first_back n (suc k) o) ≤ k + suc n
-    go true h = omega arith
-    go false h = omega arith
+none_falls zero k o none = omega arith
+none_falls (suc n) k o none =
+    past n k o (none k (omega arith) (omega arith)) ∙ none_falls n (k + 1) o (λ j h m. none j (omega arith) (omega arith)) ∙ omega arith
+
+-- what is found below n is a place where the place lies below n
+pub is_found : {n place : ℕ} (found : Option ℕ) → place < n → FoundBelow n place found → IsSome found
+is_found (Some k) h f = refl
+is_found None h f = absurd (omega (arith, f))
 
 -- the axes at the first i places have their new labels
 pub record Labelled (r k : ℕ) (o now : List ℕ) (i : ℕ) : Type 0 where
   pub long : length o ≡ r
   pub few : i ≤ r
   pub filled : now ≡ tab i (λ j. relabelled k (get_or o j 0)) ++ drop i o
-
-pub label_none : {r : ℕ} (k : ℕ) {o : List ℕ} → length o ≡ r → Labelled r k o o 0
-label_none k e = record { long = e; few = omega arith; filled = refl }
 
 module _ {r k : ℕ} {o now : List ℕ} {i : ℕ} (s : Labelled r k o now i) where
   label : ℕ → ℕ
@@ -62,10 +56,6 @@ module _ {r k : ℕ} {o now : List ℕ} {i : ℕ} (s : Labelled r k o now i) whe
         few = omega arith;
         filled = ap₂ (λ (t : List ℕ) (a : ℕ). set t i a) s.filled here ∙ tab_more i label o (omega (arith, s.long));
       }
-
-  pub label_length : length now ≡ length o
-  unfolding label
-  label_length = ap length s.filled ∙ overlaid_length i label o (omega (arith, s.long, s.few))
 
   pub all_labelled : r ≤ i → now ≡ map (relabelled k) o
   unfolding label
@@ -105,6 +95,11 @@ module _ {r n : ℕ} {o swaps rest : List ℕ} {i : ℕ} (s : PlanBegun r n o sw
       ap (λ (j : ℕ). get_or (planned n o) j 0) (omega arith)
       ∙ sym (get_or-drop i (planned n o) 0 0)
       ∙ ap (λ (l : List ℕ). get_or l 0 0) (next h)
+
+  -- where each swap of the plan is below m, the one to come is
+  pub next_below : {m : ℕ} → Below m (planned n o) → i < n → first_back (length rest) 0 rest < m
+  unfolding swap
+  next_below b h = rw (swap_next h) at (below_at b i (omega (arith, length-planned n o)))
 
   pub plan_next : i < n → {k : ℕ} {labelled : List ℕ} → k ≡ first_back (length rest) 0 rest → labelled ≡ map (relabelled k) rest
       → PlanBegun r n o (set swaps i k) labelled (i + 1)

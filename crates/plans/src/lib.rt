@@ -1,7 +1,8 @@
 // The orders of four and of five axes as tables, and the plan of an order.
 #![tactic(auto)]
 
-ghost use Rattle.std.specs.Prelude.{◌≡◌, ◌≤◌, length, take};
+ghost use Rattle.std.specs.Prelude.{◌≡◌, ◌-◌, ◌≤◌, length, take};
+ghost use Rattle.layout.specs.Layout.{Below};
 ghost use Rattle.orders.specs.Numbers.{order_count};
 ghost use Rattle.orders.specs.Plans.{falling, plan_of};
 ghost use Rattle.plans.specs.Promise.{count_of, PlanPromise, plan_as, in_c};
@@ -77,7 +78,8 @@ impl From<Result<Swaps, Refusal>> for Planned {
 
 // The shortest chain that names an order and, among the shortest, the first in dictionary order.
 fn plan_of(axes: &mut [usize]) -> Swaps
-    requires { (length axes.old ≤ 5) × (falling axes.old ≤ 10) }
+    requires few { (length axes.old ≤ 5) × (falling axes.old ≤ 10) }
+    requires found { Below (length axes.old - 1) (plan_of axes.old) }
     ensures { result ≡ plan_as (plan_of axes.old) }
 {
     let count = steps::falling_pairs(axes);

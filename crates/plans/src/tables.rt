@@ -350,6 +350,7 @@ fn successors(axes: Axes, order: usize) -> &'static [usize]
 }
 
 // The number of the order that a swap makes of an order; the count of orders where there is no such order.
+// Kept: the promise that docs/PROMISES.md cites answers the count of orders where there is none, which `plan` refuses.
 pub fn next_order(axes: Axes, order: usize, k: usize) -> usize
     ensures { result ≡ number_of (count_of axes) (exchange k (order_of (count_of axes) order)) }
 {
@@ -375,6 +376,7 @@ fn inverse(axes: Axes, order: usize) -> usize
 }
 
 // The release 1 number of the order that a number names by its release; the count of orders where there is no such order.
+// Kept: the promise that docs/PROMISES.md cites answers the count of orders where there is none, which `plan` refuses.
 pub fn number_by(axes: Axes, release: usize, order: usize) -> usize
     ensures { result ≡ number_by (count_of axes) release order }
 {
