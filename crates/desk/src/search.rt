@@ -4,8 +4,6 @@ ghost use Rattle.desk.specs.Conditions.{far_reading};
 ghost use Rattle.desk.specs.Choice.{exchanges};
 ghost use Rattle.desk.specs.Private.{taken, HeldAs};
 
-use crate::parts::exchange_of;
-
 // The usable exchange of a run with the smallest delay. Where there is none, the delay is negative.
 // Kept: an Option of both would hold a delay that is never negative, and each test of two delays would first take it apart.
 #[derive(Clone, Copy)]
@@ -29,11 +27,11 @@ pub(crate) fn best(run: &[i64]) -> Held
     requires { far_reading run.now ≡ false }
     ensures { HeldAs run.now (exchanges run.now) result.found result.least }
 {
-    let n = run.len() / 4;
+    let (exchanges, _) = run.as_chunks::<4>();
     let mut found = 0;
     let mut least: i64 = -1;
-    for j in 0..n {
-        let measured = crate::offset_delay(exchange_of(run, j)).unwrap();
+    for (j, exchange) in exchanges.iter().enumerate() {
+        let measured = crate::offset_delay(exchange).unwrap();
         let d = measured.delay;
         if beats(d, least) {
             found = j;
