@@ -1,5 +1,5 @@
--- What the loops of the plan carry, over an order of r axes: after k places, what is known and what the rest decides. Each loop has a record,
--- and laws for its begin, one place more and its end: the equations of the definition at place k.
+-- What the search of the plan finds, and what its loops carry, over an order of r axes: after k places, what is known and what the rest decides.
+-- Each loop has a record, and laws for one place more and for its end: the equations of the definition at place k.
 use Rattle.lists.proofs.Kit.{◌≡◌, refl, sym, ap, ap₂, ◌∙◌, Bool, true, false, List, ◌∷◌, ◌++◌, map, append-nil, ℕ, zero, suc, ◌+◌, ◌-◌, ◌<◌, ◌≤◌, sub-zero, zero-sub, suc-sub-suc, add-one, arith, ltb, length, get_or, drop, set, replicate, length-map, length-replicate, get_or-drop, drop-drop, tab, tab_more, map-tab, tab-get_or, overlaid_rest, overlaid_length, drop_end, ⊎_elim, lt-or-ge, ltb-true, ltb-false}
 use Rattle.std.specs.Prelude.{Option, Some, None, IsSome}
 use Rattle.layout.specs.Layout.{place_of, Below}
