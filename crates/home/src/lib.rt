@@ -40,6 +40,8 @@ fn count_of(m: usize, n: usize) -> usize
     let modulus = words - 1;
     let mut power = m % modulus;
     let mut count = 1;
+    // Kept: the loop counts the steps that it makes until one leaves 1, so that there is no range and no list to go through. `iter::successors` goes on
+    // without an end, and `position` asks for one.
     while power != 1 {
         power = power * m % modulus;
         count += 1;
