@@ -52,7 +52,9 @@ fn copy_run(buf: &mut [u32], to: usize, other: &[u32], from: usize, count: usize
     requires { (to + count ≤ length buf.old) × (from + count ≤ length other.now) }
     ensures { Stretch to count (λ u. get_or other.now (from + u) 0) buf.old buf.new }
 {
-    buf[to..to + count].copy_from_slice(&other[from..from + count]);
+    for u in 0..count {
+        buf[to + u] = other[from + u];
+    }
 }
 
 // The columns from j on, all of one tile, receive their words from scratch, where the band stands.
