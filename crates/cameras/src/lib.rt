@@ -8,6 +8,7 @@ ghost use Rattle.refusals.specs.FirstOf.{first_of};
 ghost use Rattle.refusals.specs.Refusal.{answered};
 ghost use Rattle.cameras.specs.Promises.{remove_checks, add_checks, RemovePromise, AddPromise};
 
+use crate::rows::Gap;
 use refusals::Refusal;
 
 // The most words of a block.
@@ -75,7 +76,7 @@ pub fn remove(buf: &mut [u32], frames: usize, cameras: usize, column: usize) -> 
     ensures { RemovePromise frames cameras column buf.old (answered result) buf.new }
 {
     check_remove(buf, frames, cameras, column)?;
-    rows::close(buf, frames, cameras - 1, column);
+    Gap::new(cameras - 1, column).close(buf, frames);
     moves::zero(buf, frames * (cameras - 1), frames);
     Ok(())
 }
@@ -91,6 +92,6 @@ pub fn add(
     ensures { AddPromise frames cameras column words.now buf.old (answered result) buf.new }
 {
     check_add(buf, frames, cameras, column, words)?;
-    rows::open(buf, frames, cameras, column, words);
+    Gap::new(cameras, column).open(buf, frames, words);
     Ok(())
 }

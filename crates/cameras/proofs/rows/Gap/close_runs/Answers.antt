@@ -1,16 +1,15 @@
 -- `close_runs` meets its contract: the runs between the first few and the last few have room for sixteens: they move far enough, and the rows past them
 -- reach as far as what is read.
 use Rattle.lists.proofs.Kit.{suc, ◌+◌, ◌-◌, ◌≤◌, mul-le-mul_right, arith}
-use Rattle.cameras.proofs.rows.close_runs.Goals as goal
+use Rattle.cameras.proofs.rows.Gap.close_runs.Goals as goal
 
-pub close_range-requires-2 : goal.close_range-requires-2
-close_range-requires-2 c =
-    let n = c.args.n in
+pub close-requires-2 : goal.close-requires-2
+close-requires-2 c =
+    let n = c.args.self.n in
     let high = c.args.last - c.min.result in
     let up : high ≤ c.args.last = omega arith in
     record {
       order = omega (arith, c.min.ensures, c.min-low.ensures);
-      low = omega arith;
       all = omega arith;
       inside = omega (arith, mul-le-mul_right (suc n) up);
       room = λ some.

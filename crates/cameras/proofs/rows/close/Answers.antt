@@ -1,9 +1,0 @@
--- `close` meets its contract: the runs close up, then the words behind the column of the last row.
-use Rattle.lists.proofs.Kit.{inl, arith}
-use Rattle.cameras.proofs.Runs.{none_closed, all_closed, last_row}
-use Rattle.cameras.proofs.rows.close.Goals as goal
-
-pub returns : goal.returns
-returns c =
-    let ends = last_row c.args.frames c.args.n (omega arith) in
-    all_closed (omega arith) (c.close_runs.ensures _ (none_closed (omega arith))) (omega arith) (omega arith) (c.fall.ensures.inside (omega (arith, ends), omega (arith, ends), inl (omega arith)))
