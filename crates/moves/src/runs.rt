@@ -11,7 +11,7 @@ pub(crate) fn copied(buf: &mut [u32], to: usize, other: &[u32], from: usize, cou
     ensures { Stretch to count (λ u. get_or other.now (from + u) 0) buf.old buf.new }
 {
     if count < 8 || 128 < count {
-        buf[to..to + count].copy_from_slice(&other[from..from + count]);
+        words::copy_words(buf, to, other, from, count);
         return;
     }
     pieces::copy_pieces(buf, to, other, from, count);

@@ -1,7 +1,18 @@
-// Words of one buffer moved, zeroed and traded one by one.
+// Words moved, zeroed and traded one by one.
 ghost use Rattle.std.specs.Prelude.{◌+◌, ◌≤◌, length, get_or};
 ghost use Rattle.moves.specs.Stretch.{Stretch, Traded};
 ghost use Rattle.moves.specs.Promises.{Ahead, Apart};
+
+// Word to + u of one buffer receives word from + u of another.
+pub(crate) fn copy_words(buf: &mut [u32], to: usize, other: &[u32], from: usize, count: usize)
+    requires { (to + count ≤ length buf.old) × (from + count ≤ length other.now) }
+    ensures { Stretch to count (λ u. get_or other.now (from + u) 0) buf.old buf.new }
+{
+    // Kept: `copy_from_slice` of so many words calls memmove, and the archive asks the C library for memcpy and memset alone, as the header says.
+    for u in 0..count {
+        buf[to + u] = other[from + u];
+    }
+}
 
 // Moves words to a place before them or apart from them, the first first, so that none is overwritten before it is read.
 pub(crate) fn fall_words(buf: &mut [u32], to: usize, from: usize, count: usize)

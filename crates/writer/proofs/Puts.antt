@@ -1,8 +1,9 @@
 -- Texts put one behind the other: what is left to be put leads to the whole. From the law of runs of stores.
-use Rattle.lists.proofs.Kit.{◌≡◌, refl, sym, ap, ◌∙◌, List, [], ◌∷◌, ◌++◌, append-nil, append_assoc, ℕ, ◌+◌, ◌<◌, ◌≤◌, arith, length, take, drop, drop-drop, sets-eq, get_or, length-append, drop_of_length-le, sets, length-sets, drop-next}
+use Rattle.lists.proofs.Kit.{◌≡◌, refl, sym, ap, ◌∙◌, List, [], ◌∷◌, ◌++◌, append-nil, suc, take-suc, take_all, set, append_assoc, ℕ, ◌+◌, ◌<◌, ◌≤◌, arith, length, take, drop, drop-drop, sets-eq, get_or, length-append, drop_of_length-le, sets, length-sets, drop-next}
 use Rattle.sheets.specs.Print.{tab_byte, decimal, field, fields}
 use Rattle.writer.specs.PrivateBytes.{Room, Put}
 use Rattle.sheets.proofs.Stores.{sets-append}
+use Rattle.std.proofs.Math.Seq.{take-suc-set}
 use borrow.Rule.Slice.PartMut.{put_mid}
 
 -- what is left, put at p, is the whole text, put at `at`, and the whole text has room
@@ -103,3 +104,13 @@ module _ {out : List ℕ} {at : ℕ} {text : List ℕ} (s t u : List ℕ) (parts
   pub three_put : {a b next : ℕ} {out₁ out₂ out₃ : List ℕ} → Put out at s a out₁ → Put out₁ a t b out₂ → Put out₂ b u next out₃
       → Put out at text next out₃
   three_put p q e = leads_end (leads_step u [] (third p q) e)
+
+-- bytes overwritten from the front by those of a text
+pub one_byte_more : (i : ℕ) (place text : List ℕ) → i < length place → i < length text → take i place ≡ take i text
+    → take (i + 1) (set place i (get_or text i 0)) ≡ take (i + 1) text
+one_byte_more i place text h k e =
+    let next : i + 1 ≡ suc i = omega arith in
+    rw next (take-suc-set place i (get_or text i 0) h ∙ ap (λ (l : List ℕ). l ++ (get_or text i 0 ∷ [])) e ∙ sym (take-suc text i 0 k))
+
+pub whole_text : (i : ℕ) (place text : List ℕ) → length place ≤ i → length text ≤ i → take i place ≡ take i text → place ≡ text
+whole_text i place text h k e = sym (take_all i place h) ∙ e ∙ take_all i text k

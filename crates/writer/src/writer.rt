@@ -11,6 +11,17 @@ pub(crate) struct Writer<'a> {
     at: usize,
 }
 
+// Overwrites bytes by a text that is as long.
+fn overwrite(place: &mut [u8], text: &[u8])
+    requires { length place.old ≡ length text.now }
+    ensures { place.new ≡ text.now }
+{
+    // Kept: `copy_from_slice` of so many bytes calls memmove, and the archive asks the C library for memcpy and memset alone, as the header says.
+    for i in 0..text.len() {
+        place[i] = text[i];
+    }
+}
+
 impl<'a> Writer<'a> {
     // A writer at the start of the bytes.
     pub(crate) fn new(out: &'a mut [u8]) -> Writer<'a>
@@ -34,7 +45,7 @@ impl<'a> Writer<'a> {
         ensures put { Writes self.old text.now self.new }
     {
         let end = self.at + text.len();
-        self.out[self.at..end].copy_from_slice(text);
+        overwrite(&mut self.out[self.at..end], text);
         self.at = end;
     }
 

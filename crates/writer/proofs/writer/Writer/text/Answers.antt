@@ -5,5 +5,5 @@ use Rattle.writer.proofs.writer.Writer.text.Goals as goal
 
 pub returns-clause-put : goal.returns-clause-put
 returns-clause-put c =
-    rw c.copy_from_slice.ensures.after
+    rw c.overwrite.ensures
     (record { place = refl; bytes = overwritten c.args.self.now.at _ c.args.self.now.out.now c.args.text.now (omega arith) c.requires.fits })
