@@ -29,6 +29,7 @@ pub struct Offset {
 }
 
 // What C sees of an offset and a delay: the number, and both, 0 where the call was refused.
+// Kept: the C interface reads a number and the values beside it.
 #[repr(C)]
 #[derive(Clone, Copy)]
 pub struct Measured {
@@ -57,6 +58,7 @@ impl From<Result<Offset, Refusal>> for Measured {
 }
 
 // What C sees of an offset in frames: the number, and the frames, 0 where the call was refused.
+// Kept: the C interface reads a number and the values beside it.
 #[repr(C)]
 #[derive(Clone, Copy)]
 pub struct Frames {
@@ -79,6 +81,7 @@ impl From<Result<i64, Refusal>> for Frames {
 }
 
 // What C sees of joining: the number, and the common frames, which run from first up to, not including, end; 0 and 0 where the call was refused.
+// Kept: the C interface reads a number and the values beside it.
 #[repr(C)]
 #[derive(Clone, Copy)]
 pub struct Joined {

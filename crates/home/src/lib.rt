@@ -7,6 +7,7 @@ ghost use Rattle.home.specs.Promise.{Counts, RepeatsPromise, in_c};
 use refusals::Refusal;
 
 // What C sees of the answer: its number, and the count of repeats.
+// Kept: the C interface reads a number and the values beside it.
 #[repr(C)]
 #[derive(Clone, Copy)]
 pub struct Home {

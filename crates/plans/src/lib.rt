@@ -46,6 +46,7 @@ pub struct Swaps {
 }
 
 // What C sees of the answer: its number, and the plan.
+// Kept: the C interface reads a number and the values beside it.
 #[repr(C)]
 #[derive(Clone, Copy)]
 pub struct Planned {
