@@ -1,6 +1,11 @@
 -- Each promise leaves one outcome: any two that it allows from the same entry coincide, answer and both slices. Where a call is accepted, two
 -- layouts of one order are equal; where it is refused, all is as it was.
-use Rattle.lists.proofs.Kit.{◌≡◌, sym, ap, ◌∙◌, subst, List, ℕ, ◌<◌, length}
+use Rattle.std.specs.Prelude.{Result, Ok, Err}
+use Rattle.refusals.specs.declared.Refusal.{Refusal}
+use Rattle.refusals.specs.declared.Refused.{Refused}
+use Rattle.refusals.proofs.Numbers.{refuses, one_refusal}
+use Rattle.axes.specs.declared.Reached.{Reached}
+use Rattle.lists.proofs.Kit.{◌≡◌, sym, ap, ap₂, ◌∙◌, subst, List, ℕ, ◌<◌, length}
 use Rattle.layout.specs.Layout.{Laid}
 use Rattle.orders.specs.Numbers.{order_count}
 use Rattle.orders.specs.Releases.{order_by}
@@ -10,7 +15,7 @@ use Rattle.refusals.specs.FirstOf.{Check, first_of}
 use Rattle.refusals.specs.Promise.{Rearranged}
 use Rattle.refusals.proofs.Promise.{either_way, one_outcome}
 use Rattle.axes.specs.declared.Answer.{Answer}
-use Rattle.axes.specs.Answers.{refused, refused_place}
+use Rattle.axes.specs.Answers.{refused, refused_place, in_c}
 use Rattle.axes.specs.Promises.{ChainPromise, RequestPromise}
 use Rattle.axes.proofs.Accepted.{request_order}
 
@@ -53,3 +58,13 @@ request_once {r} {ds} {release} {order} {xs} {ss} axes p q =
       words,
       scratch,
     )
+
+-- an answer is told by what C sees of it
+pub one_answer : (x y : Result Reached Refused) → in_c x ≡ in_c y → x ≡ y
+one_answer (Ok a) (Ok b) e = ap (λ (n : Answer). let reached : Reached = record { lengths = n.lengths; order = n.order; swaps = n.swaps } in Ok reached) e
+one_answer (Ok a) (Err s) e = absurd (refuses s.refusal (sym (ap (λ (n : Answer). n.number) e)))
+one_answer (Err r) (Ok b) e = absurd (refuses r.refusal (ap (λ (n : Answer). n.number) e))
+one_answer (Err r) (Err s) e =
+    ap₂ (λ (w : Refusal) (p : ℕ). let refused : Refused = record { refusal = w; place = p } in Err refused)
+    (one_refusal r.refusal s.refusal (ap (λ (n : Answer). n.number) e))
+    (ap (λ (n : Answer). n.place) e)

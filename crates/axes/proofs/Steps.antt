@@ -140,13 +140,13 @@ module _ {r : ℕ} (ds : List ℕ) (axes : length ds ≡ r) (k : ℕ) (h : k + 1
   -- what the adjacent swap leaves, told the words before and after the two axes: the words of the swapped shape, and scratch cleared
   pub swap_leaves : (ss : List ℕ) → swap_need k ds ≤ length ss → {before after number : ℕ} {ys ts : List ℕ} → before ≡ capped (volume (take k ds))
       → after ≡ capped (volume (drop (k + 2) ds)) → SwapPromise before (get_or ds k 0) (get_or ds (k + 1) 0) after xs ss number ys ts
-      → Laid ds (exchange k (upto r)) xs ys × (ts ≡ cleared (swap_need k ds) ss)
+      → (number ≡ 0) × Laid ds (exchange k (upto r)) xs ys × (ts ≡ cleared (swap_need k ds) ss)
   unfolding outer chunk m n
   swap_leaves ss room {number = number} {ys = ys} {ts = ts} e d p =
       let q : SwapPromise outer m n chunk xs ss number ys ts =
       subst₂ (λ (a b : ℕ). SwapPromise a m n b xs ss number ys ts) (e ∙ outer_few) (d ∙ chunk_few) p in
       let zero_is : number ≡ 0 = q.number_is ∙ swap_accepted ss room in
-      (swap_laid (q.words zero_is), q.zeroed zero_is ∙ ap (λ (w : ℕ). cleared w ss) swap_need_lem)
+      (zero_is, swap_laid (q.words zero_is), q.zeroed zero_is ∙ ap (λ (w : ℕ). cleared w ss) swap_need_lem)
 
 -- an empty chain
 pub laid_itself : (ds xs : List ℕ) → Laid ds (named (length ds) []) xs xs

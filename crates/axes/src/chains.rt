@@ -1,5 +1,5 @@
 // Swaps and chains of swaps on a block. The lengths that are read are lent as a slice, as many as there are axes.
-ghost use Rattle.std.specs.Prelude.{◌≡◌, ◌≤◌, length, take};
+ghost use Rattle.std.specs.Prelude.{◌≡◌, ◌≤◌, Ok, length, take};
 ghost use Rattle.lists.specs.Tab.{upto};
 ghost use Rattle.layout.specs.Layout.{Laid};
 ghost use Rattle.orders.specs.Chains.{exchange};
@@ -7,33 +7,43 @@ ghost use Rattle.orders.specs.Needs.{swap_need};
 ghost use Rattle.refusals.specs.FirstOf.{first_of};
 ghost use Rattle.refusals.specs.Calls.{chain_checks};
 ghost use Rattle.refusals.specs.Scratch.{cleared};
+ghost use Rattle.plans.specs.Promise.{count_of};
+ghost use Rattle.axes.specs.Answers.{refused_place, number_at, place_at, in_c};
 ghost use Rattle.axes.specs.Promises.{ChainPromise};
-ghost use Rattle.axes.specs.Private.{FourOrFive, SwapAccepted};
+ghost use Rattle.axes.specs.Private.{SwapAccepted};
 
-use crate::{Answer, Shape, sizes};
+use crate::{Reached, Shape};
+use plans::Axes;
+use refusals::{Refusal, Refused};
 
-// The first of the checks 1, 2, 3, 13, 5, 6, 4.
-pub(crate) fn chain_number(lengths: &[usize], buf: &[u32], scratch: &[u32], swaps: &[usize]) -> u32
+// The most swaps of a chain.
+const MOST_SWAPS: usize = 32;
+
+// The checks 1, 2, 3, 13, 5, 6, 4.
+pub(crate) fn check_chain(
+    lengths: &[usize],
+    buf: &[u32],
+    scratch: &[u32],
+    swaps: &[usize],
+) -> Result<(), Refused>
     requires { 2 ≤ length lengths.now }
-    ensures { result ≡ first_of (chain_checks (length lengths.now) lengths.now buf.now scratch.now swaps.now) }
+    ensures number { number_at result ≡ first_of (chain_checks (length lengths.now) lengths.now buf.now scratch.now swaps.now) }
+    ensures place { place_at result ≡ refused_place (length lengths.now) (number_at result) swaps.now }
 {
-    let number = checks::block_number(lengths, buf);
-    if number != 0 {
-        return number;
+    checks::check_block(lengths, buf)?;
+    if MOST_SWAPS < swaps.len() {
+        return Err(Refusal::LongChain.into());
     }
-    let count = swaps.len();
-    if count > 32 {
-        return 5;
+    if let Some(place) = checks::first_above(swaps, lengths.len() - 2) {
+        return Err(Refused {
+            refusal: Refusal::BadSwap,
+            place,
+        });
     }
-    let bad = checks::first_above(swaps, lengths.len() - 2);
-    if bad < count {
-        return 6;
+    if scratch.len() < checks::need_of(lengths, swaps) {
+        return Err(Refusal::ShortScratch.into());
     }
-    let need = checks::need_of(lengths, swaps);
-    if scratch.len() < need {
-        return 4;
-    }
-    0
+    Ok(())
 }
 
 // Swap k of a block: the axes before place k, the two axes and the axes after them. It leaves as many zeros in scratch as the longer axis is long.
@@ -44,38 +54,33 @@ fn swap_at(buf: &mut [u32], scratch: &mut [u32], lengths: &[usize], k: usize)
 {
     let outer = checks::words_of(&lengths[..k]);
     let chunk = checks::words_of(&lengths[k + 2..]);
-    let m = lengths[k];
-    let n = lengths[k + 1];
-    strips::swap(buf, scratch, outer, m, n, chunk);
+    strips::swap(buf, scratch, outer, lengths[k], lengths[k + 1], chunk).unwrap();
 }
 
 // An accepted chain, swap by swap; each swap clears the scratch that it used.
 pub(crate) fn run(
+    axes: Axes,
     buf: &mut [u32],
     scratch: &mut [u32],
     shape: Shape,
-    axes: usize,
     swaps: &[usize],
-) -> Answer
-    requires { FourOrFive axes × (first_of (chain_checks axes (take axes shape.lengths) buf.old scratch.old swaps.now) ≡ 0) }
-    ensures { ChainPromise axes (take axes shape.lengths) swaps.now buf.old scratch.old result buf.new scratch.new }
+) -> Reached
+    requires { first_of (chain_checks (count_of axes) (take (count_of axes) shape.lengths) buf.old scratch.old swaps.now) ≡ 0 }
+    ensures { ChainPromise (count_of axes) (take (count_of axes) shape.lengths) swaps.now buf.old scratch.old (in_c (Ok result)) buf.new scratch.new }
 {
+    let count = axes.count();
     let mut stands = shape;
     let mut order = 0;
-    for i in 0..swaps.len() {
-        let k = swaps[i];
+    for &k in swaps {
         let lengths = stands.lengths;
-        swap_at(buf, scratch, &lengths[..axes], k);
-        stands = stands.swapped(axes, k);
-        order = sizes::next_order(axes, order, k);
+        swap_at(buf, scratch, &lengths[..count], k);
+        stands = stands.swapped(count, k);
+        order = plans::tables::next_order(axes, order, k);
     }
-    let left = stands.first(axes);
-    let last = left.lengths;
-    Answer {
-        number: 0,
-        place: 0,
-        lengths: last,
-        order: order,
+    let lengths = stands.first(count).lengths;
+    Reached {
+        lengths,
+        order,
         swaps: swaps.len(),
     }
 }

@@ -3,12 +3,14 @@
 
 ghost use Rattle.std.specs.Prelude.{◌≡◌, ◌+◌, ◌<◌, length, take};
 ghost use Rattle.orders.specs.Chains.{exchange};
-ghost use Rattle.axes.specs.Answers.{five_lengths, refused, asked_for};
-ghost use Rattle.axes.specs.Private.{FourOrFive};
+ghost use Rattle.plans.specs.Promise.{count_of};
+ghost use Rattle.axes.specs.Answers.{five_lengths, in_c};
 ghost use Rattle.axes.specs.Promises.{ChainPromise, RequestPromise};
 
 mod chains;
-mod sizes;
+
+use plans::Axes;
+use refusals::Refused;
 
 // The lengths of up to five axes, last axis fastest. A call on four axes does not read the fifth.
 #[repr(C)]
@@ -22,14 +24,9 @@ impl Shape {
     pub(crate) fn first(self, axes: usize) -> Shape
         ensures { result.lengths ≡ five_lengths (take axes self.lengths) }
     {
-        if 4 < axes {
-            return self;
-        }
         let mut lengths = self.lengths;
-        for k in axes..5 {
-            lengths[k] = 0;
-        }
-        Shape { lengths: lengths }
+        lengths[axes.min(5)..].fill(0);
+        Shape { lengths }
     }
 
     // The shape of so many axes with those at places k and k + 1 exchanged. Where they have no such places nothing changes; lengths past them come back 0.
@@ -37,30 +34,27 @@ impl Shape {
         ensures { result.lengths ≡ five_lengths (exchange k (take axes self.lengths)) }
     {
         let stands = self.first(axes);
-        if 3 < k {
-            return stands;
-        }
-        if axes < k + 2 {
+        if 3 < k || axes < k + 2 {
             return stands;
         }
         let mut lengths = stands.lengths;
-        exchange_at(&mut lengths, k);
-        Shape { lengths: lengths }
+        lengths.swap(k, k + 1);
+        Shape { lengths }
     }
 }
 
-// Exchanges the lengths at places k and k + 1.
-fn exchange_at(lengths: &mut [usize], k: usize)
-    requires { k + 1 < length lengths.old }
-    ensures { lengths.new ≡ exchange k lengths.old }
-{
-    let first = lengths[k];
-    lengths[k] = lengths[k + 1];
-    lengths[k + 1] = first;
+// What an accepted call on a block reaches: the five new lengths (of four axes the last is 0), an order number (a chain's own order in release 1; of a
+// request the number that was asked for), the swaps done.
+// Kept: without a heap the lengths of four axes or five stand in an array of five.
+#[derive(Clone, Copy)]
+pub struct Reached {
+    pub lengths: [usize; 5],
+    pub order: usize,
+    pub swaps: usize,
 }
 
-// What a call on a block answers: its number, its place, the five new lengths (of four axes the last is 0), an order number (a chain's own order in
-// release 1; of a request the number that was asked for), the swaps done.
+// What C sees of the answer: its number and its place, and what the call reached, all 0 where it was refused.
+// Kept: the C interface reads a number and the values beside it.
 #[repr(C)]
 #[derive(Clone, Copy)]
 pub struct Answer {
@@ -71,124 +65,65 @@ pub struct Answer {
     pub swaps: usize,
 }
 
-// The answer of a refused call.
-fn refusal(number: u32, place: usize) -> Answer
-    ensures { result ≡ refused number place }
-{
-    Answer {
-        number: number,
-        place: place,
-        lengths: [0; 5],
-        order: 0,
-        swaps: 0,
+impl From<Result<Reached, Refused>> for Answer {
+    ghost from_gives = { λ answer seen. seen ≡ in_c answer };
+
+    fn from(answer: Result<Reached, Refused>) -> Answer {
+        match answer {
+            Ok(reached) => {
+                let lengths = reached.lengths;
+                Answer {
+                    number: 0,
+                    place: 0,
+                    lengths,
+                    order: reached.order,
+                    swaps: reached.swaps,
+                }
+            }
+            Err(refused) => Answer {
+                number: refused.refusal.number(),
+                place: refused.place,
+                lengths: [0; 5],
+                order: 0,
+                swaps: 0,
+            },
+        }
     }
 }
 
-// The answer of a chain as that of the request for an order: the number that was asked for in the place of the one that the chain names.
-fn asked(done: Answer, order: usize) -> Answer
-    ensures { result ≡ asked_for order done }
-{
-    if done.number != 0 {
-        return done;
-    }
-    let lengths = done.lengths;
-    Answer {
-        number: 0,
-        place: done.place,
-        lengths: lengths,
-        order: order,
-        swaps: done.swaps,
-    }
-}
-
-// A chain of swaps on a block of so many axes, through scratch as long as the longest axis that it exchanges: 0, or 1, 2, 3, 13, 5, 6, 4.
-fn chain_on(
+// A chain of swaps on a block, through scratch as long as the longest axis that it exchanges; or 1, 2, 3, 13, 5, 6 with the place of the first wrong
+// swap, 4.
+pub fn chain(
+    axes: Axes,
     buf: &mut [u32],
     scratch: &mut [u32],
     shape: Shape,
-    axes: usize,
     swaps: &[usize],
-) -> Answer
-    requires { FourOrFive axes }
-    ensures { ChainPromise axes (take axes shape.lengths) swaps.now buf.old scratch.old result buf.new scratch.new }
+) -> Result<Reached, Refused>
+    ensures { ChainPromise (count_of axes) (take (count_of axes) shape.lengths) swaps.now buf.old scratch.old (in_c result) buf.new scratch.new }
 {
     let lengths = shape.lengths;
-    let number = chains::chain_number(&lengths[..axes], buf, scratch, swaps);
-    if number == 6 {
-        let place = checks::first_above(swaps, axes - 2);
-        return refusal(6, place);
-    }
-    if number != 0 {
-        return refusal(number, 0);
-    }
-    chains::run(buf, scratch, shape, axes, swaps)
+    chains::check_chain(&lengths[..axes.count()], buf, scratch, swaps)?;
+    Ok(chains::run(axes, buf, scratch, shape, swaps))
 }
 
-// The direct request for the order of so many axes that a number names by its release, which runs that order's plan and needs what the plan needs: 0, or
-// 1, 2, 3, 13, 14, 7, 4. It answers the number that it was given.
-fn request_on(
-    buf: &mut [u32],
-    scratch: &mut [u32],
-    shape: Shape,
-    axes: usize,
-    release: usize,
-    order: usize,
-) -> Answer
-    requires { FourOrFive axes }
-    ensures { RequestPromise axes (take axes shape.lengths) release order buf.old scratch.old result buf.new scratch.new }
-{
-    let lengths = shape.lengths;
-    let number = checks::block_number(&lengths[..axes], buf);
-    if number != 0 {
-        return refusal(number, 0);
-    }
-    let unnamed = checks::named_number(sizes::last_order(axes), release, order);
-    if unnamed != 0 {
-        return refusal(unnamed, 0);
-    }
-    let planned = sizes::plan_of(axes, sizes::number_by(axes, release, order));
-    let swaps = planned.swaps;
-    let count = planned.count;
-    let done = chain_on(buf, scratch, shape, axes, &swaps[..count]);
-    asked(done, order)
-}
-
-// A chain of swaps on a block of four axes.
-pub fn chain(buf: &mut [u32], scratch: &mut [u32], shape: Shape, swaps: &[usize]) -> Answer
-    ensures { ChainPromise 4 (take 4 shape.lengths) swaps.now buf.old scratch.old result buf.new scratch.new }
-{
-    chain_on(buf, scratch, shape, 4, swaps)
-}
-
-// A chain of swaps on a block of five axes.
-pub fn chain5(buf: &mut [u32], scratch: &mut [u32], shape: Shape, swaps: &[usize]) -> Answer
-    ensures { ChainPromise 5 (take 5 shape.lengths) swaps.now buf.old scratch.old result buf.new scratch.new }
-{
-    chain_on(buf, scratch, shape, 5, swaps)
-}
-
-// The direct request for an order of four axes.
+// The direct request for the order that a number names by its release, which runs that order's plan and needs what the plan needs; or 1, 2, 3, 13, 14, 7,
+// 4. It answers the number that it was given.
 pub fn request(
+    axes: Axes,
     buf: &mut [u32],
     scratch: &mut [u32],
     shape: Shape,
     release: usize,
     order: usize,
-) -> Answer
-    ensures { RequestPromise 4 (take 4 shape.lengths) release order buf.old scratch.old result buf.new scratch.new }
+) -> Result<Reached, Refused>
+    ensures { RequestPromise (count_of axes) (take (count_of axes) shape.lengths) release order buf.old scratch.old (in_c result) buf.new scratch.new }
 {
-    request_on(buf, scratch, shape, 4, release, order)
-}
-
-// The direct request for an order of five axes.
-pub fn request5(
-    buf: &mut [u32],
-    scratch: &mut [u32],
-    shape: Shape,
-    release: usize,
-    order: usize,
-) -> Answer
-    ensures { RequestPromise 5 (take 5 shape.lengths) release order buf.old scratch.old result buf.new scratch.new }
-{
-    request_on(buf, scratch, shape, 5, release, order)
+    let lengths = shape.lengths;
+    checks::check_block(&lengths[..axes.count()], buf)?;
+    checks::check_named(axes.orders() - 1, release, order)?;
+    let plan = plans::plan(axes, plans::tables::number_by(axes, release, order)).unwrap();
+    let places = plan.places;
+    let reached = chain(axes, buf, scratch, shape, &places[..plan.count])?;
+    Ok(Reached { order, ..reached })
 }

@@ -1,3 +1,4 @@
 pub mod Columns
 pub mod Promises
+pub mod PrivateGap
 pub mod Private

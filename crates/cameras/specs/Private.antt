@@ -18,12 +18,10 @@ pub record OpenedFrom (r frames n k : ℕ) (column xs ys : List ℕ) : Type 0 wh
 -- runs that open: the last run of them ends in the buffer, and what is taken along with a run neither starts before the buffer nor is still to be read
 pub record RunsOpen (t : Runs) (column buf : List ℕ) : Type 0 where
   pub order : t.low ≤ t.high
-  pub some : 0 < t.n
-  pub low : t.k ≤ t.n
-  pub all : t.n ≤ t.wide
+  pub all : t.gap.n ≤ t.wide
   pub words : t.high < length column
-  pub inside : t.high * suc t.n + t.k ≤ length buf
-  pub room : t.low < t.high → (t.wide ≤ t.n + t.low + 1) × (t.wide ≤ t.n + t.low + t.k)
+  pub inside : t.high * suc t.gap.n + t.gap.k ≤ length buf
+  pub room : t.low < t.high → (t.wide ≤ t.gap.n + t.low + 1) × (t.wide ≤ t.gap.n + t.low + t.gap.k)
 
 -- if the runs from high on had opened, and the last row, then those from low on have
 abbrev pub RunsOpened : ℕ → ℕ → ℕ → ℕ → List ℕ → List ℕ → List ℕ → Type 0
@@ -39,10 +37,9 @@ pub record ClosedTo (r n k : ℕ) (xs ys : List ℕ) : Type 0 where
 -- runs that close up: the last run of them ends in the buffer, and what is taken along with a run lies in the buffer and before the next
 pub record RunsClose (t : Runs) (buf : List ℕ) : Type 0 where
   pub order : t.low ≤ t.high
-  pub low : t.k ≤ t.n
-  pub all : t.n ≤ t.wide
-  pub inside : t.high * suc t.n + t.k ≤ length buf
-  pub room : t.low < t.high → (t.wide ≤ t.n + t.low + 1) × (t.high * suc t.n + t.k + t.wide ≤ t.n + length buf)
+  pub all : t.gap.n ≤ t.wide
+  pub inside : t.high * suc t.gap.n + t.gap.k ≤ length buf
+  pub room : t.low < t.high → (t.wide ≤ t.gap.n + t.low + 1) × (t.high * suc t.gap.n + t.gap.k + t.wide ≤ t.gap.n + length buf)
 
 -- if the runs before low had closed up, then those before high have
 abbrev pub RunsClosed : ℕ → ℕ → ℕ → ℕ → List ℕ → List ℕ → Type 0

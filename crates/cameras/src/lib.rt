@@ -3,99 +3,95 @@
 
 mod rows;
 
-ghost use Rattle.std.specs.Prelude.{◌≡◌, ◌-◌};
+ghost use Rattle.std.specs.Prelude.{◌≡◌};
 ghost use Rattle.refusals.specs.FirstOf.{first_of};
+ghost use Rattle.refusals.specs.Refusal.{answered};
 ghost use Rattle.cameras.specs.Promises.{remove_checks, add_checks, RemovePromise, AddPromise};
+
+use crate::rows::Gap;
+use refusals::Refusal;
 
 // The most words of a block.
 const MOST_WORDS: usize = 1048576;
 
-// One camera less; none less than none.
-fn one_less(cameras: usize) -> usize
-    ensures { result ≡ cameras - 1 }
-{
-    if cameras == 0 {
-        return 0;
-    }
-    cameras - 1
-}
+// The most cameras of a block.
+const MOST_CAMERAS: usize = 4096;
 
 // Removing: 1, 2, 3, 16.
-fn remove_number(buf: &[u32], frames: usize, cameras: usize, column: usize) -> u32
-    ensures { result ≡ first_of (remove_checks frames cameras column buf.now) }
+fn check_remove(buf: &[u32], frames: usize, cameras: usize, column: usize) -> Result<(), Refusal>
+    ensures { answered result ≡ first_of (remove_checks frames cameras column buf.now) }
 {
-    let after = one_less(cameras);
-    let lengths = [frames, cameras, after];
-    if checks::bad_length(&lengths) {
-        return 1;
+    let after = cameras.saturating_sub(1);
+    if checks::bad_length(&[frames, cameras, after]) {
+        return Err(Refusal::BadLength);
     }
-    let sides = [frames, cameras];
-    let words = checks::words_of(&sides);
+    let words = checks::words_of(&[frames, cameras]);
     if MOST_WORDS < words {
-        return 2;
+        return Err(Refusal::TooManyWords);
     }
     if buf.len() < words {
-        return 3;
+        return Err(Refusal::ShortBuffer);
     }
     if after < column {
-        return 16;
+        return Err(Refusal::BadColumn);
     }
-    0
+    Ok(())
 }
 
 // Adding: 1, 2, 2, 3, 16, 17, 25.
-fn add_number(buf: &[u32], frames: usize, cameras: usize, column: usize, words: &[u32]) -> u32
-    ensures { result ≡ first_of (add_checks frames cameras column words.now buf.now) }
+fn check_add(
+    buf: &[u32],
+    frames: usize,
+    cameras: usize,
+    column: usize,
+    words: &[u32],
+) -> Result<(), Refusal>
+    ensures { answered result ≡ first_of (add_checks frames cameras column words.now buf.now) }
 {
-    if 4095 < cameras {
-        return 1;
-    }
-    let after = cameras + 1;
-    let lengths = [frames, cameras, after];
-    if checks::bad_length(&lengths) {
-        return 1;
+    if MOST_CAMERAS <= cameras || checks::bad_length(&[frames, cameras, cameras + 1]) {
+        return Err(Refusal::BadLength);
     }
     let size = frames * cameras;
     let room = size + frames;
     if MOST_WORDS < room {
-        return 2;
+        return Err(Refusal::TooManyWords);
     }
     if buf.len() < size {
-        return 3;
+        return Err(Refusal::ShortBuffer);
     }
     if cameras < column {
-        return 16;
+        return Err(Refusal::BadColumn);
     }
     if buf.len() < room {
-        return 17;
+        return Err(Refusal::NoRoom);
     }
     if words.len() != frames {
-        return 25;
+        return Err(Refusal::OtherColumn);
     }
-    0
+    Ok(())
 }
 
-// Removes a column from a block of frames by cameras words within the buffer: 0, or 1, 2, 3, 16.
-pub fn remove(buf: &mut [u32], frames: usize, cameras: usize, column: usize) -> u32
-    ensures { RemovePromise frames cameras column buf.old result buf.new }
+// Removes a column from a block of frames by cameras words within the buffer, or refuses: 1, 2, 3, 16.
+pub fn remove(buf: &mut [u32], frames: usize, cameras: usize, column: usize) -> Result<(), Refusal>
+    ensures { RemovePromise frames cameras column buf.old (answered result) buf.new }
 {
-    let number = remove_number(buf, frames, cameras, column);
-    if number != 0 {
-        return number;
-    }
-    rows::close(buf, frames, cameras - 1, column);
+    check_remove(buf, frames, cameras, column)?;
+    Gap::new(cameras - 1, column).close(buf, frames);
     moves::zero(buf, frames * (cameras - 1), frames);
-    0
+    Ok(())
 }
 
-// Adds a column of words to a block of frames by cameras words within the buffer: 0, or 1, 2, 3, 16, 17, 25.
-pub fn add(buf: &mut [u32], frames: usize, cameras: usize, column: usize, words: &[u32]) -> u32
-    ensures { AddPromise frames cameras column words.now buf.old result buf.new }
+// Adds a column of words to a block of frames by cameras words within the buffer, or refuses: 1, 2, 3, 16, 17, 25.
+pub fn add(
+    buf: &mut [u32],
+    frames: usize,
+    cameras: usize,
+    column: usize,
+    words: &[u32],
+) -> Result<(), Refusal>
+    ensures { AddPromise frames cameras column words.now buf.old (answered result) buf.new }
 {
-    let number = add_number(buf, frames, cameras, column, words);
-    if number != 0 {
-        return number;
-    }
-    rows::open(buf, frames, cameras, column, words);
-    0
+    check_add(buf, frames, cameras, column, words)?;
+    Gap::new(cameras, column).open(buf, frames, words);
+    Ok(())
 }

@@ -1,8 +1,8 @@
 -- The loops that move words: along one cycle what is left to carry, and along all what is left of the list, leaves what the whole leaves.
-use Rattle.lists.proofs.Kit.{◌≡◌, refl, sym, ap, ap₂, ◌∙◌, List, [], ◌∷◌, ℕ, suc, ◌+◌, ◌*◌, ◌-◌, ◌<◌, ◌≤◌, sub-zero, arith, length, get_or, set, drop, length-set, length-drop, drop-next}
-use Rattle.cycles.specs.Cycles.{takes, cycles}
+use Rattle.lists.proofs.Kit.{◌≡◌, refl, sym, ap, ◌∙◌, List, [], ◌∷◌, ℕ, suc, ◌+◌, ◌*◌, ◌-◌, ◌<◌, ◌≤◌, arith, length, get_or, set, drop, length-set, length-drop, drop-drop}
+use Rattle.cycles.specs.Cycles.{takes, cycles, Pair}
 use Rattle.cycles.specs.Along.{handed_on, along_cycles}
-use Rattle.cycles.proofs.Pairs.{pair_words}
+use Rattle.cycles.proofs.Pairs.{first_pair}
 use Rattle.cycles.proofs.Takes.{takes_permutes}
 use Rattle.cycles.proofs.Along.{carried_length}
 use Rattle.cycles.proofs.RightList.{every_cycle_once}
@@ -19,9 +19,6 @@ pub next_low : {m n count start at word k next : ℕ} {before words : List ℕ} 
 next_low {m} {n} {at = at} c e = omega (arith, e, (takes_permutes m n).within at c.low, c.long)
 
 module _ (m n count start : ℕ) (before : List ℕ) where
-  pub carries_none : start < m * n → length before ≡ m * n → Carries m n count start before before start (get_or before start 0) 0
-  carries_none low long = record { low = low; long = long; few = omega arith; left = rw sub-zero refl }
-
   module _ {words : List ℕ} {at word k : ℕ} (c : Carries m n count start before words at word k) where
     pub carries_more : {next : ℕ} → k < count → next ≡ takes m n at → Carries m n count start before (set words next word) next (get_or words next 0) (k + 1)
     unfolding handed_on
@@ -49,18 +46,18 @@ module _ (m n : ℕ) (list : List ℕ) (right : list ≡ cycles m n) (before : L
   runs_none long = record { long = long; left = refl }
 
   -- the start of a whole pair is an offset of the block
-  pub start_low : (k : ℕ) → 2 * k + 1 < length list → get_or list (2 * k) 0 < m * n
-  start_low k h = ((every_cycle_once m n list).1 right).within k (get_or list (2 * k) 0) (get_or list (2 * k + 1) 0) (pair_words k list h)
+  pub start_low : (k start count : ℕ) → Pair list k start count → start < m * n
+  start_low k start count h = ((every_cycle_once m n list).1 right).within k start count h
 
   module _ {words : List ℕ} {k : ℕ} (r : Runs m n list before words k) where
-    pub runs_more : {after : List ℕ} {start count : ℕ} → 2 * k + 1 < length list → start ≡ get_or list (2 * k) 0 → count ≡ get_or list (2 * k + 1) 0
-        → after ≡ handed_on (takes m n) count start (get_or words start 0) words → Runs m n list before after (k + 1)
+    pub runs_more : {after : List ℕ} {start count : ℕ} → Pair list k start count → after ≡ handed_on (takes m n) count start (get_or words start 0) words
+        → Runs m n list before after (k + 1)
     unfolding along_cycles
-    runs_more {after} {start} {count} h s c e =
-        let next : 2 * k + 1 + 1 ≡ 2 * (k + 1) = omega arith in
+    runs_more {after} {start} {count} h e =
+        let next : 2 * k + 2 ≡ 2 * (k + 1) = omega arith in
         let split : drop (2 * k) list ≡ start ∷ count ∷ drop (2 * (k + 1)) list =
-        drop-next list (2 * k) (omega arith)
-        ∙ ap₂ ◌∷◌ (sym s) (drop-next list (2 * k + 1) h ∙ ap₂ ◌∷◌ (sym c) (ap (λ (z : ℕ). drop z list) next)) in
+        first_pair (drop (2 * k) list) start count h
+        ∙ ap (λ (l : List ℕ). start ∷ count ∷ l) (drop-drop 2 (2 * k) list ∙ ap (λ (z : ℕ). drop z list) next) in
         record {
           long = ap length e ∙ carried_length (takes m n) count start (get_or words start 0) words ∙ r.long;
           left = rw e (sym (ap (λ (l : List ℕ). along_cycles (takes m n) l words) split) ∙ r.left);

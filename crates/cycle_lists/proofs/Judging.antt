@@ -1,5 +1,11 @@
 -- The answer from what the parts found: refused by a check that comes before 22, or compared with the right list.
 use Rattle.lists.proofs.Kit.{◌≡◌, refl, sym, ap, ◌∙◌, Bool, true, false, cond, not, List, [], ◌∷◌, ◌++◌, ⊎_elim, ℕ, ◌*◌, arith, T, length, same, same→eq, eq→same}
+use Rattle.std.specs.Prelude.{Result, Ok, Err}
+use Rattle.std.specs.Result.{IsErrAnd}
+use Rattle.refusals.specs.declared.Refused.{Refused}
+use Rattle.refusals.specs.declared.Refusal.{Refusal}
+use Rattle.refusals.specs.Refusal.{number_of, unplaced}
+use Rattle.refusals.proofs.Numbers.{refuses}
 use Rattle.refusals.specs.FirstOf.{Check, check, first_of, refusing}
 use Rattle.refusals.specs.Conditions.{bad_length, too_many_words, short_buffer, long_buffer}
 use Rattle.refusals.specs.Calls.{size_checks, exact_checks, block_checks}
@@ -12,7 +18,7 @@ use Rattle.cycles.specs.Along.{along_cycles}
 use Rattle.cycles.proofs.Along.{along_turns}
 use Rattle.cycles.proofs.Pairs.{none_other}
 use Rattle.cycle_lists.specs.declared.Judged.{Judged}
-use Rattle.cycle_lists.specs.Promise.{wrong_cycles, JudgedAfter, JudgePromise, RunPromise}
+use Rattle.cycle_lists.specs.Promise.{wrong_cycles, JudgedAfter, JudgePromise, RunPromise, in_c}
 use Rattle.cycles.specs.Private.{Small}
 use Rattle.cycle_lists.specs.Private.{Compared}
 use Rattle.cycle_lists.proofs.Comparing.{answer}
@@ -77,41 +83,43 @@ module _ (cs : List Check) (m n : ℕ) (list : List ℕ) where
     otherwise = λ o. ⊎_elim (λ z. (c.right z).1) (λ d. absurd (o d)) c.either;
   }
 
--- neither the checks of the size nor those of the block give 22
-pub size_not_22 : (m n : ℕ) → first_of (size_checks (sides m n)) ≡ 22 → ⊥
-size_not_22 m n = not_22 (bad_length (sides m n)) (too_many_words (sides m n)) false false
-
+-- the checks of the block do not give 22
 pub block_not_22 : (m n : ℕ) (buffer : List ℕ) → first_of (block_checks (sides m n) buffer) ≡ 22 → ⊥
 block_not_22 m n buffer =
     not_22 (bad_length (sides m n)) (too_many_words (sides m n)) (short_buffer (sides m n) buffer) (long_buffer (sides m n) buffer)
 
+-- what a refusal becomes, converted and handed on
+one_err : {y : Refused} (x : Result (Unit {0}) Refused) → IsErrAnd x (λ e. e ≡ y) → x ≡ Err y
+one_err (Ok z) h = absurd h
+one_err (Err z) h = ap Err h
+
 -- what judging and running answer, either way
 module _ (m n : ℕ) (list : List ℕ) where
-  pub judge_refused : {number : ℕ} → number ≡ first_of (size_checks (sides m n)) → (number ≡ 0 → ⊥) → JudgePromise m n list (answer number 0)
-  judge_refused e z = refused (size_checks (sides m n)) m n list e z (size_not_22 m n)
-
   pub judge_accepted : {r : Judged} → first_of (size_checks (sides m n)) ≡ 0 → Compared m n list r → JudgePromise m n list r
   judge_accepted e c = accepted (size_checks (sides m n)) m n list tt e c
 
   module _ (before : List ℕ) where
-    pub run_refused : {number : ℕ} → number ≡ first_of (block_checks (sides m n) before) → (number ≡ 0 → ⊥) → RunPromise m n list before (answer number 0) before
-    run_refused e z = record {
-      answers = refused (block_checks (sides m n) before) m n list e z (block_not_22 m n before);
-      words = λ y. absurd (z y);
+    pub run_refused : (r : Refusal) (x : Result (Unit {0}) Refused) → IsErrAnd x (λ e. e ≡ unplaced r) → number_of r ≡ first_of (block_checks (sides m n) before)
+        → RunPromise m n list before (in_c x) before
+    run_refused r x h e = rw (one_err x h) (record {
+      answers = refused (block_checks (sides m n) before) m n list e (refuses r) (block_not_22 m n before);
+      words = λ y. absurd (refuses r y);
       kept = λ _. refl;
-    }
+    })
 
-    module _ {r : Judged} (e : first_of (block_checks (sides m n) before) ≡ 0) (c : Compared m n list r) where
-      pub run_other : (r.number ≡ 0 → ⊥) → RunPromise m n list before r before
-      run_other z = record {
+    module _ (e : first_of (block_checks (sides m n) before) ≡ 0) where
+      pub run_other : (r : Refused) (x : Result (Unit {0}) Refused) → IsErrAnd x (λ e. e ≡ r) → Compared m n list (in_c (Err r))
+          → RunPromise m n list before (in_c x) before
+      run_other r x h c = rw (one_err x h) (record {
         answers = accepted (block_checks (sides m n) before) m n list tt e c;
-        words = λ y. absurd (z y);
+        words = λ y. absurd (refuses r.refusal y);
         kept = λ _. refl;
-      }
+      })
 
-      pub run_right : {after : List ℕ} → r.number ≡ 0 → after ≡ along_cycles (takes m n) (cycles m n) before → RunPromise m n list before r after
-      run_right z t = record {
+      pub run_right : {after : List ℕ} → Compared m n list (answer 0 0) → after ≡ along_cycles (takes m n) (cycles m n) before
+          → RunPromise m n list before (answer 0 0) after
+      run_right c t = record {
         answers = accepted (block_checks (sides m n) before) m n list tt e c;
         words = λ _. rw t (along_turns m n before (omega (arith, (block_small m n before e).1)));
-        kept = λ y. absurd (y z);
+        kept = λ y. absurd (y refl);
       }

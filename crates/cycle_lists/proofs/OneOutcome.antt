@@ -1,6 +1,10 @@
 -- What the answer means: 0 exactly for the right list of a block whose size is accepted, 22 exactly for another list. Any two outcomes that
 -- the promise allows coincide, because two lists differ first at one place.
 use Rattle.lists.proofs.Kit.{◌≡◌, refl, sym, ap, ap₂, subst, ◌∙◌, false, List, [], ◌∷◌, ◌++◌, ◌↔◌, ℕ, ◌*◌, T, lit<, not-false, same, same→eq}
+use Rattle.std.specs.Prelude.{Result, Ok, Err}
+use Rattle.refusals.specs.declared.Refused.{Refused}
+use Rattle.refusals.specs.declared.Refusal.{Refusal}
+use Rattle.refusals.proofs.Numbers.{refuses, one_refusal}
 use Rattle.refusals.specs.FirstOf.{Check, check, first_of, refusing}
 use Rattle.refusals.specs.Calls.{size_checks}
 use Rattle.refusals.proofs.Conditions.{passed}
@@ -12,7 +16,7 @@ use Rattle.cycles.specs.Cycles.{cycles, takes, EveryCycleOnce}
 use Rattle.cycles.proofs.RightList.{every_cycle_once}
 use Rattle.cycles.proofs.Pairs.{one_other, none_other}
 use Rattle.cycle_lists.specs.declared.Judged.{Judged}
-use Rattle.cycle_lists.specs.Promise.{wrong_cycles, JudgedAfter, JudgePromise, RunPromise}
+use Rattle.cycle_lists.specs.Promise.{wrong_cycles, JudgedAfter, JudgePromise, RunPromise, in_c}
 use Rattle.cycle_lists.proofs.Judging.{right_list, then_22}
 use Rattle.cycle_lists.proofs.Comparing.{answer}
 
@@ -55,3 +59,11 @@ judged_every_cycle {m} {n} {list} p =
     let j = judged_exactly p in
     let c = every_cycle_once m n list in
     (λ z. ((j.0 z).0, c.1 (j.0 z).1), λ q. j.1 (q.0, c.0 q.1))
+
+-- an answer is told by what C sees of it
+pub one_judged : (x y : Result (Unit {0}) Refused) → in_c x ≡ in_c y → x ≡ y
+one_judged (Ok a) (Ok b) e = refl
+one_judged (Ok a) (Err s) e = absurd (refuses s.refusal (sym (ap (λ (r : Judged). r.number) e)))
+one_judged (Err r) (Ok b) e = absurd (refuses r.refusal (ap (λ (r : Judged). r.number) e))
+one_judged (Err r) (Err s) e =
+    ap₂ (λ (k : Refusal) (p : ℕ). Err (record { refusal = k; place = p })) (one_refusal r.refusal s.refusal (ap (λ (r : Judged). r.number) e)) (ap (λ (r : Judged). r.place) e)

@@ -1,12 +1,7 @@
 -- These definitions serve only the contracts of private functions: a reader of the promises can pass over them. Assumes nothing.
-use Rattle.std.specs.Prelude.{◌≡◌, cond, List, ◌⊎◌, ℕ}
-use Rattle.cycles.specs.Orbit.{period}
-use Rattle.cycles.specs.Cycles.{is_least, cycles, FirstOther}
+use Rattle.std.specs.Prelude.{◌≡◌, List, ◌⊎◌, ℕ}
+use Rattle.cycles.specs.Cycles.{cycles, FirstOther}
 use Rattle.cycle_lists.specs.declared.Judged.{Judged}
-
--- the length of the cycle of x where x is its least number, else 0
-unfoldable pub length_of : (ℕ → ℕ) → ℕ → ℕ → ℕ
-length_of f N x = cond (is_least f N x) (period f N x) 0
 
 -- the list is the right one, or 22 is answered with the place of the first pair that differs
 pub record Compared (m n : ℕ) (list : List ℕ) (answered : Judged) : Type 0 where

@@ -1,8 +1,10 @@
 -- What judging a list of cycles, and running it, promise. Assumes nothing: these are definitions.
-use Rattle.std.specs.Prelude.{◌≡◌, Bool, not, List, [], ◌∷◌, ◌++◌, ℕ}
+use Rattle.std.specs.Prelude.{◌≡◌, Bool, not, List, [], ◌∷◌, ◌++◌, ℕ, Result, Ok, Err}
 use Rattle.lists.specs.Same.{same}
 use Rattle.refusals.specs.FirstOf.{Check, check, first_of}
 use Rattle.refusals.specs.Calls.{size_checks, block_checks}
+use Rattle.refusals.specs.declared.Refused.{Refused}
+use Rattle.refusals.specs.Refusal.{number_of}
 use Rattle.flat.specs.Turn.{sides, Turn}
 use Rattle.cycles.specs.Cycles.{cycles, FirstOther}
 use Rattle.cycle_lists.specs.declared.Judged.{Judged}
@@ -34,3 +36,8 @@ pub record RunPromise (m n : ℕ) (list before : List ℕ) (answered : Judged) (
   pub answers : JudgedAfter (run_checks m n list before) m n list answered
   pub words : answered.number ≡ 0 → Turn m n before after
   pub kept : (answered.number ≡ 0 → ⊥) → after ≡ before
+
+-- what C sees of an answer: its number and its place, 0 and 0 where the call was accepted
+abbrev pub in_c : Result (Unit {0}) Refused → Judged
+in_c (Ok x) = record { number = 0; place = 0 }
+in_c (Err r) = record { number = number_of r.refusal; place = r.place }

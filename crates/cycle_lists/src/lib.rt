@@ -1,17 +1,17 @@
 // The cycles of a flat turn: lists of them, bought from elsewhere, judged and run, start and length of every cycle in rising order.
 #![tactic(auto)]
 
-mod along;
-mod steps;
+mod turn;
 
-ghost use Rattle.std.specs.Prelude.{◌≡◌, [], ◌∷◌, ◌*◌, ◌<◌, ◌≤◌};
-ghost use Rattle.lists.specs.Same.{same};
-ghost use Rattle.cycles.specs.Cycles.{takes, pair_at};
-ghost use Rattle.cycle_lists.specs.Promise.{JudgePromise, RunPromise};
-ghost use Rattle.cycles.specs.Private.{Small, Reciprocal};
-ghost use Rattle.cycle_lists.specs.Private.{length_of, Compared};
+ghost use Rattle.std.specs.Prelude.{◌≡◌, [], ◌∷◌, ◌++◌, take, MatchOption};
+ghost use Rattle.cycle_lists.specs.Promise.{JudgePromise, RunPromise, in_c};
+ghost use Rattle.cycle_lists.specs.Private.{Compared};
 
-// The number that the call answers, and for 22 the place of the first pair that differs.
+use crate::turn::Turn;
+use refusals::{Refusal, Refused};
+
+// What C sees of the answer: its number, and for 22 the place of the first pair that differs.
+// Kept: the C interface reads a number and the values beside it.
 #[repr(C)]
 #[derive(Clone, Copy)]
 pub struct Judged {
@@ -19,89 +19,75 @@ pub struct Judged {
     pub place: usize,
 }
 
-// The length of the cycle of offset x where x is its least offset, else 0: the cycle is followed until it is home or a smaller offset shows.
-fn length_of(m: usize, n: usize, inverse: usize, x: usize) -> usize
-    requires { Small m n × Reciprocal n inverse × (x < m * n) }
-    ensures { result ≡ length_of (takes m n) (m * n) x }
-{
-    let mut at = steps::step(m, n, inverse, x);
-    let mut count = 1;
-    while x < at {
-        at = steps::step(m, n, inverse, at);
-        count += 1;
+impl From<Result<(), Refused>> for Judged {
+    ghost from_gives = { λ answer judged. judged ≡ in_c answer };
+
+    fn from(answer: Result<(), Refused>) -> Judged {
+        match answer {
+            Ok(()) => Judged {
+                number: 0,
+                place: 0,
+            },
+            Err(refused) => Judged {
+                number: refused.refusal.number(),
+                place: refused.place,
+            },
+        }
     }
-    if at < x {
-        return 0;
-    }
-    count
 }
 
-// Whether the pair at a place is this start and this length; a half pair or none is not.
-fn pair_is(list: &[u32], place: usize, start: usize, count: usize) -> bool
-    requires { place ≤ 1048576 }
-    ensures { result ≡ same (pair_at place list.now) (start ∷ count ∷ []) }
+// What follows the pair of this start and this length, if a list begins with it.
+// Kept: a word becomes a `usize` by `as`, since the library has no `From<u32>` for `usize`.
+fn after_pair(list: &[u32], start: usize, count: usize) -> Option<&[u32]>
+    ensures { MatchOption result (take 2 list.now ≡ start ∷ count ∷ [] → ⊥) (λ rest. list.now ≡ start ∷ count ∷ rest.now) }
 {
-    let at = 2 * place;
-    if list.len() <= at + 1 {
-        return false;
-    }
-    if steps::as_count(list[at]) != start {
-        return false;
-    }
-    steps::as_count(list[at + 1]) == count
+    let [first, second, rest @ ..] = list else {
+        return None;
+    };
+    (*first as usize == start && *second as usize == count).then_some(rest)
 }
 
 // The list against the right one: offset by offset, each that is the least of its cycle must be the next pair, and no more may follow.
-fn compare(list: &[u32], m: usize, n: usize) -> Judged
-    requires { Small m n }
-    ensures { Compared m n list.now result }
+fn compare(list: &[u32], turn: Turn) -> Result<(), Refused>
+    ensures { Compared turn.m turn.n list.now (in_c result) }
 {
-    let inverse = steps::inverse_of(n);
+    let mut rest = list;
+    // Kept: the place counts the pairs that are found, and not the offsets that the loop goes over.
     let mut place = 0;
-    for x in 0..m * n {
-        let length = length_of(m, n, inverse, x);
-        if length == 0 {
+    for start in 0..turn.words() {
+        let Some(count) = turn.length_from(start) else {
             continue;
-        }
-        if !pair_is(list, place, x, length) {
-            return Judged { number: 22, place };
-        }
+        };
+        rest = after_pair(rest, start, count).ok_or(Refused {
+            refusal: Refusal::OtherCycles,
+            place,
+        })?;
         place += 1;
     }
-    if 2 * place < list.len() {
-        return Judged { number: 22, place };
+    if !rest.is_empty() {
+        return Err(Refused {
+            refusal: Refusal::OtherCycles,
+            place,
+        });
     }
-    Judged {
-        number: 0,
-        place: 0,
-    }
+    Ok(())
 }
 
-// Judges a list of the cycles of a turn of m by n: 0 where it is the right list, or 1, 2, or 22 with the place of the first pair that differs.
-pub fn judge(list: &[u32], m: usize, n: usize) -> Judged
-    ensures { JudgePromise m n list.now result }
+// Judges a list of the cycles of a turn of m by n; or 1, 2, or 22 with the place of the first pair that differs from the right list.
+pub fn judge(list: &[u32], m: usize, n: usize) -> Result<(), Refused>
+    ensures { JudgePromise m n list.now (in_c result) }
 {
-    let sides = [m, n];
-    let number = checks::size_number(&sides);
-    if number != 0 {
-        return Judged { number, place: 0 };
-    }
-    compare(list, m, n)
+    checks::check_size(&[m, n])?;
+    compare(list, Turn::new(m, n))
 }
 
 // Runs a list of the cycles of a turn of m by n on the block within its buffer: the flat turn, without scratch; or 1, 2, 3, 13, 22.
-pub fn run(list: &[u32], buf: &mut [u32], m: usize, n: usize) -> Judged
-    ensures { RunPromise m n list.now buf.old result buf.new }
+pub fn run(list: &[u32], buf: &mut [u32], m: usize, n: usize) -> Result<(), Refused>
+    ensures { RunPromise m n list.now buf.old (in_c result) buf.new }
 {
-    let sides = [m, n];
-    let number = checks::block_number(&sides, buf);
-    if number != 0 {
-        return Judged { number, place: 0 };
-    }
-    let judged = compare(list, m, n);
-    if judged.number != 0 {
-        return judged;
-    }
-    along::follow_all(list, buf, m, n);
-    judged
+    checks::check_block(&[m, n], buf)?;
+    let turn = Turn::new(m, n);
+    compare(list, turn)?;
+    turn.follow_all(list, buf);
+    Ok(())
 }

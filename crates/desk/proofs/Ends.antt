@@ -117,11 +117,6 @@ pub decides : (t : Bool) (m n : ℕ) → (t ≡ true → m < n) → (t ≡ false
 decides true m n h k = sym (lt-ltb m n (h refl))
 decides false m n h k = sym (le-ltb m n (k refl))
 
--- a number that is not negative
-pub not-below : (a : ℤ) → pos 0 ≤ℤ a → below a ≡ 0
-not-below (pos n) h = refl
-not-below (negsuc n) h = absurd h.le
-
 -- what 64 bits hold
 pub fits : {z : ℤ} → above z < 2 ^ 63 + below z → below z ≤ 2 ^ 63 + above z → SFits w64 z
 fits {z = pos n} h k = record { sfits = omega arith }

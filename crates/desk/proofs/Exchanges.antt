@@ -1,7 +1,8 @@
 -- An exchange of a run with no far reading: it has four readings, none of them far, so its offset and delay are given. And an exchange as the
--- part from its place to its end. By the laws of `take` and `drop`.
-use Rattle.lists.proofs.Kit.{◌≡◌, false, List, [], ◌∷◌, ℕ, zero, suc, ◌+◌, ◌-◌, ◌*◌, ◌^◌, ◌<◌, ◌≤◌, arith, take, drop, length-drop, length-take-le, get_or-drop}
+-- part from its place to its end, and as one of the arrays that the run is cut into. By the laws of `take` and `drop`.
+use Rattle.lists.proofs.Kit.{◌≡◌, refl, ap, ◌∙◌, false, List, [], ◌∷◌, ℕ, zero, suc, ◌+◌, ◌-◌, ◌*◌, ◌^◌, ◌<◌, ◌≤◌, arith, take, drop, length-drop, length-take-le, get_or, get_or-drop, drop-drop}
 use lib.IntN.{ℤ, pos, nat_abs}
+use Rattle.std.specs.Simd.{first_chunks}
 use Rattle.refusals.specs.FirstOf.{first_of}
 use Rattle.desk.specs.Exchange.{reading}
 use Rattle.desk.specs.Conditions.{far_reading, measure_checks}
@@ -24,3 +25,14 @@ exchange_measured run j none h =
 -- from its place to its end
 pub exchange_is : (run : List ℤ) (j : ℕ) → take ((4 * j + 4) - 4 * j) (drop (4 * j) run) ≡ four_at run j
 exchange_is run j = let four : (4 * j + 4) - 4 * j ≡ 4 = omega arith in rw four
+
+-- the arrays of four that a run is cut into are its exchanges
+chunk_is : (count j : ℕ) (run : List ℤ) → j < count → get_or (first_chunks 4 count run) j [] ≡ four_at run j
+chunk_is zero j run h = absurd (omega arith)
+chunk_is (suc count) zero run h = refl
+chunk_is (suc count) (suc j) run h =
+    let next : 4 + 4 * j ≡ 4 * suc j = omega arith in
+    chunk_is count j (drop 4 run) (omega arith) ∙ rw (drop-drop (4 * j) 4 run) (ap (λ (z : ℕ). take 4 (drop z run)) next)
+
+pub cut_is : (run : List ℤ) (j : ℕ) {all : List (List ℤ)} → all ≡ first_chunks 4 (exchanges run) run → j < exchanges run → get_or all j [] ≡ four_at run j
+cut_is run j e h = ap (λ (l : List (List ℤ)). get_or l j []) e ∙ chunk_is (exchanges run) j run h

@@ -1,7 +1,7 @@
 -- What is held of the first exchanges of a run, one exchange more at a time; and what is held of each path decides between the two. By cases on
 -- the tests of delays.
 use Rattle.lists.proofs.Kit.{◌≡◌, refl, sym, ap, ◌∙◌, subst, Bool, true, false, not, ◌&&◌, ◌||◌, List, ◌⊎◌, inl, inr, ⊎_elim, ℕ, ◌+◌, ◌<◌, arith, upto, length-tab, get_or-tab, decided}
-use lib.IntN.{ℤ, pos, negsuc}
+use lib.IntN.{ℤ, pos}
 use lib.Signed.{lt_z, ◌≤ℤ◌, ◌<ℤ◌, ≤ℤ_refl}
 use borrow.Author.Count.{below_more}
 use Rattle.refusals.proofs.Some.{none_at, none-some}
@@ -24,55 +24,50 @@ taken_false true b c e = inl refl
 taken_false false true c e = clash refl e
 taken_false false false c e = inr (refl, e)
 
-module _ (run : List ℤ) where
-  -- nothing is held of no exchange
-  pub held_none : HeldAs run 0 0 (negsuc 0)
-  held_none = record { none = λ _ i h. absurd (omega arith); some = λ e. clash refl e }
+module _ (run : List ℤ) (m found : ℕ) (least : ℤ) (held : HeldAs run m found least) where
+  -- exchange m is taken
+  pub held_taken : taken (delay_at run m) least ≡ true → HeldAs run (m + 1) m (delay_at run m)
+  held_taken e =
+      let d = delay_at run m in
+      let p = taken_true (lt_z d (pos 0)) (lt_z least (pos 0)) (lt_z d least) e in
+      let smaller : (i : ℕ) → i < m → usable run i ≡ true → d <ℤ delay_at run i
+      = λ i h u. ⊎_elim
+      (λ n. clash u (held.none n i h))
+      (λ q. let s = held.some q.0 in lt (omega (arith, holds d (delay_at run found) (subst (λ (z : ℤ). lt_z d z ≡ true) s.1 q.1), of_le (s.0.smallest i h u))))
+      p.1 in
+      record {
+        none = λ n. clash n p.0;
+        some = λ _. (
+          record {
+            within = omega arith;
+            can = ap not p.0;
+            smallest = below_more (λ (i : ℕ). usable run i ≡ true → d ≤ℤ delay_at run i) m (λ i h u. le (omega (arith, of_lt (smaller i h u)))) (λ _. ≤ℤ_refl d);
+            earliest = smaller;
+          },
+          refl,
+        );
+      }
 
-  module _ (m found : ℕ) (least : ℤ) (held : HeldAs run m found least) where
-    -- exchange m is taken
-    pub held_taken : taken (delay_at run m) least ≡ true → HeldAs run (m + 1) m (delay_at run m)
-    held_taken e =
-        let d = delay_at run m in
-        let p = taken_true (lt_z d (pos 0)) (lt_z least (pos 0)) (lt_z d least) e in
-        let smaller : (i : ℕ) → i < m → usable run i ≡ true → d <ℤ delay_at run i
-        = λ i h u. ⊎_elim
-        (λ n. clash u (held.none n i h))
-        (λ q. let s = held.some q.0 in lt (omega (arith, holds d (delay_at run found) (subst (λ (z : ℤ). lt_z d z ≡ true) s.1 q.1), of_le (s.0.smallest i h u))))
-        p.1 in
-        record {
-          none = λ n. clash n p.0;
-          some = λ _. (
-            record {
-              within = omega arith;
-              can = ap not p.0;
-              smallest = below_more (λ (i : ℕ). usable run i ≡ true → d ≤ℤ delay_at run i) m (λ i h u. le (omega (arith, of_lt (smaller i h u)))) (λ _. ≤ℤ_refl d);
-              earliest = smaller;
-            },
-            refl,
-          );
-        }
-
-    -- exchange m is passed over
-    pub held_left : taken (delay_at run m) least ≡ false → HeldAs run (m + 1) found least
-    held_left e =
-        let d = delay_at run m in
-        let p = taken_false (lt_z d (pos 0)) (lt_z least (pos 0)) (lt_z d least) e in
-        record {
-          none = λ n. below_more (λ (i : ℕ). usable run i ≡ false) m (held.none n) (⊎_elim (λ a. ap not a) (λ q. clash n q.0) p);
-          some = λ n.
-              let s = held.some n in
-              let no-smaller : usable run m ≡ true → delay_at run found ≤ℤ d
-              = λ u. ⊎_elim (λ a. clash u (ap not a)) (λ q. le (fails d (delay_at run found) (subst (λ (z : ℤ). lt_z d z ≡ false) s.1 q.1))) p in (
-                record {
-                  within = omega (arith, s.0.within);
-                  can = s.0.can;
-                  smallest = below_more (λ (i : ℕ). usable run i ≡ true → delay_at run found ≤ℤ delay_at run i) m s.0.smallest no-smaller;
-                  earliest = s.0.earliest;
-                },
-                s.1,
-              );
-        }
+  -- exchange m is passed over
+  pub held_left : taken (delay_at run m) least ≡ false → HeldAs run (m + 1) found least
+  held_left e =
+      let d = delay_at run m in
+      let p = taken_false (lt_z d (pos 0)) (lt_z least (pos 0)) (lt_z d least) e in
+      record {
+        none = λ n. below_more (λ (i : ℕ). usable run i ≡ false) m (held.none n) (⊎_elim (λ a. ap not a) (λ q. clash n q.0) p);
+        some = λ n.
+            let s = held.some n in
+            let no-smaller : usable run m ≡ true → delay_at run found ≤ℤ d
+            = λ u. ⊎_elim (λ a. clash u (ap not a)) (λ q. le (fails d (delay_at run found) (subst (λ (z : ℤ). lt_z d z ≡ false) s.1 q.1))) p in (
+              record {
+                within = omega (arith, s.0.within);
+                can = s.0.can;
+                smallest = below_more (λ (i : ℕ). usable run i ≡ true → delay_at run found ≤ℤ delay_at run i) m s.0.smallest no-smaller;
+                earliest = s.0.earliest;
+              },
+              s.1,
+            );
+      }
 
 -- a run has a usable exchange, exchange by exchange
 pub any_none : (run : List ℤ) → ((i : ℕ) → i < exchanges run → usable run i ≡ false) → any_usable run ≡ false

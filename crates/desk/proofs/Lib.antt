@@ -14,7 +14,7 @@ pub mod Meanings
 pub mod Calls
 -- a signed number by how far it lies above and below zero: sums, differences, order, tests, what 64 bits hold
 pub mod Ends
--- division rounded towards minus infinity, by inequalities, and the machine's `/` and `%`
+-- division rounded towards minus infinity, by inequalities
 pub mod Floor
 -- an exchange of a run with no far reading
 mod Exchanges

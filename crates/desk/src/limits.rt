@@ -8,10 +8,7 @@ pub(crate) fn beyond(x: i64, limit: i64) -> bool
     requires { pos 0 ≤ℤ limit }
     ensures { result ≡ far (nat_abs limit) x }
 {
-    if limit < x {
-        return true;
-    }
-    x < 0 - limit
+    limit < x || x < -limit
 }
 
 // Whether a number of the run lies beyond the limit, either side of zero.
@@ -19,10 +16,5 @@ pub(crate) fn some_beyond(run: &[i64], limit: i64) -> bool
     requires { pos 0 ≤ℤ limit }
     ensures { result ≡ some (far (nat_abs limit)) run.now }
 {
-    for i in 0..run.len() {
-        if beyond(run[i], limit) {
-            return true;
-        }
-    }
-    false
+    run.iter().any(|&x| beyond(x, limit))
 }

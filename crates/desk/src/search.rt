@@ -4,9 +4,8 @@ ghost use Rattle.desk.specs.Conditions.{far_reading};
 ghost use Rattle.desk.specs.Choice.{exchanges};
 ghost use Rattle.desk.specs.Private.{taken, HeldAs};
 
-use crate::parts::exchange_of;
-
 // The usable exchange of a run with the smallest delay. Where there is none, the delay is negative.
+// Kept: an Option of both would hold a delay that is never negative, and each test of two delays would first take it apart.
 #[derive(Clone, Copy)]
 pub(crate) struct Held {
     pub(crate) found: usize,
@@ -20,10 +19,7 @@ pub(crate) fn beats(d: i64, least: i64) -> bool
     if d < 0 {
         return false;
     }
-    if least < 0 {
-        return true;
-    }
-    d < least
+    least < 0 || d < least
 }
 
 // The usable exchange of a run with the smallest delay, the earlier winning ties.
@@ -31,21 +27,16 @@ pub(crate) fn best(run: &[i64]) -> Held
     requires { far_reading run.now ≡ false }
     ensures { HeldAs run.now (exchanges run.now) result.found result.least }
 {
-    let n = run.len() / 4;
+    let (exchanges, _) = run.as_chunks::<4>();
     let mut found = 0;
     let mut least: i64 = -1;
-    let mut j = 0;
-    while j < n {
-        let m = crate::offset_delay(exchange_of(run, j));
-        let d = m.delay;
+    for (j, exchange) in exchanges.iter().enumerate() {
+        let measured = crate::offset_delay(exchange).unwrap();
+        let d = measured.delay;
         if beats(d, least) {
             found = j;
             least = d;
         }
-        j += 1;
     }
-    Held {
-        found: found,
-        least: least,
-    }
+    Held { found, least }
 }

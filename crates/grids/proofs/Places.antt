@@ -6,7 +6,7 @@ use Rattle.cycles.specs.Cycles.{takes}
 use Rattle.cycles.proofs.Takes.{takes_permutes}
 use Rattle.moves.specs.Stretch.{Stretch, Outside, Traded}
 use Rattle.moves.specs.Promises.{Apart}
-use Rattle.grids.specs.declared.chunks.Grid.{Grid}
+use Rattle.grids.specs.declared.grid.Grid.{Grid}
 use Rattle.grids.specs.Private.{mirror, fold, half, pairs, bit_at, MarkedToo, Fits, Level, Beside, Waiting, BothHold, BothFrom, BothTraded, Settled, Toured}
 use Rattle.grids.proofs.Bits.{both}
 use Rattle.grids.proofs.Mirror.{takes-mirror, fold-mirror, pair_goes, one_pair, pairs_permute}
@@ -30,7 +30,7 @@ module _ {g : Grid} {xs : List ℕ} (f : Fits g xs) where
 
   -- a grid that fits in words fits in as many
   pub fits_also : {ys : List ℕ} → length ys ≡ length xs → Fits g ys
-  fits_also e = record { follows = f.follows; inside = rw e f.inside }
+  fits_also e = record { inside = rw e f.inside }
 
 -- mirrored places
 pub mirror_low : (count p : ℕ) → p < count → mirror count p < count

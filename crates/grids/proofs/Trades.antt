@@ -2,7 +2,7 @@
 -- that nothing waits elsewhere.
 use Rattle.lists.proofs.Kit.{◌≡◌, refl, sym, ap, ◌∙◌, true, false, List, ⊎_elim, ℕ, ◌+◌, ◌*◌, ◌<◌, get_or, eq-or-ne}
 use Rattle.cycles.specs.Cycles.{takes}
-use Rattle.grids.specs.declared.chunks.Grid.{Grid}
+use Rattle.grids.specs.declared.grid.Grid.{Grid}
 use Rattle.grids.specs.Private.{mirror, fold, bit_at, MarkedToo, BothTraded, Crossed, Toured}
 use Rattle.grids.proofs.Bits.{both}
 use Rattle.grids.proofs.Mirror.{takes-mirror, fold-mirror, one_pair, pairs_permute}

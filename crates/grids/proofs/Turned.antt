@@ -34,8 +34,9 @@ pub asked_more : (p : ℕ) (marks : List ℕ) → ((k : ℕ) → 0 < k → k < p
 asked_more p marks all here k some h = ⊎_elim (λ (e : k ≡ p). ap (bit_at marks) e ∙ here) (λ (ne : k ≡ p → ⊥). all k some (omega arith)) (eq-or-ne k p)
 
 module _ (n m : ℕ) where
-  pub none_marked : {before marks : List ℕ} → Stretch 0 ((n * m + 63) / 64) (λ u. 0) before marks → (q : ℕ) → q < half (n * m) → bit_at marks q ≡ false
-  none_marked {before} {marks} s q h = bit_none marks q (same_word marks {q = 0 + q / 32} (omega arith) ∙ s.holds (q / 32) (omega arith))
+  pub none_marked : {count : ℕ} {before marks : List ℕ} → n * m ≤ 64 * count → Stretch 0 count (λ u. 0) before marks → (q : ℕ) → q < half (n * m)
+      → bit_at marks q ≡ false
+  none_marked {before = before} {marks = marks} few s q h = bit_none marks q (same_word marks {q = 0 + q / 32} (omega arith) ∙ s.holds (q / 32) (omega arith))
 
   pub level_none : (marks : List ℕ) → ((q : ℕ) → q < half (n * m) → bit_at marks q ≡ false) → Level (pairs n m) (half (n * m)) marks
   level_none marks free p h = free (pairs n m p) ((pairs_permute n m).within p h) ∙ sym (free p h)

@@ -1,9 +1,8 @@
 -- These definitions serve only the contracts of private functions: a reader of the promises can pass over them.
 -- A block of chunks that is turned along the cycles of its turn, two mirrored ones at a time, and what the marks tell meanwhile.
 use Rattle.std.specs.Prelude.{◌≡◌, Bool, true, false, List, ℕ, ◌+◌, ◌*◌, ◌-◌, ◌/◌, ◌%◌, ◌^◌, ◌<◌, ◌≤◌, min, eqb, length, get_or}
-use Rattle.cycles.specs.Private.{Small, Reciprocal}
 use Rattle.cycles.specs.Cycles.{takes}
-use Rattle.grids.specs.declared.chunks.Grid.{Grid}
+use Rattle.grids.specs.declared.grid.Grid.{Grid}
 
 -- the place that lies as far from the end of count places as x from their beginning
 abbrev pub mirror : ℕ → ℕ → ℕ
@@ -31,20 +30,9 @@ pub record MarkedToo (place : ℕ) (before after : List ℕ) : Type 0 where
   pub here : bit_at after place ≡ true
   pub others : (q : ℕ) → (q ≡ place → ⊥) → bit_at after q ≡ bit_at before q
 
--- the sources of a grid's places can be found
-pub record Follows (g : Grid) : Type 0 where
-  pub small : Small g.n g.m
-  pub inverse : Reciprocal g.m g.inverse
-
--- and its chunks lie in the words
+-- the chunks of a grid lie in the words
 pub record Fits (g : Grid) (xs : List ℕ) : Type 0 where
-  pub follows : Follows g
   pub inside : g.n * g.m * g.chunk ≤ length xs
-
--- there is room for two chunks to wait, at 0 and at 80
-pub record Room (g : Grid) (kept : List ℕ) : Type 0 where
-  pub short : g.chunk ≤ 80
-  pub long : length kept ≡ 160
 
 -- a place is marked where its source is
 abbrev pub Level : (ℕ → ℕ) → ℕ → List ℕ → Type 0

@@ -2,6 +2,7 @@
 #![tactic(auto)]
 
 mod chunks;
+mod grid;
 mod marks;
 
 ghost use Rattle.std.specs.Prelude.{true, false, ◌≡◌, ◌<◌, ◌≤◌};
@@ -11,36 +12,21 @@ ghost use Rattle.grids.specs.Promises.{Turnable, GridPromise};
 fn bad_side(side: usize) -> bool
     ensures { (result ≡ false → (0 < side) × (side ≤ 4096)) × (result ≡ true → (0 < side → 4096 < side)) }
 {
-    if side == 0 {
-        return true;
-    }
-    4096 < side
+    side == 0 || 4096 < side
 }
 
 // Whether a block cannot be turned.
 fn refused(buf: &[u32], marks: &[u32], m: usize, n: usize, chunk: usize) -> bool
     ensures { (result ≡ false → Turnable m n chunk buf.now marks.now) × (result ≡ true → (Turnable m n chunk buf.now marks.now → ⊥)) }
 {
-    if bad_side(m) {
-        return true;
-    }
-    if bad_side(n) {
+    if bad_side(m) || bad_side(n) {
         return true;
     }
     let places = m * n;
-    if 1048576 < places {
-        return true;
-    }
-    if chunk == 0 {
-        return true;
-    }
-    if buf.len() / places < chunk {
-        return true;
-    }
-    if marks.len() < (places + 63) / 64 {
-        return true;
-    }
-    false
+    1048576 < places
+        || chunk == 0
+        || buf.len() / places < chunk
+        || marks.len() < places.div_ceil(64)
 }
 
 // Turns the block of m rows and n columns of chunks that the buffer begins with, and leaves the marks zero: false, and nothing changed, where the

@@ -6,14 +6,12 @@ pub(crate) fn marked(marks: &[u32], place: usize) -> bool
     requires { place < 32 * length marks.now }
     ensures { result ≡ bit_at marks.now place }
 {
-    let word = marks[place >> 5];
-    (word >> (place & 31)) & 1 == 1
+    marks[place >> 5] >> (place & 31) & 1 == 1
 }
 
 pub(crate) fn mark(marks: &mut [u32], place: usize)
     requires { place < 32 * length marks.old }
     ensures { MarkedToo place marks.old marks.new }
 {
-    let at = place >> 5;
-    marks[at] = marks[at] | (1 << (place & 31));
+    marks[place >> 5] |= 1 << (place & 31);
 }

@@ -1,8 +1,11 @@
 -- What the count means: the fewest repeats, at least one, that bring every block of that shape back, and the same for n by m as for m by n.
 -- Any two outcomes that the promise allows coincide, because a least power is one.
-use Rattle.lists.proofs.Kit.{◌≡◌, sym, ap₂, ◌∙◌, subst, ◌↔◌, ⊎_elim, ℕ, ◌*◌, ◌<◌, ◌≤◌, mul_comm, lt-or-ge}
+use Rattle.lists.proofs.Kit.{◌≡◌, sym, ap, ap₂, ◌∙◌, subst, ◌↔◌, ⊎_elim, ℕ, ◌*◌, ◌<◌, ◌≤◌, mul_comm, lt-or-ge}
 use Rattle.refusals.specs.FirstOf.{first_of}
 use Rattle.refusals.specs.Calls.{size_checks}
+use Rattle.std.specs.Prelude.{Result, Ok, Err}
+use Rattle.refusals.specs.declared.Refusal.{Refusal}
+use Rattle.refusals.proofs.Numbers.{one_refusal, refuses}
 use Rattle.refusals.proofs.Conditions.{sized_two}
 use Rattle.refusals.proofs.Promise.{either_way}
 use Rattle.flat.specs.Turn.{sides}
@@ -10,7 +13,7 @@ use Rattle.cycles.specs.Turns.{Fewest}
 use Rattle.cycles.proofs.Powers.{one_order}
 use Rattle.cycles.proofs.Fewest.{fewest_iff, fewest_small, order_turned}
 use Rattle.home.specs.declared.Home.{Home}
-use Rattle.home.specs.Promise.{Counts, RepeatsPromise}
+use Rattle.home.specs.Promise.{Counts, RepeatsPromise, in_c}
 
 -- h repeats bring every block of m by n words back, and no fewer, at least one, do
 pub counts_fewest : (m n h : ℕ) → 0 < m * n → Counts m n h → Fewest m n h
@@ -46,3 +49,10 @@ repeats_once {m} {n} {a} {b} p q =
   where
     home : ℕ → ℕ → Home
     home number count = record { number = number; count = count }
+
+-- an answer is told by what C sees of it
+pub one_home : (x y : Result ℕ Refusal) → in_c x ≡ in_c y → x ≡ y
+one_home (Ok a) (Ok b) e = ap (λ (h : Home). Ok h.count) e
+one_home (Ok a) (Err s) e = absurd (refuses s (sym (ap (λ (h : Home). h.number) e)))
+one_home (Err r) (Ok b) e = absurd (refuses r (ap (λ (h : Home). h.number) e))
+one_home (Err r) (Err s) e = ap Err (one_refusal r s (ap (λ (h : Home). h.number) e))

@@ -1,7 +1,9 @@
 -- What the count of repeats promises. Assumes nothing: these are definitions.
-use Rattle.std.specs.Prelude.{◌≡◌, ℕ, ◌*◌, ◌≤◌}
+use Rattle.std.specs.Prelude.{◌≡◌, ℕ, ◌*◌, ◌≤◌, Result, Ok, Err}
 use Rattle.refusals.specs.FirstOf.{first_of}
 use Rattle.refusals.specs.Calls.{size_checks}
+use Rattle.refusals.specs.declared.Refusal.{Refusal}
+use Rattle.refusals.specs.Refusal.{number_of}
 use Rattle.flat.specs.Turn.{sides}
 use Rattle.cycles.specs.Turns.{Order}
 use Rattle.home.specs.declared.Home.{Home}
@@ -16,3 +18,8 @@ pub record RepeatsPromise (m n : ℕ) (answered : Home) : Type 0 where
   pub number_is : answered.number ≡ first_of (size_checks (sides m n))
   pub counted : answered.number ≡ 0 → Counts m n answered.count
   pub refused : (answered.number ≡ 0 → ⊥) → answered.count ≡ 0
+
+-- what C sees of an answer: its number and the count, 0 where the call was refused
+abbrev pub in_c : Result ℕ Refusal → Home
+in_c (Ok count) = record { number = 0; count = count }
+in_c (Err r) = record { number = number_of r; count = 0 }

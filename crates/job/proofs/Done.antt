@@ -3,6 +3,10 @@
 -- its result sheet; the chain is lent the block's part of the buffer, and what it makes of it is the computed layout, since two layouts
 -- of one order are equal.
 use Rattle.lists.proofs.Kit.{◌≡◌, refl, sym, ap, ◌∙◌, false, List, [], ◌∷◌, ◌++◌, ℕ, ◌≤◌, arith, length, take, drop, length-append, length-drop, take-append-drop, take_at, drop_at, le-ltb}
+use Rattle.std.specs.Prelude.{Result, Ok, Err}
+use Rattle.std.specs.Result.{IsOk, IsErr, IsErrAnd}
+use Rattle.refusals.specs.declared.Refusal.{Refusal}
+use Rattle.refusals.proofs.Numbers.{refuses}
 use Rattle.layout.specs.Layout.{volume, pick, Laid, laid}
 use Rattle.layout.proofs.Picks.{length-pick}
 use Rattle.orders.specs.Chains.{named}
@@ -11,6 +15,8 @@ use Rattle.orders.proofs.Chains.{pick-named, length-named}
 use Rattle.orders.proofs.Layouts.{chain_volume, chain_once, chain_laid}
 use Rattle.orders.proofs.Numbers.{number_below}
 use Rattle.refusals.specs.Conditions.{bad_length}
+use Rattle.refusals.specs.Refusal.{number_of as number_of_refusal}
+use Rattle.refusals.specs.declared.Refused.{Refused}
 use Rattle.refusals.proofs.Scratch.{chain_few}
 use Rattle.axes.specs.declared.Answer.{Answer}
 use Rattle.axes.specs.Promises.{ChainPromise}
@@ -21,36 +27,36 @@ use Rattle.sheets.specs.Meaning.{Outcome, meaning}
 use Rattle.sheets.proofs.Length.{fields_few, result_fits}
 use Rattle.reader.specs.declared.Sheet.{Sheet}
 use Rattle.writer.specs.declared.Written.{Written}
-use Rattle.writer.specs.Writer.{writer_number, WriteResultPromise}
-use Rattle.writer.specs.RefusalWriter.{WriteRefusalPromise}
+use Rattle.writer.specs.Writer.{in_c as written_in_c, writer_number, WriteResultPromise}
+use Rattle.writer.specs.RefusalWriter.{refusal_number, WriteRefusalPromise}
 use Rattle.writer.proofs.Writes.{number_0}
 use Rattle.writer.proofs.RefusalLine.{length_refusal, line_fits}
 use Rattle.writer.proofs.InFull.{in_full}
 use Rattle.job.specs.Job.{job_words, job_text, JobPromise}
-use Rattle.job.specs.Private.{RunOn}
-use Rattle.job.proofs.Readings.{swaps_of, Turned-away, Taken}
+use Rattle.job.specs.Private.{RunOn, RefusalLine}
+use Rattle.job.proofs.Readings.{swaps_of, Taken}
 use Rattle.job.proofs.Sizes.{longest_le_volume}
 
 -- the line of a refusal has at most thirty bytes
 short_line : (number place : ℕ) → length (refusal_text number place) ≤ 16384
 short_line number place = omega (arith, length_refusal number place, fields_few (number ∷ place ∷ []))
 
--- a sheet that was refused, and its line written
-pub met_refused : {bytes words scratch out : List ℕ} {r : Sheet} {words' : List ℕ} {w : Written} {out' : List ℕ} → length out ≡ 16384
-    → Turned-away words bytes r words' → WriteRefusalPromise r.number r.place out w out'
-    → JobPromise bytes words scratch out r.number r.place w.count words' scratch out'
-met_refused {out = out} {r = r} long t p =
-    let short = short_line r.number r.place in
-    let full = in_full (refusal_text r.number r.place) out (line_fits r.number r.place out (omega arith)) p.answers p.bytes in
-    record {
-      words_are = rw t.means t.same;
-      scratch_is = rw t.means;
-      number_is = rw t.means;
-      place_is = rw t.means;
-      count_is = rw t.means full.0;
-      fits = omega arith;
-      text_is = rw (t.means, full.0) full.1;
-    }
+-- the line of a refusal is written, whatever the buffer of 16,384 bytes
+module _ (r : Refused) {out : List ℕ} (long : length out ≡ 16384) {w : Written} {out' : List ℕ}
+    (p : WriteRefusalPromise (number_of_refusal r.refusal) r.place out w out') where
+  abbrev line : List ℕ
+  line = refusal_text (number_of_refusal r.refusal) r.place
+
+  zero : refusal_number (number_of_refusal r.refusal) r.place out ≡ 0
+  zero = line_fits (number_of_refusal r.refusal) r.place out (omega (arith, short_line (number_of_refusal r.refusal) r.place))
+
+  pub line_accepted : w.number ≡ 0
+  line_accepted = ap (λ (s : Written). s.number) p.answers ∙ zero
+
+  pub line_written : RefusalLine r out w.count out'
+  line_written =
+      let full = in_full line out zero p.answers p.bytes in
+      record { count_is = full.0; fits = omega (arith, full.0, short_line (number_of_refusal r.refusal) r.place); text_is = rw full.0 full.1 }
 
 -- the buffer of a right sheet: the block's part holds the sheet's words, and what is past it is as it was
 module _ {bytes words : List ℕ} {r : Sheet} {words₁ ws : List ℕ} (t : Taken words bytes r words₁ ws) where
@@ -73,11 +79,10 @@ module _ {bytes words : List ℕ} {r : Sheet} {words₁ ws : List ℕ} (t : Take
   pub run_asks : (volume r.lengths ≤ 1048576) × (volume r.lengths ≤ length words₁)
   run_asks = (omega (arith, t.right.few_words), omega (arith, same_words, t.right.room))
 
--- a right sheet, its chain run and its result sheet written
-module _ {bytes words scratch out : List ℕ} {r : Sheet} {words₁ ws : List ℕ} {a : Answer} {words₂ scratch₂ : List ℕ} {w : Written} {out' : List ℕ}
-    (block : length words ≡ 1024) (room : length scratch ≡ 1024) (long : length out ≡ 16384)
-    (t : Taken words bytes r words₁ ws) (p : RunOn r.lengths (swaps_of r) words₁ scratch a words₂ scratch₂)
-    {lengths : List ℕ} (front-is : lengths ≡ take 4 a.lengths) (q : WriteResultPromise lengths a.order words₂ out w out') where
+-- a right sheet and its chain run
+module _ {bytes words scratch : List ℕ} {r : Sheet} {words₁ ws : List ℕ} {a : Answer} {words₂ scratch₂ : List ℕ}
+    (block : length words ≡ 1024) (room : length scratch ≡ 1024)
+    (t : Taken words bytes r words₁ ws) (p : RunOn r.lengths (swaps_of r) words₁ scratch a words₂ scratch₂) where
   abbrev ds : List ℕ
   ds = r.lengths
 
@@ -124,58 +129,75 @@ module _ {bytes words scratch out : List ℕ} {r : Sheet} {words₁ ws : List �
       ∙ length-append front (drop (volume ds) words)
       ∙ omega (arith, laid_out.same, t.right.block, length-drop (volume ds) words, t.right.few_words)
 
-  new_lengths : lengths ≡ pick order ds
-  new_lengths =
-      front-is
-      ∙ ap (λ (s : Answer). take 4 s.lengths) (chain_on.given chain_runs)
-      ∙ first_of_five (pick order ds) (length-pick order ds ∙ length-named 4 (swaps_of r))
+  -- its result sheet written
+  module _ {out : List ℕ} {w : Written} {out' : List ℕ} (long : length out ≡ 16384)
+      {lengths : List ℕ} (front-is : lengths ≡ take 4 a.lengths) (q : WriteResultPromise lengths a.order words₂ out w out') where
+    new_lengths : lengths ≡ pick order ds
+    new_lengths =
+        front-is
+        ∙ ap (λ (s : Answer). take 4 s.lengths) (chain_on.given chain_runs)
+        ∙ first_of_five (pick order ds) (length-pick order ds ∙ length-named 4 (swaps_of r))
 
-  new_order : a.order ≡ number_of 4 order
-  new_order = ap (λ (s : Answer). s.order) (chain_on.given chain_runs)
+    new_order : a.order ≡ number_of 4 order
+    new_order = ap (λ (s : Answer). s.order) (chain_on.given chain_runs)
 
-  good_lengths : bad_length (pick order ds) ≡ false
-  good_lengths =
-      ap bad_length (pick-named ds (swaps_of r) t.right.axes) ∙ (block_after runs.block (swaps_of r) {ys = ws} refl).lengths
+    good_lengths : bad_length (pick order ds) ≡ false
+    good_lengths =
+        ap bad_length (pick-named ds (swaps_of r) t.right.axes) ∙ (block_after runs.block (swaps_of r) {ys = ws} refl).lengths
 
-  few : volume (pick order ds) ≤ 1024
-  few = omega (arith, chain_volume ds t.right.axes (swaps_of r), t.right.few_words)
+    few : volume (pick order ds) ≤ 1024
+    few = omega (arith, chain_volume ds t.right.axes (swaps_of r), t.right.few_words)
 
-  abbrev text : List ℕ
-  text = result_text (pick order ds) (number_of 4 order) words₂
+    abbrev text : List ℕ
+    text = result_text (pick order ds) (number_of 4 order) words₂
 
-  text_fits : length text ≤ 16384
-  text_fits = result_fits (pick order ds) 0 (number_of 4 order) words₂ (length-pick order ds ∙ length-named 4 (swaps_of r)) good_lengths few
+    text_fits : length text ≤ 16384
+    text_fits = result_fits (pick order ds) 0 (number_of 4 order) words₂ (length-pick order ds ∙ length-named 4 (swaps_of r)) good_lengths few
 
-  -- the writer never refuses
-  writes : writer_number (pick order ds) (number_of 4 order) words₂ out ≡ 0
-  writes =
-      number_0 (pick order ds) (number_of 4 order) words₂ out (record { lengths = good_lengths; few = few; enough = omega (arith, few, as_many) })
-      (omega (arith, number_below 4 (swaps_of r))) (omega (arith, text_fits))
+    -- the writer never refuses
+    writes : writer_number (pick order ds) (number_of 4 order) words₂ out ≡ 0
+    writes =
+        number_0 (pick order ds) (number_of 4 order) words₂ out (record { lengths = good_lengths; few = few; enough = omega (arith, few, as_many) })
+        (omega (arith, number_below 4 (swaps_of r))) (omega (arith, text_fits))
 
-  promised : WriteResultPromise (pick order ds) (number_of 4 order) words₂ out w out'
-  promised = rw (new_lengths, new_order) at q
+    promised : WriteResultPromise (pick order ds) (number_of 4 order) words₂ out w out'
+    promised = rw (new_lengths, new_order) at q
 
-  full : (w.count ≡ length text) × (out' ≡ text ++ drop (length text) out)
-  full = in_full text out writes promised.answers promised.bytes
+    full : (w.count ≡ length text) × (out' ≡ text ++ drop (length text) out)
+    full = in_full text out writes promised.answers promised.bytes
 
-  words_of : words₂ ≡ job_words (Outcome.accepted ds (swaps_of r) ws) words
-  words_of = in_two ∙ ap (λ (f : List ℕ). f ++ drop (volume ds) words) words_laid
+    words_of : words₂ ≡ job_words (Outcome.accepted ds (swaps_of r) ws) words
+    words_of = in_two ∙ ap (λ (f : List ℕ). f ++ drop (volume ds) words) words_laid
 
-  text_of : text ≡ job_text (Outcome.accepted ds (swaps_of r) ws) words
-  text_of = ap (result_text (pick order ds) (number_of 4 order)) words_of
+    text_of : text ≡ job_text (Outcome.accepted ds (swaps_of r) ws) words
+    text_of = ap (result_text (pick order ds) (number_of 4 order)) words_of
 
-  pub met_accepted : JobPromise bytes words scratch out 0 0 w.count words₂ scratch₂ out'
-  met_accepted = record {
-    words_are = rw t.means words_of;
-    scratch_is = rw t.means (chain_on.block.zeroed chain_runs);
-    number_is = rw t.means;
-    place_is = rw t.means;
-    count_is = rw t.means (full.0 ∙ ap length text_of);
-    fits = omega (arith, full, text_fits);
-    text_is = rw (t.means, ← text_of, full.0) full.1;
-  }
+    -- the writer never refuses a right sheet
+    pub text_accepted : w.number ≡ 0
+    text_accepted = ap (λ (s : Written). s.number) promised.answers ∙ writes
+
+    pub met_accepted : JobPromise bytes words scratch out 0 0 w.count words₂ scratch₂ out'
+    met_accepted = record {
+      words_are = rw t.means words_of;
+      scratch_is = rw t.means (chain_on.block.zeroed chain_runs);
+      number_is = rw t.means;
+      place_is = rw t.means;
+      count_is = rw t.means (full.0 ∙ ap length text_of);
+      fits = omega (arith, full, text_fits);
+      text_is = rw (t.means, ← text_of, full.0) full.1;
+    }
 
 -- the byte buffer holds as many bytes as the job counts
 pub text_inside : {bytes words scratch out : List ℕ} {k p n : ℕ} {w s o : List ℕ} → JobPromise bytes words scratch out k p n w s o → n ≤ length o
 text_inside {bytes} {words} {scratch} {out} {n = n} p =
     omega (arith, p.count_is, ap length p.text_is, length-append (job_text (meaning words bytes) words) (drop n out))
+
+-- an answer that is an error, which a `?` made
+pub err_is : {A : Type 0} (r : Result A Refused) (x : Refused) → IsErr r × IsErrAnd r (λ e. e ≡ x) → r ≡ Err x
+err_is (Ok a) x h = absurd h.1
+err_is (Err e) x h = ap Err h.1
+
+-- an answer of a writer whose number is 0 is a count
+pub accepted_ok : (r : Result ℕ Refusal) → (written_in_c r).number ≡ 0 → IsOk r
+accepted_ok (Ok count) e = refl
+accepted_ok (Err x) e = absurd (refuses x e)

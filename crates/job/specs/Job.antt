@@ -1,12 +1,30 @@
 -- What the whole job leaves, from what the sheet means. Assumes nothing: these are definitions.
-use Rattle.std.specs.Prelude.{◌≡◌, List, ◌++◌, ℕ, ◌≤◌, length, drop}
+use Rattle.std.specs.Prelude.{◌≡◌, List, ◌++◌, ℕ, ◌≤◌, length, drop, Result, Ok, Err}
 use Rattle.layout.specs.Layout.{volume, pick, laid}
 use Rattle.orders.specs.Chains.{named}
 use Rattle.orders.specs.Numbers.{number_of}
 use Rattle.orders.specs.Needs.{chain_need}
 use Rattle.refusals.specs.Scratch.{cleared}
+use Rattle.refusals.specs.Refusal.{number_of as number_of_refusal}
+use Rattle.refusals.specs.declared.Refused.{Refused}
 use Rattle.sheets.specs.Sheet.{result_text, refusal_text}
 use Rattle.sheets.specs.Meaning.{Outcome, meaning}
+use Rattle.job.specs.declared.Finished.{Finished}
+use Rattle.job.specs.declared.JobAnswer.{JobAnswer}
+
+-- the number of an outcome: 0 where the sheet is right
+abbrev pub number_in : Result (Unit {0}) Refused → ℕ
+number_in (Ok x) = 0
+number_in (Err r) = number_of_refusal r.refusal
+
+-- the place of an outcome: 0 where the sheet is right
+abbrev pub place_in : Result (Unit {0}) Refused → ℕ
+place_in (Ok x) = 0
+place_in (Err r) = r.place
+
+-- what C sees of what the job left
+abbrev pub in_c : Finished → JobAnswer
+in_c f = record { number = number_in f.outcome; place = place_in f.outcome; count = f.count }
 
 -- the words after the job: of a right sheet its words laid out afresh under the order that its chain names, then the words past the
 -- block as they were; a refusal leaves all as it was

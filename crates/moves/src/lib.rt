@@ -5,62 +5,31 @@ mod pieces;
 mod runs;
 mod words;
 
-ghost use Rattle.std.specs.Prelude.{true, false, ◌≡◌, ◌+◌, ◌≤◌, max, min};
+ghost use Rattle.std.specs.Prelude.{true, false, ◌≡◌, ◌+◌, ◌≤◌};
 ghost use Rattle.moves.specs.Promises.{Ahead, Apart, CopyPromise, FallPromise, HandPromise, RisePromise, ZeroPromise, TradePromise};
+
+// Kept: three numbers say a move throughout this crate, since the promises of its public calls name them so; a struct of them would be made at each
+// call, and taken apart in it.
 
 // Whether the run of count words from an offset on ends past a buffer of so many words.
 fn past(len: usize, at: usize, count: usize) -> bool
     ensures { (result ≡ false → at + count ≤ len) × (result ≡ true → (at + count ≤ len → ⊥)) }
 {
-    if len < count {
-        return true;
-    }
-    len - count < at
-}
-
-pub fn smaller(x: usize, y: usize) -> usize
-    ensures { result ≡ min x y }
-{
-    if x < y {
-        return x;
-    }
-    y
-}
-
-fn larger(x: usize, y: usize) -> usize
-    ensures { result ≡ max x y }
-{
-    if x < y {
-        return y;
-    }
-    x
+    len < count || len - count < at
 }
 
 // Whether one of two runs of count words ends past a buffer of so many words.
 fn outside(len: usize, x: usize, y: usize, count: usize) -> bool
     ensures { (result ≡ false → (x + count ≤ len) × (y + count ≤ len)) × (result ≡ true → ((x + count ≤ len) × (y + count ≤ len) → ⊥)) }
 {
-    past(len, larger(x, y), count)
+    past(len, x.max(y), count)
 }
 
 // Whether words that go to a place after them would be overwritten before they are read, the first first.
 fn behind(to: usize, from: usize, count: usize) -> bool
     ensures { (result ≡ false → Ahead to from count) × (result ≡ true → (Ahead to from count → ⊥)) }
 {
-    if to <= from {
-        return false;
-    }
-    to - from < count
-}
-
-// How far two offsets lie apart.
-fn distance(x: usize, y: usize) -> usize
-    ensures { (x ≤ y → result + x ≡ y) × (y ≤ x → result + y ≡ x) }
-{
-    if x < y {
-        return y - x;
-    }
-    x - y
+    from < to && to - from < count
 }
 
 // Whether two runs of count words have a word in common. Which of them comes first is not asked: the machine would guess it, and half of the
@@ -68,17 +37,14 @@ fn distance(x: usize, y: usize) -> usize
 fn overlap(x: usize, y: usize, count: usize) -> bool
     ensures { (result ≡ false → Apart x y count) × (result ≡ true → (Apart x y count → ⊥)) }
 {
-    distance(x, y) < count
+    x.abs_diff(y) < count
 }
 
 // Word to + u of the buffer receives word from + u of the other one, for u below count.
 pub fn copy(buf: &mut [u32], to: usize, other: &[u32], from: usize, count: usize)
     ensures { CopyPromise to from count other.now buf.old buf.new }
 {
-    if past(buf.len(), to, count) {
-        return;
-    }
-    if past(other.len(), from, count) {
+    if past(buf.len(), to, count) || past(other.len(), from, count) {
         return;
     }
     runs::copied(buf, to, other, from, count);
@@ -88,10 +54,7 @@ pub fn copy(buf: &mut [u32], to: usize, other: &[u32], from: usize, count: usize
 pub fn fall(buf: &mut [u32], to: usize, from: usize, count: usize)
     ensures { FallPromise to from count buf.old buf.new }
 {
-    if outside(buf.len(), to, from, count) {
-        return;
-    }
-    if behind(to, from, count) {
+    if outside(buf.len(), to, from, count) || behind(to, from, count) {
         return;
     }
     runs::fallen(buf, to, from, count);
@@ -101,10 +64,7 @@ pub fn fall(buf: &mut [u32], to: usize, from: usize, count: usize)
 pub fn hand(buf: &mut [u32], to: usize, from: usize, count: usize)
     ensures { HandPromise to from count buf.old buf.new }
 {
-    if outside(buf.len(), to, from, count) {
-        return;
-    }
-    if overlap(to, from, count) {
+    if outside(buf.len(), to, from, count) || overlap(to, from, count) {
         return;
     }
     runs::fallen(buf, to, from, count);
@@ -114,10 +74,7 @@ pub fn hand(buf: &mut [u32], to: usize, from: usize, count: usize)
 pub fn rise(buf: &mut [u32], to: usize, from: usize, count: usize)
     ensures { RisePromise to from count buf.old buf.new }
 {
-    if to < from {
-        return;
-    }
-    if past(buf.len(), to, count) {
+    if to < from || past(buf.len(), to, count) {
         return;
     }
     runs::risen(buf, to, from, count);
@@ -137,10 +94,7 @@ pub fn zero(buf: &mut [u32], from: usize, count: usize)
 pub fn trade(buf: &mut [u32], x: usize, y: usize, count: usize)
     ensures { TradePromise x y count buf.old buf.new }
 {
-    if outside(buf.len(), x, y, count) {
-        return;
-    }
-    if overlap(x, y, count) {
+    if outside(buf.len(), x, y, count) || overlap(x, y, count) {
         return;
     }
     words::trade_words(buf, x, y, count);

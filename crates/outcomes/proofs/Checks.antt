@@ -1,5 +1,9 @@
--- The checks on lengths, counts and sheets: one answer each, because each promise is an equation with it.
-use mathlib.Core.Path.{refl, sym, ◌∙◌}
+-- The checks on lengths, counts and sheets, and the numbers of refusals: one answer each, because each promise is an equation with it.
+use Rattle.lists.proofs.Kit.{◌≡◌, refl, sym, ap, ◌∙◌, ℕ, ◌<◌, arith}
+use Rattle.std.specs.Prelude.{Option, None, Some}
+use Rattle.std.specs.Option.{MatchOption}
+use Rattle.refusals.proofs as refusals
+use Rattle.refusals.proofs.Numbers.{one_bare}
 use Rattle.checks.proofs as checks
 use Rattle.outcomes.specs.Once.{Once}
 
@@ -15,23 +19,33 @@ longest_of_once t = (t.first ∙ sym t.second, refl)
 pub need_of_once : Once checks.need_of.Kinds.ps checks.need_of.Kinds.r checks.need_of.Reads.Post
 need_of_once t = (t.first ∙ sym t.second, refl)
 
+-- a place that is the first of its kind among n, or none where there is no such place, is one
+one_place : (n first : ℕ) (x y : Option ℕ) → MatchOption x (first ≡ n) (λ p. (p < n) × (p ≡ first)) → MatchOption y (first ≡ n) (λ p. (p < n) × (p ≡ first)) → x ≡ y
+one_place n first None None p q = refl
+one_place n first None (Some b) p q = absurd (omega arith)
+one_place n first (Some a) None p q = absurd (omega arith)
+one_place n first (Some a) (Some b) p q = ap Some (p.1 ∙ sym q.1)
+
 pub first_above_once : Once checks.first_above.Kinds.ps checks.first_above.Kinds.r checks.first_above.Reads.Post
-first_above_once t = (t.first ∙ sym t.second, refl)
+first_above_once t = (one_place _ _ t.x t.y t.first t.second, refl)
 
-pub size_number_once : Once checks.size_number.Kinds.ps checks.size_number.Kinds.r checks.size_number.Reads.Post
-size_number_once t = (t.first ∙ sym t.second, refl)
+pub check_size_once : Once checks.check_size.Kinds.ps checks.check_size.Kinds.r checks.check_size.Reads.Post
+check_size_once t = (one_bare t.x t.y (t.first ∙ sym t.second), refl)
 
-pub block_number_once : Once checks.block_number.Kinds.ps checks.block_number.Kinds.r checks.block_number.Reads.Post
-block_number_once t = (t.first ∙ sym t.second, refl)
+pub check_block_once : Once checks.check_block.Kinds.ps checks.check_block.Kinds.r checks.check_block.Reads.Post
+check_block_once t = (one_bare t.x t.y (t.first ∙ sym t.second), refl)
 
-pub passes_number_once : Once checks.passes_number.Kinds.ps checks.passes_number.Kinds.r checks.passes_number.Reads.Post
-passes_number_once t = (t.first ∙ sym t.second, refl)
+pub check_passes_once : Once checks.check_passes.Kinds.ps checks.check_passes.Kinds.r checks.check_passes.Reads.Post
+check_passes_once t = (one_bare t.x t.y (t.first ∙ sym t.second), refl)
 
-pub named_number_once : Once checks.named_number.Kinds.ps checks.named_number.Kinds.r checks.named_number.Reads.Post
-named_number_once t = (t.first ∙ sym t.second, refl)
+pub check_named_once : Once checks.check_named.Kinds.ps checks.check_named.Kinds.r checks.check_named.Reads.Post
+check_named_once t = (one_bare t.x t.y (t.first ∙ sym t.second), refl)
 
-pub swap_number_once : Once checks.swaps.swap_number.Kinds.ps checks.swaps.swap_number.Kinds.r checks.swaps.swap_number.Reads.Post
-swap_number_once t = (t.first ∙ sym t.second, refl)
+pub check_swap_once : Once checks.swaps.check_swap.Kinds.ps checks.swaps.check_swap.Kinds.r checks.swaps.check_swap.Reads.Post
+check_swap_once t = (one_bare t.x t.y (t.first ∙ sym t.second), refl)
 
-pub sheet_number_once : Once checks.sheet_number.Kinds.ps checks.sheet_number.Kinds.r checks.sheet_number.Reads.Post
-sheet_number_once t = (t.first ∙ sym t.second, refl)
+pub check_sheet_once : Once checks.check_sheet.Kinds.ps checks.check_sheet.Kinds.r checks.check_sheet.Reads.Post
+check_sheet_once t = (one_bare t.x t.y (t.first ∙ sym t.second), refl)
+
+pub number_once : Once refusals.Refusal.number.Kinds.ps refusals.Refusal.number.Kinds.r refusals.Refusal.number.Reads.Post
+number_once t = (t.first ∙ sym t.second, refl)

@@ -15,10 +15,9 @@ use Rattle.tiles.proofs.OneOutcome.{to_tiles_once, from_tiles_once}
 use Rattle.cameras.specs.Columns.{past, Removed, Added}
 use Rattle.cameras.specs.Promises.{remove_checks, add_checks, RemovePromise, AddPromise}
 use Rattle.cameras.proofs.OneOutcome.{remove_once, add_once}
-use Rattle.passes.specs.declared.Ticked.{Ticked}
 use Rattle.passes.specs.Lines.{skipped}
 use Rattle.passes.specs.Plain.{ColumnMoved, RowMoved, first_lines, LineTicked}
-use Rattle.passes.specs.Ticks.{tick_checks, done_after, TickPromise}
+use Rattle.passes.specs.Ticks.{Ticked, tick_checks, done_after, TickPromise}
 use Rattle.passes.proofs.OneTick.{tick_once}
 use Rattle.outcomes.specs.Wrong.{Case, Row, Refuted}
 use Rattle.outcomes.proofs.Wrong.{refuted}

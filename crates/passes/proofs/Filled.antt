@@ -1,6 +1,6 @@
 -- A loop that stores word k at place `to k`, for k = 0, 1, ..: one store more, and one group of stores more, where no two places are one. The loops over a
 -- line (gather, scatter, put back) are instances.
-use Rattle.lists.proofs.Kit.{◌≡◌, refl, sym, ap, ◌∙◌, subst, List, ⊎_elim, ℕ, ◌+◌, ◌*◌, ◌-◌, ◌<◌, ◌≤◌, not-suc-le-zero, le_trans, eq_of_mul-eq-mul_left, arith, length, get_or, set, length-set, eqb, get_or-set_same, get_or-set_other, ext_get_or, eqb-true, eqb-false, eq-or-ne, lt-or-ge}
+use Rattle.lists.proofs.Kit.{◌≡◌, refl, sym, ap, ◌∙◌, subst, List, ⊎_elim, ℕ, ◌+◌, ◌-◌, ◌<◌, ◌≤◌, not-suc-le-zero, le_trans, arith, length, get_or, set, length-set, eqb, get_or-set_same, get_or-set_other, ext_get_or, eqb-true, eqb-false, eq-or-ne, lt-or-ge}
 use Rattle.cycles.specs.Orbit.{first}
 use Rattle.cycles.proofs.First.{first_holds, first_least}
 use Rattle.stages.proofs.Filled.{filled, length_filled, filled_at, filled_others}
@@ -21,10 +21,6 @@ filled_more {to} {word} {count} {k} {before} {now} apart h inside f = record {
       (eq-or-ne j k);
   others = λ p g. get_or-set_other now (to k) p (word k) 0 (λ e. g k (omega arith) (sym e)) ∙ f.others p (λ j l. g j (omega arith));
 }
-
--- no two places of a line are one
-pub line_apart : (start stride count : ℕ) → 0 < stride → Apart (λ j. start + stride * j) count
-line_apart start stride count h i j _ _ e = eq_of_mul-eq-mul_left stride h i j (omega arith)
 
 -- two outcomes of such a loop are one, and that is the list stored into one word after the other
 pub one_filled : {to word : ℕ → ℕ} {count : ℕ} {xs ys zs : List ℕ} → Filled to word count xs ys → Filled to word count xs zs → ys ≡ zs

@@ -5,7 +5,7 @@ use Rattle.refusals.specs.Scratch.{need}
 use Rattle.flat.specs.Turn.{sides}
 use Rattle.passes.specs.Lines.{column, row, line_at, line_of, line_count, skipped, pos_on}
 use Rattle.moves.specs.Stretch.{Past}
-use Rattle.passes.specs.PrivateScratch.{Grouped, Lain, Fits, Lies, line_in, lines_in}
+use Rattle.passes.specs.PrivateScratch.{Lain, Fits, Lies, line_in, lines_in}
 use Rattle.passes.specs.declared.line.Line.{Line}
 use Rattle.passes.specs.declared.line.Pass.{Pass}
 use Rattle.passes.specs.declared.line.Pass.TheVariants.{First, Second, Third}
@@ -76,12 +76,12 @@ lies_in xs scratch ys held e f y = record {
 }
 
 -- a line that is left fits, and is no longer than what the call needs of scratch
-module _ {s : GroupedSides} {xs scratch : List ℕ} (g : Grouped s) (y : Lies s.m s.n xs scratch) (l : ℕ) (h : l < line_count s.m s.n) where
+module _ (s : GroupedSides) {xs scratch : List ℕ} (y : Lies s.m s.n xs scratch) (l : ℕ) (h : l < line_count s.m s.n) where
   pub left_fits : Fits s.m s.n (line_of s.m s.n l) xs scratch
-  left_fits = line_fits g.m_pos g.n_pos y (skipped s.m s.n + l) (omega (arith, skipped_few s.m s.n g.m_pos g.n_pos))
+  left_fits = line_fits s.m_pos s.n_pos y (skipped s.m s.n + l) (omega (arith, skipped_few s.m s.n s.m_pos s.n_pos))
 
   pub left_short : (line_of s.m s.n l).count ≤ need (sides s.m s.n)
-  left_short = line_short s.m s.n (skipped s.m s.n + l) (omega (arith, skipped_few s.m s.n g.m_pos g.n_pos))
+  left_short = line_short s.m s.n (skipped s.m s.n + l) (omega (arith, skipped_few s.m s.n s.m_pos s.n_pos))
 
 -- so is a line of a pass
 pub in_short : (m n : ℕ) (p : Pass) (t : ℕ) → (line_in m n p t).count ≤ need (sides m n)

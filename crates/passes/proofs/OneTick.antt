@@ -1,5 +1,8 @@
 -- Any two outcomes of a tick coincide: each place of the line receives the word that its pass says, and every other word stands.
-use Rattle.lists.proofs.Kit.{◌≡◌, sym, ap₂, ◌∙◌, List, ⊎_elim, ℕ, ◌<◌, ◌≤◌, get_or, lt-or-ge}
+use Rattle.lists.proofs.Kit.{◌≡◌, sym, ap, ap₂, ◌∙◌, List, ⊎_elim, ℕ, ◌<◌, ◌≤◌, get_or, lt-or-ge}
+use Rattle.std.specs.Prelude.{Result, Ok, Err}
+use Rattle.refusals.specs.declared.Refusal.{Refusal}
+use Rattle.refusals.proofs.Numbers.{refuses, one_refusal}
 use Rattle.refusals.specs.FirstOf.{first_of}
 use Rattle.refusals.specs.Calls.{passes_checks}
 use Rattle.refusals.proofs.Promise.{one_accepted}
@@ -7,8 +10,7 @@ use Rattle.flat.specs.Turn.{sides}
 use Rattle.passes.specs.Lines.{line_count, line_of, LineMoved, pos_on, received}
 use Rattle.passes.specs.PrivateScratch.{Filled}
 use Rattle.passes.specs.Plain.{LineTicked}
-use Rattle.passes.specs.Ticks.{TickPromise, LinesPromise}
-use Rattle.passes.specs.declared.Ticked.{Ticked}
+use Rattle.passes.specs.Ticks.{Ticked, TickPromise, LinesPromise, in_c, ticked}
 use Rattle.passes.specs.declared.LineCount.{LineCount}
 use Rattle.flat.proofs.Sides.{sides_are}
 use Rattle.passes.proofs.Accepted.{flat_accepted}
@@ -47,3 +49,17 @@ pub lines_once : {m n : ℕ} {l l' : LineCount} → LinesPromise m n l → Lines
 lines_once p q =
     let (number, count) = one_answer p.number_is q.number_is p.given q.given p.refusal q.refusal in
     ap₂ (λ (i c : ℕ). let r : LineCount = record { number = i; count = c } in r) number count
+
+-- an answer of how many lines is told by what C sees of it
+pub one_lines : (x y : Result ℕ Refusal) → in_c x ≡ in_c y → x ≡ y
+one_lines (Ok a) (Ok b) e = ap (λ (l : LineCount). Ok l.count) e
+one_lines (Ok a) (Err s) e = absurd (refuses s (sym (ap (λ (l : LineCount). l.number) e)))
+one_lines (Err r) (Ok b) e = absurd (refuses r (ap (λ (l : LineCount). l.number) e))
+one_lines (Err r) (Err s) e = ap Err (one_refusal r s (ap (λ (l : LineCount). l.number) e))
+
+-- an answer of a tick is told by the number and the lines done that it leaves
+pub one_ticked : (done : ℕ) (x y : Result ℕ Refusal) → ticked done x ≡ ticked done y → x ≡ y
+one_ticked done (Ok a) (Ok b) e = ap (λ (t : Ticked). Ok t.done) e
+one_ticked done (Ok a) (Err s) e = absurd (refuses s (sym (ap (λ (t : Ticked). t.number) e)))
+one_ticked done (Err r) (Ok b) e = absurd (refuses r (ap (λ (t : Ticked). t.number) e))
+one_ticked done (Err r) (Err s) e = ap Err (one_refusal r s (ap (λ (t : Ticked). t.number) e))

@@ -8,10 +8,12 @@ use Rattle.walks.specs.PrivateSource.{Inverse, StateAt}
 use Rattle.walks.specs.PrivateWalk.{walk}
 use Rattle.walks.proofs.Steps.{walk_start, walk_more, walk_lt}
 use Rattle.walks.proofs.Passes.{shared_le, row1_start, row3-walk, row_below}
-use Rattle.walks.proofs.Source.{state_first, next_group, next_lap, next_round, row_next, row_round, source_at, column_lt}
-use Rattle.passes.specs.PrivateScratch.{Grouped, Apart}
-use Rattle.passes.specs.PrivateWalks.{begun, risen, onward, stands, Low, Small, Follows, SourceAt, WalkOf}
+use Rattle.walks.proofs.Source.{state_first, next_group, next_lap, next_round, row_round, source_at, column_lt}
+use Rattle.passes.specs.PrivateScratch.{Apart, OfPass}
+use Rattle.passes.specs.PrivateWalks.{begun, risen, onward, stands, Low, Small, Follows, SourceAt, Begins, WalkOf}
 use Rattle.passes.specs.declared.sides.GroupedSides.{GroupedSides}
+use Rattle.passes.specs.Lines.{received}
+use Rattle.passes.specs.declared.line.Line.{Line}
 use Rattle.passes.specs.declared.line.Pass.TheVariants.{First, Second, Third}
 use Rattle.passes.specs.declared.walk.Place.{Place}
 use Rattle.passes.specs.declared.walk.Walk.{Walk}
@@ -179,24 +181,29 @@ module _ {m n : ℕ} (d : Sides m n) (hm : 0 < m) (hn : 0 < n) where
         ))
 
 -- the walk of each pass, as the function makes it of the sides, is that of line i
-module _ {s : GroupedSides} (g : Grouped s) where
+module _ (s : GroupedSides) where
   flat : Sides s.m s.n
-  flat = sides_are s.m s.n g.m_pos g.n_pos
+  flat = sides_are s.m s.n s.m_pos s.n_pos
 
   -- a walk that follows all that another follows
   abbrev Joins : Walk → Walk → ℕ → Type 0
   Joins v w count = (q : Place) (f : ℕ → ℕ) → Follows v q count f → Follows w q count f
 
   pub walk_1 : {i : ℕ} → i < s.n → WalkOf s.m s.n First i (record { step = 1; modulus = s.m; size = s.m; turn = 0; round = s.m; split = 0 })
-  walk_1 {i} h q e = rw e (follows_1 flat g.m_pos g.n_pos i h)
+  walk_1 {i} h q e = rw e (follows_1 flat s.m_pos s.n_pos i h)
 
   pub walk_2 : {w : Walk} {i x : ℕ} → i < s.m → Inverse (row_group s.m s.n) (column_group s.m s.n) x
       → Joins (record { step = s.b; modulus = s.n; size = s.c; turn = x; round = s.b; split = s.m - i }) w s.n → WalkOf s.m s.n Second i w
-  walk_2 {i = i} h v f q y = f q (source2 s.m s.n i) (rw (g.b_is, g.c_is) (follows_2 flat g.m_pos g.n_pos v h y))
+  walk_2 {i = i} h v f q y = f q (source2 s.m s.n i) (rw (s.b_is, s.c_is) (follows_2 flat s.m_pos s.n_pos v h y))
 
   pub walk_3 : {w : Walk} {i : ℕ} → i < s.n
       → Joins (record { step = s.remainder; modulus = s.m; size = s.a; turn = s.m - 1; round = s.m; split = 0 }) w s.m → WalkOf s.m s.n Third i w
-  walk_3 {i = i} h f q e = rw e (f (begun (i % s.m)) (λ k. row3 s.m s.n k i) (rw (g.remainder_is, g.a_is) (follows_3 flat g.m_pos g.n_pos i h)))
+  walk_3 {i = i} h f q e = rw e (f (begun (i % s.m)) (λ k. row3 s.m s.n k i) (rw (s.remainder_is, s.a_is) (follows_3 flat s.m_pos s.n_pos i h)))
+
+-- a line that is one of its pass receives from the places of its walk
+pub follows_line : (m n : ℕ) (l : Line) {w : Walk} {p : Place} → OfPass m n l → WalkOf m n l.pass l.index w → Begins m n l.pass l.index p
+    → Follows w p l.count (received m n l.pass l.index)
+follows_line m n l is goes begins = rw is.0 (goes _ begins)
 
 -- the numbers on the way to the source of place 0 of row i, where k·c is the first multiple of c from i on
 pub record Sought (s : GroupedSides) (x i k : ℕ) : Type 0 where
@@ -207,13 +214,13 @@ pub record Sought (s : GroupedSides) (x i k : ℕ) : Type 0 where
   pub product : x * ((s.n - 1) * k) ≤ 137438953472
 
 -- where the walk over the sources of a row begins
-module _ {s : GroupedSides} (g : Grouped s) {x : ℕ} (v : Inverse (row_group s.m s.n) (column_group s.m s.n) x) where
+module _ (s : GroupedSides) {x : ℕ} (v : Inverse (row_group s.m s.n) (column_group s.m s.n) x) where
   whole : Sides s.m s.n
-  whole = sides_are s.m s.n g.m_pos g.n_pos
+  whole = sides_are s.m s.n s.m_pos s.n_pos
 
   -- the numbers that come with the sides are small
   pub few : (0 < s.b) × (0 < s.c) × (s.b ≤ 4096) × (s.c ≤ s.m) × (x < s.b)
-  few = rw (g.b_is, g.c_is) (whole.b_pos, whole.c_pos, omega (arith, b_le whole g.m_pos g.n_pos, g.n_few), shared_le whole, v.small)
+  few = rw (s.b_is, s.c_is) (whole.b_pos, whole.c_pos, omega (arith, b_le whole s.m_pos s.n_pos, s.n_few), shared_le whole, v.small)
 
   pub sought : (i : ℕ) → i < s.m → Sought s x i ((i + (s.c - 1)) / s.c)
   sought i h =
@@ -222,8 +229,8 @@ module _ {s : GroupedSides} (g : Grouped s) {x : ℕ} (v : Inverse (row_group s.
       let e = div-add-mod' (i + (s.c - 1)) s.c in
       let r = mod-lt (i + (s.c - 1)) f.1 in
       let le = div-le_self (i + (s.c - 1)) s.c in
-      let few-m = g.m_few in
-      let few-n = g.n_few in
+      let few-m = s.m_few in
+      let few-n = s.n_few in
       let many : (s.n - 1) * k ≤ 33554432 = mul-le-mul {n₂ = 4096} {m₂ = 8192} (omega arith) (omega arith) in
       record {
         low = omega arith;
@@ -235,7 +242,7 @@ module _ {s : GroupedSides} (g : Grouped s) {x : ℕ} (v : Inverse (row_group s.
 
   -- a state as the functions hold it
   held : {i j group lap column : ℕ} → StateAt s.m s.n i j group lap column → SourceAt s.m s.n i j (record { place = group * s.b + column; group = group; lap = lap })
-  held {group = group} {column = column} w = record { column = column; state = w; place = ap (λ (z : ℕ). group * z + column) g.b_is }
+  held {group = group} {column = column} w = record { column = column; state = w; place = ap (λ (z : ℕ). group * z + column) s.b_is }
 
   kept : (q : ℕ) {z : ℕ} → q < s.b → z ≡ 0 → (q + z) % s.b ≡ q
   kept q h e = ap (λ (z : ℕ). (q + z) % s.b) e ∙ ap (λ (z : ℕ). z % s.b) (add-zero q) ∙ mod-eq_of_lt h
@@ -243,7 +250,7 @@ module _ {s : GroupedSides} (g : Grouped s) {x : ℕ} (v : Inverse (row_group s.
   -- worked out for row i, where its row and group do not reach m, and where they do
   module _ (i k : ℕ) (t : Sought s x i k) where
     first-at : let q = x * ((s.n - 1) * k) % s.b in StateAt s.m s.n i 0 (k * s.c - i) q ((q + k * s.c / s.m) % s.b)
-    first-at = rw (g.b_is, g.c_is) (state_first whole v i k g.n_pos (rw g.c_is at t.low) (rw g.c_is at t.high))
+    first-at = rw (s.b_is, s.c_is) (state_first whole v i k s.n_pos (rw s.c_is at t.low) (rw s.c_is at t.high))
 
     pub source_short : k * s.c < s.m
         → let q = x * ((s.n - 1) * k) % s.b in SourceAt s.m s.n i 0 (record { place = (k * s.c - i) * s.b + q; group = k * s.c - i; lap = q })
@@ -260,21 +267,9 @@ module _ {s : GroupedSides} (g : Grouped s) {x : ℕ} (v : Inverse (row_group s.
 
   -- carried on from row i: the group before, or the last one, where its row and group do not reach m and where they do
   module _ {i : ℕ} {p : Place} (w : SourceAt s.m s.n i 0 p) where
-    pub below_group : 0 < p.group → SourceAt s.m s.n (i + 1) 0 (record { place = p.place - s.b; group = p.group - 1; lap = p.lap })
-    below_group h =
-        let e : p.group ≡ p.group - 1 + 1 = omega arith in
-        record {
-          column = w.column;
-          state = row_next whole (subst (λ (z : ℕ). StateAt s.m s.n i 0 z p.lap w.column) e w.state);
-          place =
-              let b = column_group s.m s.n in
-              let up : p.group * b ≡ (p.group - 1 + 1) * b = ap (λ (z : ℕ). z * b) e in
-              omega (arith, g.b_is, w.place, add-mul (p.group - 1) 1 b, one-mul b);
-        }
-
     module _ (none : p.group ≡ 0) (h : i < s.m) {lap : ℕ} (is : lap ≡ (p.lap + (s.b - x)) % s.b) where
       last : StateAt s.m s.n (i + 1) 0 (s.c - 1) lap ((lap + (i + s.c) / s.m) % s.b)
-      last = rw (is, g.b_is, g.c_is) (row_round whole v (subst (λ (z : ℕ). StateAt s.m s.n i 0 z p.lap w.column) none w.state))
+      last = rw (is, s.b_is, s.c_is) (row_round whole v (subst (λ (z : ℕ). StateAt s.m s.n i 0 z p.lap w.column) none w.state))
 
       lap_low : lap < s.b
       lap_low = rw is (mod-lt _ few.0)

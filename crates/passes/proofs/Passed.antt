@@ -3,16 +3,13 @@
 use Rattle.lists.proofs.Kit.{◌≡◌, refl, sym, ap, ◌∙◌, subst, Bool, true, false, cond, List, ℕ, zero, suc, ◌+◌, ◌*◌, ◌<◌, ◌≤◌, arith, mul-one, le-mul_of_pos_right, ltb, get_or, lt-ltb, le-ltb, ltb-false}
 use Rattle.flat.specs.Gcd.{gcd_of}
 use Rattle.flat.specs.Turn.{Turn}
-use Rattle.flat.specs.Passes.{row_group, column_group}
+use Rattle.flat.specs.Passes.{column_group}
 use Rattle.flat.proofs.Sides.{Sides, sides_are}
-use Rattle.walks.specs.PrivateSource.{Inverse}
 use Rattle.passes.specs.Lines.{column, row, line_at, skipped, pos_on, LineMoved}
 use Rattle.passes.specs.declared.line.Line.{Line}
-use Rattle.passes.specs.declared.sides.GroupedSides.{GroupedSides}
 use Rattle.passes.specs.declared.line.Pass.{Pass}
 use Rattle.passes.specs.declared.line.Pass.TheVariants.{First, Second, Third}
-use Rattle.passes.specs.PrivateScratch.{Grouped, Gone, line_in, lines_in, moved_from}
-use Rattle.passes.specs.PrivateWalks.{Inverted}
+use Rattle.passes.specs.PrivateScratch.{Gone, line_in, lines_in, moved_from}
 use Rattle.passes.proofs.Received.{moved_received}
 use Rattle.passes.proofs.Gone.{named, of_pass, gone_family, gone_turn, still}
 use Rattle.passes.proofs.Ran.{Ran, cut, ran_some}
@@ -51,22 +48,11 @@ skipped_le m n hm hn = go (ltb 1 (gcd_of m n)) refl
 pub groups_le : (m n : ℕ) → 0 < m → 0 < n → column_group m n ≤ n
 groups_le m n hm hn = let s = sides_are m n hm hn in omega (arith, le-mul_of_pos_right {m = gcd_of m n} (column_group m n) s.c_pos, s.columns)
 
--- a pass has few lines, and its first line that moves is one of them or the one after its last
-pub lines_few : {s : GroupedSides} → Grouped s → (p : Pass) → lines_in s.m s.n p ≤ 4096
-lines_few g First = g.n_few
-lines_few g Second = g.m_few
-lines_few g Third = g.n_few
-
+-- the first line of a pass that moves is one of its lines or the one after its last
 pub moved_few : (m n : ℕ) → 0 < m → 0 < n → (p : Pass) → moved_from m n p ≤ lines_in m n p
 moved_few m n hm hn First = groups_le m n hm hn
 moved_few m n hm hn Second = omega arith
 moved_few m n hm hn Third = omega arith
-
--- an inverse serves the lines of any pass
-pub serves : (m n x : ℕ) → Inverse (row_group m n) (column_group m n) x → (p : Pass) → Inverted m n p x
-serves m n x v First = tt
-serves m n x v Second = v
-serves m n x v Third = tt
 
 -- no more columns are left out than there are
 pub skipped_few : (m n : ℕ) → 0 < m → 0 < n → skipped m n ≤ n

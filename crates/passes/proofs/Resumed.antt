@@ -1,20 +1,16 @@
 -- The outcomes of a call of the mapped turn: refused by the flat call's checks or by 23, or its stages have gone on. The checks of the flat
 -- turn come first, so 23 decides where they are passed.
-use Rattle.lists.proofs.Kit.{◌≡◌, refl, sym, ◌∙◌, cond, List, [], ◌∷◌, ⊎_elim, ℕ, ◌+◌, ◌*◌, ◌<◌, ◌≤◌, arith, lt-ltb, le-ltb, lt-or-ge}
+use Rattle.lists.proofs.Kit.{◌≡◌, sym, ◌∙◌, cond, List, [], ◌∷◌, ⊎_elim, ℕ, ◌+◌, ◌*◌, ◌<◌, ◌≤◌, arith, lt-ltb, le-ltb, lt-or-ge}
 use Rattle.refusals.specs.FirstOf.{check, first_of}
 use Rattle.refusals.specs.Calls.{passes_checks}
 use Rattle.refusals.proofs.FirstOf.{refused_by, passed_first, through}
 use Rattle.flat.specs.Turn.{sides}
-use Rattle.stages.specs.Stages.{Memory, call}
+use Rattle.stages.specs.Stages.{Memory}
 use Rattle.passes.specs.Lines.{line_count}
-use Rattle.passes.specs.PrivateScratch.{Grouped, Mapped}
-use Rattle.passes.specs.Restart.{turn_stages, past_stages, resume_checks, ResumePromise}
+use Rattle.passes.specs.PrivateScratch.{Mapped}
+use Rattle.passes.specs.Restart.{past_stages, resume_checks}
 use Rattle.passes.specs.declared.sides.GroupedSides.{GroupedSides}
-use Rattle.passes.proofs.Accepted.{Accepted, flat_asked}
-
--- a call that is refused
-pub resume_refused : {m n budget number : ℕ} {x : Memory} → number ≡ first_of (resume_checks m n x) → (number ≡ 0 → ⊥) → ResumePromise m n budget x number x
-resume_refused e k = record { number_is = e; stored = λ z. absurd (k z); kept = λ _. refl }
+use Rattle.passes.proofs.Accepted.{Accepted, flat_asked, flat_room}
 
 module _ (m n : ℕ) (x : Memory) where
   -- by the checks of the flat turn
@@ -45,17 +41,6 @@ module _ (m n : ℕ) (x : Memory) where
       (lt-or-ge (line_count m n * 2 + 1) x.progress)
 
 -- in the sides as they are grouped: how many stages there are, that the turn can go on, and that it has gone on
-module _ {m n : ℕ} {s : GroupedSides} (is : (s.m ≡ m) × (s.n ≡ n) × Grouped s) where
-  pub stages_of_lem : {total : ℕ} → total ≡ line_count s.m s.n * 2 + 1 → total ≡ line_count m n * 2 + 1
-  stages_of_lem e = rw (is.0, is.1) at e
-
-  pub mapped : {b sc : List ℕ} → Accepted m n b sc → Mapped s b sc
-  mapped a = let asked = flat_asked is a in record { grouped = asked.0; lies = asked.1; room = rw (is.0, is.1) a.room }
-
-  pub resumed : {budget : ℕ} {x y : Memory} → first_of (passes_checks (sides m n) x.buffer x.scratch) ≡ 0 → x.progress ≤ line_count s.m s.n * 2 + 1
-      → y ≡ call (turn_stages s.m s.n) budget x → ResumePromise m n budget x 0 y
-  resumed {x = x} good h e = record {
-    number_is = sym (in_range m n x good (rw (is.0, is.1) at h));
-    stored = λ _. rw (is.0, is.1) at e;
-    kept = λ k. absurd (k refl);
-  }
+module _ {m n : ℕ} (s : GroupedSides) (is : (s.m ≡ m) × (s.n ≡ n)) where
+  pub mapped : {b sc : List ℕ} → Accepted m n b sc → Mapped s.m s.n b sc
+  mapped a = record { lies = flat_asked s is a; room = flat_room s is a }

@@ -12,15 +12,11 @@ use Rattle.passes.specs.Restart.{memory, turn_lines, turn_stages}
 use Rattle.passes.specs.declared.sides.GroupedSides.{GroupedSides}
 use Rattle.passes.specs.declared.line.Line.{Line}
 use Rattle.passes.proofs.Filled.{filled_is, zero_filled}
-use Rattle.passes.proofs.Fits.{lies_in, left_fits}
+use Rattle.passes.proofs.Fits.{left_fits}
 
 -- the line of a stage
 pub stage-line : (p : ℕ) {L : ℕ} → p < L * 2 → p / 2 < L
 stage-line p h = (div-lt_iff_lt-mul {k = 2} (omega arith)).1 h
-
--- a mapped turn goes on in a buffer and scratch of the same lengths
-pub mapped_in : {s : GroupedSides} {b sc b' sc' : List ℕ} → length b' ≡ length b → length sc' ≡ length sc → Mapped s b sc → Mapped s b' sc'
-mapped_in {b = b} {sc} {b'} {sc'} e f g = record { grouped = g.grouped; lies = lies_in b sc b' sc' e f g.lies; room = rw f g.room }
 
 -- how many words a stage stores
 pub stage_size : (m n p : ℕ) (x : Memory) → length ((turn_stages m n).words p x) ≡ stage_words m n p
@@ -32,14 +28,18 @@ line_words m n p h e = ap (λ (l : Line). l.count) e ∙ rw (lt-ltb p (line_coun
 pub clear_words : (m n p : ℕ) → line_count m n * 2 ≤ p → need (sides m n) ≡ stage_words m n p
 clear_words m n p h = rw (le-ltb p (line_count m n * 2) h)
 
-module _ {s : GroupedSides} {b sc : List ℕ} (g : Mapped s b sc) (p until : ℕ) (few : until ≤ stage_words s.m s.n p) where
+module _ (s : GroupedSides) {b sc : List ℕ} (g : Mapped s.m s.n b sc) (p until : ℕ) (few : until ≤ stage_words s.m s.n p) where
   module _ (h : p < line_count s.m s.n * 2) where
     -- its line fits, and it has as many words as the stage
     pub stage_fits : Fits s.m s.n (line_of s.m s.n (p / 2)) b sc
-    stage_fits = left_fits g.grouped g.lies (p / 2) (stage-line p h)
+    stage_fits = left_fits s g.lies (p / 2) (stage-line p h)
 
     pub stage_few : until ≤ (line_of s.m s.n (p / 2)).count
     stage_few = rw (lt-ltb p (line_count s.m s.n * 2) h) at few
+
+    -- the same of the line as the function makes it
+    pub stage_line_is : (l : Line) → l ≡ line_of s.m s.n (p / 2) → Fits s.m s.n l b sc × (until ≤ l.count)
+    stage_line_is l e = rw e (stage_fits, stage_few)
 
     pub stored_lift : {sc' : List ℕ} → p % 2 ≡ 0
         → (let l = line_of s.m s.n (p / 2) in Filled (λ k. k) (λ k. get_or b (pos_on l (received s.m s.n l.pass l.index k)) 0) until sc sc')

@@ -1,6 +1,6 @@
 -- Any two outcomes that the promise of a step allows coincide: a step is a tick, whose outcomes coincide, and its record is the lines done.
 use Rattle.lists.proofs.Kit.{◌≡◌, ap, List, ℕ}
-use Rattle.passes.specs.declared.Ticked.{Ticked}
+use Rattle.passes.specs.Ticks.{Ticked}
 use Rattle.passes.proofs.OneTick.{tick_once}
 use Rattle.passes.specs.declared.LineRecord.{LineRecord}
 use Rattle.passes.specs.Steps.{StepPromise}

@@ -1,16 +1,15 @@
 -- The outcomes of a tick: refused by the flat call's checks or by 12, one line moved and scratch cleared, or none left. The checks of the
 -- flat turn come first, so 12 decides where they are passed; a line that is left fits, as it does in the whole turn.
-use Rattle.lists.proofs.Kit.{◌≡◌, refl, sym, ◌∙◌, cond, List, [], ◌∷◌, ℕ, ◌+◌, ◌<◌, ◌≤◌, arith, lt-ltb, le-ltb}
+use Rattle.lists.proofs.Kit.{◌≡◌, refl, ◌∙◌, cond, List, [], ◌∷◌, ℕ, ◌+◌, ◌<◌, ◌≤◌, arith, lt-ltb, le-ltb}
 use Rattle.refusals.specs.FirstOf.{check, first_of}
-use Rattle.refusals.specs.Calls.{size_checks, passes_checks}
+use Rattle.refusals.specs.Calls.{passes_checks}
 use Rattle.refusals.specs.Scratch.{need, cleared}
 use Rattle.refusals.proofs.FirstOf.{refused_by, passed_first, through}
-use Rattle.refusals.proofs.Conditions.{InRange, size_valid}
 use Rattle.refusals.proofs.Promise as promise
 use Rattle.flat.specs.Turn.{sides}
 use Rattle.passes.specs.Lines.{skipped, line_count, line_of, LineMoved}
 use Rattle.moves.specs.Stretch.{Past}
-use Rattle.passes.specs.PrivateScratch.{Grouped, Lies, Fits}
+use Rattle.passes.specs.PrivateScratch.{Lies, Fits}
 use Rattle.passes.specs.Plain.{LineTicked}
 use Rattle.passes.specs.Ticks.{past_count, tick_checks, TickPromise}
 use Rattle.passes.specs.declared.sides.GroupedSides.{GroupedSides}
@@ -20,16 +19,9 @@ use Rattle.passes.proofs.Fits.{line_fits, left_fits, left_short, past_none, past
 use Rattle.passes.proofs.Passed.{skipped_few}
 use Rattle.passes.proofs.Plain.{Stepped, plain_ticked}
 
--- sides that pass the checks of a block's size
-pub sized_sides : (m n : ℕ) → first_of (size_checks (sides m n)) ≡ 0 → (0 < m) × (0 < n) × (m ≤ 4096) × (n ≤ 4096)
-sized_sides m n e = go (size_valid (sides m n) [] e).0.lengths
-  where
-    go : InRange (sides m n) → (0 < m) × (0 < n) × (m ≤ 4096) × (n ≤ 4096)
-    go (InRange.more pm fm (InRange.more pn fn InRange.none)) = (pm, pn, fm, fn)
-
 -- the line count, of the sides as they were given
-pub counted : {m n count : ℕ} {s : GroupedSides} → (s.m ≡ m) × (s.n ≡ n) × Grouped s → count ≡ line_count s.m s.n → count ≡ line_count m n
-counted is e = rw (is.0, is.1) at e
+pub counted : {m n count : ℕ} (s : GroupedSides) → (s.m ≡ m) × (s.n ≡ n) → count ≡ line_count s.m s.n → count ≡ line_count m n
+counted s is e = rw (is.0, is.1) at e
 
 -- a tick that is refused
 pub tick_refused : {m n done number : ℕ} {b sc : List ℕ} → number ≡ first_of (tick_checks m n done b sc) → (number ≡ 0 → ⊥)
@@ -45,9 +37,6 @@ module _ (m n done : ℕ) (b sc : List ℕ) where
   module _ (good : first_of (passes_checks (sides m n) b sc) ≡ 0) where
     decided : first_of (tick_checks m n done b sc) ≡ cond (past_count m n done) 12 0
     decided = through (passes_checks (sides m n) b sc) (check 12 (past_count m n done) ∷ []) tt good
-
-    pub too_late : line_count m n < done → 12 ≡ first_of (tick_checks m n done b sc)
-    too_late h = sym (decided ∙ rw (lt-ltb (line_count m n) done h))
 
     pub in_time : done ≤ line_count m n → first_of (tick_checks m n done b sc) ≡ 0
     in_time h = decided ∙ rw (le-ltb (line_count m n) done h)
@@ -75,21 +64,21 @@ module _ (m n done : ℕ) (b sc : List ℕ) where
     }
 
 -- the line that is next, in the sides as they are grouped
-module _ {m n done : ℕ} {s : GroupedSides} (is : (s.m ≡ m) × (s.n ≡ n) × Grouped s) (b sc : List ℕ)
+module _ {m n done : ℕ} (s : GroupedSides) (is : (s.m ≡ m) × (s.n ≡ n)) (b sc : List ℕ)
     (good : first_of (passes_checks (sides m n) b sc) ≡ 0) (h : done < line_count s.m s.n) where
-  asked : Grouped s × Lies s.m s.n b sc
-  asked = flat_asked is (flat_accepted m n b sc good)
+  asked : Lies s.m s.n b sc
+  asked = flat_asked s is (flat_accepted m n b sc good)
 
-  pub next_fits : Grouped s × Fits s.m s.n (line_of s.m s.n done) b sc
-  next_fits = (asked.0, left_fits asked.0 asked.1 done h)
+  pub next_fits : Fits s.m s.n (line_of s.m s.n done) b sc
+  next_fits = left_fits s asked done h
 
   -- it has moved, and scratch is cleared
   pub tick_moved : {b' sc₁ sc' : List ℕ} → LineMoved s.m s.n (line_of s.m s.n done) b b'
-      → Past (line_of s.m s.n done).count sc sc₁ → sc' ≡ cleared (need (sides m n)) sc₁
+      → Past (line_of s.m s.n done).count sc sc₁ → sc' ≡ cleared (need (sides s.m s.n)) sc₁
       → TickPromise m n done b sc (record { number = 0; done = done + 1 }) b' sc'
   tick_moved l p z =
-      let past = past_more (left_short asked.0 asked.1 done h) (past_none (need (sides s.m s.n)) sc) p in
-      one_moved m n done b sc good (rw (is.0, is.1) at h) (rw (is.0, is.1) at l) (rw (is.0, is.1) at past) z
+      let past = past_more (left_short s asked done h) (past_none (need (sides s.m s.n)) sc) p in
+      one_moved m n done b sc good (rw (is.0, is.1) at h) (rw (is.0, is.1) at l) (rw (is.0, is.1) at past) (rw (is.0, is.1) at z)
 
 -- what an accepted tick tells: the checks of the flat turn are passed, and a line that is left fits
 module _ (m n done : ℕ) (b sc : List ℕ) where

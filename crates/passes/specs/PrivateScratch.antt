@@ -1,17 +1,17 @@
 -- These definitions serve only the contracts of private functions: a reader of the promises can pass over them.
 -- What the functions that move lines and blocks through scratch ask and leave. Assumes nothing: these are definitions.
-use Rattle.std.specs.Prelude.{Bool, true, false, cond, ◌≡◌, List, ℕ, ◌+◌, ◌*◌, ◌/◌, ◌%◌, ◌<◌, ◌≤◌, ltb, length, get_or, take}
+use Rattle.std.specs.Prelude.{Bool, true, false, cond, ◌≡◌, List, ℕ, ◌+◌, ◌*◌, ◌/◌, ◌<◌, ◌≤◌, ltb, length, get_or, take}
 use Rattle.flat.specs.Gcd.{gcd_of}
 use Rattle.refusals.specs.Calls.{passes_checks}
 use Rattle.refusals.specs.Scratch.{need}
 use Rattle.refusals.specs.Promise.{Rearranged}
 use Rattle.flat.specs.Turn.{sides, Turn, TurnBack}
-use Rattle.flat.specs.Passes.{row_group, column_group}
+use Rattle.flat.specs.Passes.{column_group}
 use Rattle.stages.specs.Stages.{after, call}
-use Rattle.passes.specs.Lines.{Moved, received, column, row, pos_on, skipped, line_count, line_of}
+use Rattle.passes.specs.Lines.{Moved, received, column, row, pos_on, line_count, line_of}
 use Rattle.passes.specs.Restart.{memory, turn_stages}
-use Rattle.passes.specs.declared.sides.GroupedSides.{GroupedSides}
 use Rattle.passes.specs.declared.line.Line.{Line}
+use Rattle.passes.specs.declared.line.Strides.{Strides}
 use Rattle.passes.specs.declared.line.Pass.{Pass}
 use Rattle.passes.specs.declared.line.Pass.TheVariants.{First, Second, Third}
 
@@ -20,18 +20,6 @@ pub record Coprime (a b : ℕ) : Type 0 where
   pub b_pos : 0 < b
   pub b_few : b ≤ 4096
   pub apart : gcd_of a b ≡ 1
-
--- sides from 1 to 4,096, with their greatest common divisor c, a = m / c and b = n / c, the remainder of n by m, and the columns that are left out
-pub record Grouped (s : GroupedSides) : Type 0 where
-  pub m_pos : 0 < s.m
-  pub n_pos : 0 < s.n
-  pub m_few : s.m ≤ 4096
-  pub n_few : s.n ≤ 4096
-  pub a_is : s.a ≡ row_group s.m s.n
-  pub b_is : s.b ≡ column_group s.m s.n
-  pub c_is : s.c ≡ gcd_of s.m s.n
-  pub remainder_is : s.remainder ≡ s.n % s.m
-  pub skipped_is : s.skipped ≡ skipped s.m s.n
 
 -- the first `count` places of the line lie in the buffer
 abbrev pub Inside : Line → ℕ → List ℕ → Type 0
@@ -77,15 +65,15 @@ pub record Filled (to word : ℕ → ℕ) (count : ℕ) (before after : List ℕ
   pub placed : (k : ℕ) → k < count → get_or after (to k) 0 ≡ word k
   pub others : (p : ℕ) → ((k : ℕ) → k < count → to k ≡ p → ⊥) → get_or after p 0 ≡ get_or before p 0
 
--- `size` words can be copied: read `gap` apart from offset `from` on, and stored at different places `step` apart from place `to` on
-pub record CanCopy (from gap to step size : ℕ) (source target : List ℕ) : Type 0 where
-  pub reads : (t : ℕ) → t < size → from + gap * t < length source
-  pub stores : (t : ℕ) → t < size → to + step * t < length target
-  pub apart : Apart (λ t. to + step * t) size
+-- words can be copied: they are read from within one list, and stored at different places within the other
+pub record CanCopy (s : Strides) (source target : List ℕ) : Type 0 where
+  pub reads : (t : ℕ) → t < s.size → s.from + s.gap * t < length source
+  pub stores : (t : ℕ) → t < s.size → s.to + s.step * t < length target
+  pub apart : Apart (λ t. s.to + s.step * t) s.size
 
 -- they are copied
-abbrev pub Copied : ℕ → ℕ → ℕ → ℕ → ℕ → List ℕ → List ℕ → List ℕ → Type 0
-Copied from gap to step size source before after = Filled (λ t. to + step * t) (λ t. get_or source (from + gap * t) 0) size before after
+abbrev pub Copied : Strides → List ℕ → List ℕ → List ℕ → Type 0
+Copied s source before after = Filled (λ t. s.to + s.step * t) (λ t. get_or source (s.from + s.gap * t) 0) s.size before after
 
 -- the buffer begins with an m by n block, and scratch has room for its longer side
 pub record Lies (m n : ℕ) (xs scratch : List ℕ) : Type 0 where
@@ -154,10 +142,9 @@ abbrev pub TurnsPromise : ℕ → ℕ → Bool → List ℕ → List ℕ → ℕ
 TurnsPromise m n home buffer scratch = Rearranged (passes_checks (sides m n) buffer scratch) (need (sides m n)) (Turned m n home buffer) buffer scratch
 
 -- a mapped turn can go on: its block is the buffer, and scratch has room for its longer side
-pub record Mapped (s : GroupedSides) (xs scratch : List ℕ) : Type 0 where
-  pub grouped : Grouped s
-  pub lies : Lies s.m s.n xs scratch
-  pub room : need (sides s.m s.n) ≤ length scratch
+pub record Mapped (m n : ℕ) (xs scratch : List ℕ) : Type 0 where
+  pub lies : Lies m n xs scratch
+  pub room : need (sides m n) ≤ length scratch
 
 -- how many words stage p stores: those of its line, or those that are cleared
 abbrev pub stage_words : ℕ → ℕ → ℕ → ℕ

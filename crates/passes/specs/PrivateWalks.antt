@@ -103,11 +103,9 @@ Begins m n First index p = p ≡ risen (index / column_group m n)
 Begins m n Second index p = SourceAt m n index 0 p
 Begins m n Third index p = p ≡ begun (index % m)
 
--- a row needs the inverse of a modulo b
+-- in pass 2 the number is the inverse of a modulo b
 abbrev pub Inverted : ℕ → ℕ → Pass → ℕ → Type 0
-Inverted m n First x = Unit
-Inverted m n Second x = Inverse (row_group m n) (column_group m n) x
-Inverted m n Third x = Unit
+Inverted m n p x = p ≡ Second → Inverse (row_group m n) (column_group m n) x
 
 -- the walk, wherever it begins, goes over the places that line t of a pass receives from
 abbrev pub WalkOf : ℕ → ℕ → Pass → ℕ → Walk → Type 0

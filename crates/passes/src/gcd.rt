@@ -11,10 +11,9 @@ pub(crate) fn gcd(m: usize, n: usize) -> usize
     let mut x = m;
     let mut y = n;
     // Divides: once a step of Euclid, a few times a turn.
+    // Kept: Euclid's algorithm goes through no range and no list, so that no `for` or iterator says it more plainly.
     while y != 0 {
-        let rest = x % y;
-        x = y;
-        y = rest;
+        (x, y) = (y, x % y);
     }
     x
 }
@@ -29,13 +28,10 @@ pub(crate) fn inverse(a: usize, b: usize) -> usize
     let mut v = 0;
     let mut u = 1 % b;
     // Divides: a few times a step of Euclid, which a turn or a tick makes once.
+    // Kept: as in `gcd`, there is no range and no list to go through.
     while x != 0 {
-        let rest = y % x;
-        let w = (v + (b - y / x * u % b)) % b;
-        y = x;
-        x = rest;
-        v = u;
-        u = w;
+        (v, u) = (u, (v + (b - y / x * u % b)) % b);
+        (y, x) = (x, y % x);
     }
     v
 }

@@ -1,19 +1,24 @@
 -- What makes the promise of a plan, over r axes: an order number above the last is refused, and of any other the falling pairs are counted and that many swaps computed, which
 -- fit into the ten places; and what it tells: the number is one of the orders', and the plan is the computed one, since an order has one plan.
-use Rattle.lists.proofs.Kit.{◌≡◌, refl, sym, ap, ap₂, ◌∙◌, List, ◌++◌, ℕ, ◌-◌, ◌<◌, ◌≤◌, arith, length, replicate, lt-ltb}
+use Rattle.lists.proofs.Kit.{◌≡◌, refl, sym, ap, ap₂, ◌∙◌, subst, List, ◌++◌, ℕ, suc, ◌-◌, ◌<◌, ◌≤◌, arith, length, replicate, lt-ltb}
+use Rattle.layout.specs.Layout.{Below}
 use Rattle.orders.specs.Numbers.{order_count, order_of}
 use Rattle.orders.specs.Plans.{falling, planned, plan_of, plan_places}
 use Rattle.orders.proofs.Chains.{length-named}
 use Rattle.orders.proofs.Numbers.{order_named}
 use Rattle.orders.proofs.Distinct.{count-pos}
-use Rattle.orders.proofs.Plans.{length_plan, falling-places, plan_of_number, one_plan}
+use Rattle.orders.proofs.Plans.{length_plan, falling-places, plan_of_number, plan_below, one_plan}
 use Rattle.refusals.specs.Calls.{plan_checks}
 use Rattle.refusals.specs.FirstOf.{First, Silent}
 use Rattle.refusals.proofs.FirstOf.{first-is, silent_zero}
 use Rattle.refusals.proofs.Conditions.{is_order, no_order_false}
 use Rattle.refusals.proofs.Calls.{plan_accepted}
+use Rattle.plans.specs.declared.Axes.{Axes}
+use Rattle.plans.specs.declared.Axes.TheVariants.{Four, Five}
 use Rattle.plans.specs.declared.Planned.{Planned}
-use Rattle.plans.specs.Promise.{planned_as, no_plan, PlanPromise}
+use Rattle.plans.specs.declared.Swaps.{Swaps}
+use Rattle.plans.specs.Promise.{count_of, planned_as, plan_as, no_plan, PlanPromise}
+use Rattle.plans.proofs.Rows.{long_order}
 
 pub refused : (r order : ℕ) {p : Planned} → order_count r ≤ order → p ≡ no_plan 7 → PlanPromise r order p
 refused r order {p} h e =
@@ -23,13 +28,24 @@ refused r order {p} h e =
 
 -- the falling pairs counted, and as many swaps of the plan: the plan
 pub as_planned : (o : List ℕ) {count : ℕ} {swaps : List ℕ} → count ≡ falling o → swaps ≡ planned count o ++ replicate (10 - count) 0
-    → ◌≡◌ {A = Planned} (record { number = 0; swaps = swaps; count = count }) (planned_as (plan_of o))
+    → ◌≡◌ {A = Swaps} (record { places = swaps; count = count }) (plan_as (plan_of o))
 unfolding plan_of
 as_planned o {count} e f =
     let long : count ≡ length (plan_of o) = e ∙ sym (length_plan o) in
-    ap₂ (λ (s : List ℕ) (l : ℕ). let p : Planned = record { number = 0; swaps = s; count = l } in p)
+    ap₂ (λ (s : List ℕ) (l : ℕ). let p : Swaps = record { places = s; count = l } in p)
     (f ∙ ap₂ (λ (s : List ℕ) (l : ℕ). s ++ replicate (10 - l) 0) (ap (λ (n : ℕ). planned n o) e) long)
     long
+
+-- each swap of the plan exchanges two of the axes
+numbered_below : (m order : ℕ) → order < order_count (suc m) → Below m (plan_of (order_of (suc m) order))
+numbered_below m order low = let (c, e) = order_named (suc m) order low in subst (λ (o : List ℕ). Below m (plan_of o)) e (plan_below m c)
+
+pub swaps_below : (axes : Axes) (order : ℕ) → order < order_count (count_of axes) → {o : List ℕ} → o ≡ order_of (count_of axes) order → Below (length o - 1) (plan_of o)
+swaps_below axes order low e = rw (e, long_order (count_of axes) order low) (go axes order low)
+  where
+    go : (axes : Axes) (order : ℕ) → order < order_count (count_of axes) → Below (count_of axes - 1) (plan_of (order_of (count_of axes) order))
+    go Four order low = numbered_below 3 order low
+    go Five order low = numbered_below 4 order low
 
 module _ (r order : ℕ) (low : order < order_count r) {o : List ℕ} (e : o ≡ order_of r order) where
   pub fits : r ≤ 5 → plan_places r ≤ 10 → (length o ≤ 5) × (falling o ≤ 10)

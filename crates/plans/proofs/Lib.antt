@@ -1,6 +1,6 @@
 -- a row of a table of the orders, and what stands past its end
 pub mod Rows
--- what the loops of the plan carry
+-- what the search of the plan finds, and what its loops carry
 pub mod PlanSteps
 -- what makes the promise of a plan
 pub mod Given

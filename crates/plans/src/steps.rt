@@ -1,7 +1,8 @@
 // The plan of an order, swap by swap. An order is lent as a slice, which axis stands at each place: its length is the number of axes.
-ghost use Rattle.std.specs.Prelude.{◌≡◌, ◌++◌, map, ◌-◌, ◌≤◌, length, drop, replicate};
-ghost use Rattle.layout.specs.Layout.{place_of};
+ghost use Rattle.std.specs.Prelude.{◌≡◌, ◌++◌, map, ◌+◌, ◌-◌, ◌<◌, ◌≤◌, ltb, length, replicate};
+ghost use Rattle.layout.specs.Layout.{place_of, Below};
 ghost use Rattle.orders.specs.Plans.{under, falling, relabelled, first_back, planned};
+ghost use Rattle.plans.specs.Private.{FoundBelow};
 
 // The axis a once the labels k and k + 1 are exchanged.
 fn exchanged_label(a: usize, k: usize) -> usize
@@ -17,30 +18,29 @@ fn exchanged_label(a: usize, k: usize) -> usize
     a
 }
 
-// The first place of an axis.
-fn place_of(axes: &[usize], axis: usize) -> usize
-    ensures { result ≡ place_of axis axes.now }
+// The first place of an axis, if it has one.
+fn place_of(axes: &[usize], axis: usize) -> Option<usize>
+    ensures { FoundBelow (length axes.now) (place_of axis axes.now) result }
 {
-    for k in 0..axes.len() {
-        if axis == axes[k] {
-            return k;
-        }
-    }
-    axes.len()
+    axes.iter().position(|&other| axis == other)
 }
 
-// The least axis whose follower stands before it.
-fn first_back(axes: &[usize]) -> usize
-    ensures { result ≡ first_back (length axes.now) 0 axes.now }
+// Whether the follower of an axis stands before it. An axis that has no place stands after each one that has.
+fn falls(axes: &[usize], axis: usize) -> bool
+    requires { axis < length axes.now }
+    ensures { result ≡ ltb (place_of (axis + 1) axes.now) (place_of axis axes.now) }
 {
-    for k in 0..axes.len() {
-        let follower = place_of(axes, k + 1);
-        let own = place_of(axes, k);
-        if follower < own {
-            return k;
-        }
+    match (place_of(axes, axis + 1), place_of(axes, axis)) {
+        (Some(follower), Some(place)) => follower < place,
+        (follower, _) => follower.is_some(),
     }
-    axes.len()
+}
+
+// The least axis whose follower stands before it, if there is one.
+fn first_back(axes: &[usize]) -> Option<usize>
+    ensures { FoundBelow (length axes.now) (first_back (length axes.now) 0 axes.now) result }
+{
+    (0..axes.len()).find(|&axis| falls(axes, axis))
 }
 
 // The order with the labels k and k + 1 exchanged.
@@ -48,23 +48,16 @@ fn relabel(axes: &mut [usize], k: usize)
     requires { k ≤ 5 }
     ensures { axes.new ≡ map (relabelled k) axes.old }
 {
-    for i in 0..axes.len() {
-        axes[i] = exchanged_label(axes[i], k);
+    for axis in axes {
+        *axis = exchanged_label(*axis, k);
     }
 }
 
-// How many axes from a place on are below one.
-fn under_from(axes: &[usize], axis: usize, start: usize) -> usize
-    requires { start ≤ length axes.now }
-    ensures { result ≡ under axis (drop start axes.now) }
+// How many of the axes are below one.
+fn count_under(axes: &[usize], axis: usize) -> usize
+    ensures { result ≡ under axis axes.now }
 {
-    let mut count = 0;
-    for k in start..axes.len() {
-        if axes[k] < axis {
-            count += 1;
-        }
-    }
-    count
+    axes.iter().filter(|&&other| other < axis).count()
 }
 
 // The pairs of places whose axes stand in falling order, counted.
@@ -73,23 +66,24 @@ pub(crate) fn falling_pairs(axes: &[usize]) -> usize
     ensures { result ≡ falling axes.now }
 {
     let mut count = 0;
-    for k in 0..axes.len() {
-        let axis = axes[k];
-        count += under_from(axes, axis, k + 1);
+    let mut rest = axes;
+    while let Some((&axis, after)) = rest.split_first() {
+        count += count_under(after, axis);
+        rest = after;
     }
     count
 }
 
 // n swaps of the plan: each is the least axis whose follower stands before it, and exchanges those labels.
 pub(crate) fn planned_swaps(axes: &mut [usize], n: usize) -> [usize; 10]
-    requires { (length axes.old ≤ 5) × (n ≤ 10) }
+    requires few { (length axes.old ≤ 5) × (n ≤ 10) }
+    requires found { Below (length axes.old - 1) (planned n axes.old) }
     ensures { result ≡ planned n axes.old ++ replicate (10 - n) 0 }
 {
     let mut swaps = [0; 10];
-    for i in 0..n {
-        let k = first_back(axes);
-        swaps[i] = k;
-        relabel(axes, k);
+    for swap in &mut swaps[..n] {
+        *swap = first_back(axes).unwrap();
+        relabel(axes, *swap);
     }
     swaps
 }

@@ -1,141 +1,74 @@
--- The whole sheet from its pages, whatever its second line is: the first refusal is the outcome, and where there is none the sheet is
--- accepted; and what each of the readers makes of the last page. From the definitions.
-use Rattle.lists.proofs.Kit.{◌≡◌, refl, sym, ap, subst, ◌∙◌, Bool, cond, List, [], ◌∷◌, ◌++◌, ⊎_elim, ℕ, ◌+◌, ◌≤◌, arith, ltb, eqb, length, drop, get_or, sets, sets-eq, eqb-true, ne_eqb, lt-ltb, decided, eq-or-ne}
+-- The whole sheet from its steps, whatever its second line is: the first refusal is the outcome, and where there is none the sheet is
+-- accepted; and what each reader answers then. From the definitions.
+use Rattle.lists.proofs.Kit.{◌≡◌, refl, sym, ap, ap₂, ◌∙◌, List, ℕ, ◌+◌, ◌-◌, arith, length, take, length-append, length-replicate, length-take}
+use Rattle.std.specs.Prelude.{Option, Some, None, Result, Ok, Err}
+use Rattle.std.specs.Result.{IsErr, IsErrAnd}
+use Rattle.refusals.specs.Refusal.{number_of}
+use Rattle.refusals.specs.declared.Refused.{Refused}
 use Rattle.sheets.specs.Sheet.{row_count, row_width}
-use Rattle.sheets.specs.Meaning.{Verdict, Outcome, conclude, shape_line, row_lines, meaning_by, meaning, result_meaning}
-use Rattle.sheets.specs.Right.{ShapeRead}
+use Rattle.sheets.specs.Meaning.{Verdict, Outcome, shape_line, row_lines, meaning_by, meaning, result_meaning}
+use Rattle.sheets.specs.Private.{OnSheet}
 use Rattle.sheets.proofs.Accepted.{shape_read}
-use Rattle.sheets.proofs.Rows.{rows_text_lem, rows_volume}
 use Rattle.reader.specs.declared.Sheet.{Sheet}
 use Rattle.reader.specs.declared.ResultSheet.{ResultSheet}
-use Rattle.reader.specs.declared.page.Page.{Page}
-use Rattle.reader.specs.Private.{FirstAt, SecondAt, RowsNext, RowsTaken, no_page, on_page, further, rows_of, words_of}
+use Rattle.reader.specs.declared.head.Chain.{Chain}
+use Rattle.reader.specs.Private.{refused_as, second_numbers, Padded}
 use Rattle.reader.specs.Reader.{answer, kept, ReadPromise}
-use Rattle.reader.specs.ResultReader.{result_answer, ReadResultPromise}
+use Rattle.reader.specs.ResultReader.{result_answer, release_in_c, ReadResultPromise}
 
--- the page of an outcome, and the words of a right one at the start of those that it was lent
-abbrev pub page_of : Outcome → ℕ → Page
-page_of (Outcome.refused number place) next = no_page number place
-page_of (Outcome.accepted ds numbers words) next = on_page ds numbers next
+-- an answer that is an error, which a `?` made
+pub err_is : {A : Type 0} (r : Result A Refused) (x : Refused) → IsErr r × IsErrAnd r (λ e. e ≡ x) → r ≡ Err x
+err_is (Ok a) x h = absurd h.1
+err_is (Err e) x h = ap Err h.1
 
-pub record PageAs (o : Outcome) (buffer : List ℕ) (page : Page) (buffer' : List ℕ) : Type 0 where
-  pub answers : page ≡ page_of o page.next
-  pub words : buffer' ≡ kept o buffer
+abbrev pub refused_by : Refused → Outcome
+refused_by r = Outcome.refused (number_of r.refusal) r.place
 
--- a verdict that went on followed no refusal
-went_on : (page : Page) (judge : List ℕ → Verdict) (bytes : List ℕ) {vs rest : List ℕ} → further page judge bytes ≡ Verdict.go vs rest → page.number ≡ 0
-went_on page judge bytes {vs} {rest} e =
-    decided (eqb page.number 0) (λ t. eqb-true page.number 0 t)
-    (λ f.
-    let n : Verdict.refuse page.number page.place ≡ Verdict.go vs rest = rw f at e in
-    let q : ◌≡◌ {A = ℕ} 0 1 = cc in
-    absurd (omega arith))
+-- a block whose first line was read may stand on a sheet
+pub shape_fits : (buffer bytes : List ℕ) {ds rest : List ℕ} → Verdict.go ds rest ≡ shape_line buffer bytes → OnSheet ds buffer
+shape_fits buffer bytes e = let h = shape_read buffer bytes (sym e) in record { lengths = h.lengths; few = h.few_words; enough = h.room }
 
--- a page of line 1, then one of line 2
-module _ (second : List ℕ → Verdict) (buffer bytes : List ℕ) {first line : Page} (f : FirstAt buffer bytes first) (s : SecondAt second bytes first line) where
-  abbrev numbers : List ℕ
-  numbers = words_of (further first second bytes)
-
-  -- what is left to be read, of these lengths
-  abbrev rows_left : List ℕ → List ℕ → List ℕ → Outcome
-  rows_left ds ns rest = conclude (row_lines 3 (row_count ds) (row_width ds) rest) (λ (ws : List ℕ) (end : List ℕ). Outcome.accepted ds ns ws)
-
-  first_lengths : first.number ≡ 0 → first.lengths ≡ words_of (shape_line buffer bytes)
-  first_lengths z = ap (λ (p : Page). p.lengths) (f.filled z)
-
-  line_lengths : line.number ≡ 0 → line.lengths ≡ first.lengths
-  line_lengths z = ap (λ (p : Page). p.lengths) (s.filled z)
-
-  after_first : meaning_by second buffer bytes ≡ conclude (further first second bytes) (rows_left first.lengths)
+module _ (second : List ℕ → Verdict) (buffer bytes : List ℕ) where
+  pub first_refused : (r : Refused) → refused_as r ≡ shape_line buffer bytes → meaning_by second buffer bytes ≡ refused_by r
   unfolding meaning_by
-  after_first =
-      let line-two : List ℕ → List ℕ → Outcome = λ ds rest. conclude (second rest) (rows_left ds) in
-      ⊎_elim
-      (λ (z : first.number ≡ 0).
-      ap (λ (v : Verdict). conclude v line-two) (f.right z) ∙ rw z (ap (λ (ds : List ℕ). line-two ds (drop first.next bytes)) (sym (first_lengths z))))
-      (λ (n : first.number ≡ 0 → ⊥). ap (λ (v : Verdict). conclude v line-two) (f.wrong n) ∙ rw (ne_eqb first.number 0 n))
-      (eq-or-ne first.number 0)
+  first_refused r e = rw (← e)
 
-  after_second : conclude (further first second bytes) (rows_left first.lengths)
-      ≡ conclude (further line (rows_of line) bytes) (λ (ws : List ℕ) (end : List ℕ). Outcome.accepted first.lengths numbers ws)
-  after_second =
-      ⊎_elim
-      (λ (z : line.number ≡ 0). ap (λ (v : Verdict). conclude v (rows_left first.lengths)) (s.right z) ∙ rw (z, line_lengths z))
-      (λ (n : line.number ≡ 0 → ⊥). ap (λ (v : Verdict). conclude v (rows_left first.lengths)) (s.wrong n) ∙ rw (ne_eqb line.number 0 n))
-      (eq-or-ne line.number 0)
+  module _ {ds rest : List ℕ} (first : Verdict.go ds rest ≡ shape_line buffer bytes) where
+    pub second_refused : (r : Refused) → refused_as r ≡ second rest → meaning_by second buffer bytes ≡ refused_by r
+    unfolding meaning_by
+    second_refused r e = rw (← first, ← e)
 
-  -- the block of line 1 is one that a sheet may have
-  shape : (z : line.number ≡ 0) → ShapeRead buffer bytes line.lengths (drop first.next bytes)
-  shape z =
-      let y = went_on first second bytes (s.right z) in
-      subst (λ (ds : List ℕ). ShapeRead buffer bytes ds (drop first.next bytes)) (sym (line_lengths z ∙ first_lengths y)) (shape_read buffer bytes (f.right y))
+    module _ {ns left : List ℕ} (line : Verdict.go ns left ≡ second rest) where
+      pub rows_refused : (r : Refused) → row_lines 3 (row_count ds) (row_width ds) left ≡ refused_as r → meaning_by second buffer bytes ≡ refused_by r
+      unfolding meaning_by
+      rows_refused r e = rw (← first, ← line, e)
 
-  pub rows_next : RowsNext bytes line buffer
-  rows_next = record { inside = s.inside; block = λ z. record { lengths = (shape z).lengths; few = (shape z).few_words; enough = (shape z).room } }
+      pub rows_accepted : {words end : List ℕ} → row_lines 3 (row_count ds) (row_width ds) left ≡ Verdict.go words end
+          → meaning_by second buffer bytes ≡ Outcome.accepted ds ns words
+      unfolding meaning_by
+      rows_accepted e = rw (← first, ← line, e)
 
-  -- the words of its rows, once they were judged right, stand at the start of what they are stored in
-  rows_front : line.number ≡ 0 → {words : List ℕ} → rows_of line (drop line.next bytes) ≡ Verdict.go words [] → sets buffer 0 words ≡ words ++ drop (length words) buffer
-  rows_front z {words} e =
-      let ds = line.lengths in
-      let fit : length words ≤ length buffer =
-      omega (
-        arith,
-        (rows_text_lem 3 (row_count ds) (row_width ds) (drop line.next bytes) e).long,
-        rows_volume ds (omega (arith, (shape z).held.long)),
-        (shape z).room,
-      ) in
-      let z₀ : 0 + length words ≡ length words = omega arith in
-      sets-eq words buffer 0 (omega (arith, fit)) ∙ ap (λ (n : ℕ). words ++ drop n buffer) z₀
+-- what each reader promises, once the meaning is known
+pub promised : {buffer bytes words : List ℕ} {s : Sheet} (o : Outcome) → meaning buffer bytes ≡ o → s ≡ answer o → words ≡ kept o buffer → ReadPromise buffer bytes s words
+promised {buffer} o m a w = record { answers = a ∙ sym (ap answer m); words = w ∙ sym (ap (λ (x : Outcome). kept x buffer) m) }
 
-  -- then the page of the rows
-  meant : {v : Verdict} → further line (rows_of line) bytes ≡ v
-      → meaning_by second buffer bytes ≡ conclude v (λ (ws : List ℕ) (end : List ℕ). Outcome.accepted first.lengths numbers ws)
-  meant e =
-      after_first ∙ after_second ∙ ap (λ (u : Verdict). conclude u (λ (ws : List ℕ) (end : List ℕ). Outcome.accepted first.lengths numbers ws)) e
+pub result_promised : {buffer bytes words : List ℕ} {s : ResultSheet} (o : Outcome) → result_meaning buffer bytes ≡ o → s ≡ result_answer o → words ≡ kept o buffer
+    → ReadResultPromise buffer bytes s words
+result_promised {buffer} o m a w = record { answers = a ∙ sym (ap result_answer m); words = w ∙ sym (ap (λ (x : Outcome). kept x buffer) m) }
 
-  pub page_read : {page : Page} {buffer' : List ℕ} → RowsTaken (further line (rows_of line) bytes) line page buffer buffer'
-      → PageAs (meaning_by second buffer bytes) buffer page buffer'
-  page_read (RowsTaken.right e stays stored) =
-      let z = went_on line (rows_of line) bytes e in
-      let judged : further line (rows_of line) bytes ≡ rows_of line (drop line.next bytes) = rw z in
-      rw stays
-      (record {
-        answers = s.filled z ∙ sym (ap (λ (o : Outcome). page_of o line.next) (meant e));
-        words = stored ∙ rows_front z (sym judged ∙ e) ∙ sym (ap (λ (o : Outcome). kept o buffer) (meant e));
-      })
-  page_read (RowsTaken.wrong refused e kept-all) =
-      rw refused (record { answers = sym (ap (λ (o : Outcome). page_of o 0) (meant e)); words = kept-all ∙ sym (ap (λ (o : Outcome). kept o buffer) (meant e)) })
+-- the swaps of a chain are as many as it says
+pub chain_long : (c : Chain) → Padded c → length (take c.count c.swaps) ≡ c.count
+chain_long c h =
+    let n = length (take c.count c.swaps) in
+    let long : length c.swaps ≡ n + (32 - n) = ap length h.zeros ∙ simp (length-append, length-replicate) in
+    omega (arith, h.few, length-take c.count c.swaps)
 
--- a page with two numbers names a release, one with fewer names none
-abbrev pub result_of : Bool → Page → ResultSheet
-result_of two q =
-    record {
-      number = q.number;
-      place = q.place;
-      lengths = q.lengths;
-      release = cond two (get_or q.numbers 0 0) 0;
-      order = cond two (get_or q.numbers 1 0) (get_or q.numbers 0 0);
-    }
+-- what an accepted sheet is answered with
+pub sheet_as : (ds : List ℕ) (c : Chain) (words : List ℕ) → Padded c
+    → record { number = 0; place = 0; lengths = ds; swaps = c.swaps; count = c.count } ≡ answer (Outcome.accepted ds (take c.count c.swaps) words)
+sheet_as ds c words h = ap₂ (λ (swaps : List ℕ) (n : ℕ). record { number = 0; place = 0; lengths = ds; swaps = swaps; count = n }) h.zeros (sym (chain_long c h))
 
--- the answers of the two readers, made of the last page
-module _ {buffer bytes buffer' : List ℕ} {p : Page} where
-  pub as_sheet : PageAs (meaning buffer bytes) buffer p buffer'
-      → ReadPromise buffer bytes (record { number = p.number; place = p.place; lengths = p.lengths; swaps = p.numbers; count = p.count }) buffer'
-  as_sheet h = record { answers = ap sheet_of h.answers ∙ same (meaning buffer bytes); words = h.words }
-    where
-      sheet_of : Page → Sheet
-      sheet_of q = record { number = q.number; place = q.place; lengths = q.lengths; swaps = q.numbers; count = q.count }
-
-      same : (o : Outcome) → sheet_of (page_of o p.next) ≡ answer o
-      same (Outcome.refused number place) = refl
-      same (Outcome.accepted ds ns words) = refl
-
-  pub as_result : {two : Bool} → PageAs (result_meaning buffer bytes) buffer p buffer' → ltb 1 p.count ≡ two → ReadResultPromise buffer bytes (result_of two p) buffer'
-  as_result h e =
-      rw (← e) (record { answers = ap (λ (q : Page). result_of (ltb 1 q.count) q) h.answers ∙ same (result_meaning buffer bytes); words = h.words })
-    where
-      same : (o : Outcome) → result_of (ltb 1 (page_of o p.next).count) (page_of o p.next) ≡ result_answer o
-      same (Outcome.refused number place) = refl
-      same (Outcome.accepted ds [] words) = refl
-      same (Outcome.accepted ds (v ∷ []) words) = refl
-      same (Outcome.accepted ds (release ∷ v ∷ ns) words) = rw (lt-ltb 1 (length (release ∷ v ∷ ns)) (omega arith))
+pub result_as : (ds : List ℕ) (release : Option ℕ) (order : ℕ) (words : List ℕ)
+    → record { number = 0; place = 0; lengths = ds; release = release_in_c release; order = order } ≡ result_answer (Outcome.accepted ds (second_numbers release order) words)
+result_as ds None order words = refl
+result_as ds (Some release) order words = refl

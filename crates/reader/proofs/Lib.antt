@@ -1,15 +1,15 @@
--- what is read at a place, by the byte that stands there
-pub mod Places
--- a run of fields, one field more or none
-pub mod Runs
--- words, tabs and lines at a place, and the ways out of reading a line
-pub mod LinesAt
+-- the whole sheet from its steps, and what each reader answers then
+pub mod FromSteps
 -- rows from a line on, and what is stored of them
 pub mod RowsFrom
 -- lines 1 and 2, way out by way out
 pub mod HeadLines
--- the whole sheet from its steps, and what each reader makes of it
-pub mod FromSteps
+-- a line at the head of the bytes: its word, its fields, its LF
+pub mod LineParts
+-- what is read at the head of the bytes, by the byte that stands there
+pub mod Heads
+-- a run of fields, one field more or none
+pub mod Runs
 -- any two outcomes of a call coincide
 pub mod OneOutcome
 -- the reader's number is 0 exactly when the sheet is right

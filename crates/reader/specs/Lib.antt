@@ -4,5 +4,5 @@ pub mod Swaps
 pub mod Reader
 -- the promise of the reader of result sheets
 pub mod ResultReader
--- for private functions only: what is read at a place
+-- for private functions only: what is read at the head of the bytes
 pub mod Private

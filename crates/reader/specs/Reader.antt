@@ -1,8 +1,16 @@
 -- What the reader answers and stores. Assumes nothing: these are definitions.
-use Rattle.std.specs.Prelude.{◌≡◌, List, ◌++◌, ℕ, length, drop, replicate}
+use Rattle.std.specs.Prelude.{◌≡◌, List, ◌++◌, ℕ, length, drop, replicate, Result, Ok, Err}
+use Rattle.refusals.specs.Refusal.{number_of}
+use Rattle.refusals.specs.declared.Refused.{Refused}
 use Rattle.sheets.specs.Meaning.{Outcome, meaning}
 use Rattle.reader.specs.Swaps.{padded}
+use Rattle.reader.specs.declared.ChainSheet.{ChainSheet}
 use Rattle.reader.specs.declared.Sheet.{Sheet}
+
+-- what C sees of an answer: a refusal's other fields are 0
+abbrev pub in_c : Result ChainSheet Refused → Sheet
+in_c (Ok s) = record { number = 0; place = 0; lengths = s.lengths; swaps = s.swaps; count = s.count }
+in_c (Err r) = record { number = number_of r.refusal; place = r.place; lengths = replicate 4 0; swaps = replicate 32 0; count = 0 }
 
 -- the answer holds lengths, 32 swap places and the chain's length; a refusal's other fields are 0
 abbrev pub answer : Outcome → Sheet

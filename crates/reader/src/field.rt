@@ -1,73 +1,53 @@
-// Numbers and fields at a place of the bytes: private to the library.
-ghost use Rattle.std.specs.Prelude.{◌≤◌, length, drop};
-ghost use Rattle.sheets.specs.Print.{limit};
+// Numbers and fields at the head of the bytes: private to the library.
+ghost use Rattle.std.specs.Prelude.{◌≡◌, ◌≤◌, ◌-◌, ◌+◌, ◌*◌};
 ghost use Rattle.sheets.specs.Read.{read_more, read_number, read_field};
-ghost use Rattle.reader.specs.Private.{FieldAt};
+ghost use Rattle.reader.specs.Private.{reading, one_more};
 
-// What stands at a place: no number, or a number and the place after it.
+// A number that was read, and the bytes after it.
 #[derive(Clone, Copy)]
-pub enum Field {
-    Nothing,
-    Number { value: usize, next: usize },
+pub(crate) struct Field<'a> {
+    pub value: u32,
+    pub rest: &'a [u8],
 }
 
-// The number whose digits so far say `start` goes on at `at`.
-fn more_at(bytes: &[u8], at: usize, start: usize) -> Field
-    requires { (at ≤ length bytes.now) × (start ≤ limit) }
-    ensures { FieldAt bytes.now (read_more start (drop at bytes.now)) result }
+// A number with one digit more, unless that is past the greatest number of a sheet.
+fn with_digit(value: u32, digit: u8) -> Option<u32>
+    requires { 48 ≤ digit }
+    ensures { result ≡ one_more (value * 10 + (digit - 48)) }
+{
+    u32::try_from(u64::from(value) * 10 + u64::from(digit - b'0')).ok()
+}
+
+// A number whose digits so far say `start`, and which goes on at the head of the bytes.
+fn digits_from(bytes: &[u8], start: u32) -> Option<Field<'_>>
+    ensures { reading result ≡ read_more start bytes.now }
 {
     let mut value = start;
-    let mut p = at;
-    while p < bytes.len() {
-        let b = bytes[p] as usize;
-        if b < 48 {
-            return Field::Number { value, next: p };
-        }
-        if 57 < b {
-            return Field::Number { value, next: p };
-        }
-        let w = value * 10 + (b - 48);
-        if 4294967295 < w {
-            return Field::Nothing;
-        }
-        value = w;
-        p += 1;
+    let mut rest = bytes;
+    while let [digit @ b'0'..=b'9', after @ ..] = rest {
+        value = with_digit(value, *digit)?;
+        rest = after;
     }
-    Field::Number { value, next: p }
+    Some(Field { value, rest })
 }
 
-// A number at `at`.
-fn number_at(bytes: &[u8], at: usize) -> Field
-    ensures { FieldAt bytes.now (read_number (drop at bytes.now)) result }
+// A number.
+fn number_from(bytes: &[u8]) -> Option<Field<'_>>
+    ensures { reading result ≡ read_number bytes.now }
 {
-    if bytes.len() <= at {
-        return Field::Nothing;
+    match bytes {
+        [b'0', rest @ ..] => Some(Field { value: 0, rest }),
+        [digit @ b'1'..=b'9', rest @ ..] => digits_from(rest, u32::from(*digit - b'0')),
+        _ => None,
     }
-    let b = bytes[at] as usize;
-    if b < 48 {
-        return Field::Nothing;
-    }
-    if 57 < b {
-        return Field::Nothing;
-    }
-    if b == 48 {
-        return Field::Number {
-            value: 0,
-            next: at + 1,
-        };
-    }
-    more_at(bytes, at + 1, b - 48)
 }
 
-// A field at `at`: a tab and a number.
-pub(crate) fn field_at(bytes: &[u8], at: usize) -> Field
-    ensures { FieldAt bytes.now (read_field (drop at bytes.now)) result }
+// A field: a tab and a number.
+pub(crate) fn field_from(bytes: &[u8]) -> Option<Field<'_>>
+    ensures { reading result ≡ read_field bytes.now }
 {
-    if bytes.len() <= at {
-        return Field::Nothing;
+    match bytes {
+        [b'\t', rest @ ..] => number_from(rest),
+        _ => None,
     }
-    if bytes[at] != 9 {
-        return Field::Nothing;
-    }
-    number_at(bytes, at + 1)
 }

@@ -1,119 +1,124 @@
 // Lines 1 and 2 of a sheet and of a result sheet with their checks: private to the library.
-ghost use Rattle.std.specs.Prelude.{◌≡◌, ◌≤◌, length, drop};
-ghost use Rattle.sheets.specs.Meaning.{chain_line, order_fields, order_line};
-ghost use Rattle.reader.specs.Private.{LineAt, FirstAt, SecondAt, numbers_line, line_number};
+ghost use Rattle.std.specs.Prelude.{◌≡◌, IfOk, get_or};
+ghost use Rattle.sheets.specs.Meaning.{shape_line, chain_line, order_fields, order_line};
+ghost use Rattle.reader.specs.Private.{shape_told, chain_told, order_told, Padded, Named, bad_line, named};
 
-use crate::{line, page, values};
+use crate::line;
+use refusals::{Refusal, Refused};
 
-// Line k, which follows the page: `word` and n numbers, for which the page has 32 places.
-fn numbers_at(bytes: &[u8], page: page::Page, word: &[u8], n: usize, k: usize) -> page::Page
-    requires { page.next ≤ length bytes.now }
-    ensures { LineAt bytes.now page.lengths (numbers_line k word.now n (drop page.next bytes.now)) result }
+// The most bytes of a sheet.
+const MOST_BYTES: usize = 16384;
+
+// The most swaps of a chain.
+const MOST_SWAPS: usize = 32;
+
+// The last order number of four axes.
+const LAST_ORDER: usize = 23;
+
+// Kept: a number becomes a `usize` by `as` in this file, since the library has no `From<u32>` for `usize`.
+
+// Line 1 of a sheet: its lengths, and the bytes after it.
+#[derive(Clone, Copy)]
+pub(crate) struct Shape<'a> {
+    pub lengths: [usize; 4],
+    pub rest: &'a [u8],
+}
+
+// Line 2 of a sheet: its swaps, unused places 0, how many they are, and the bytes after it.
+// Kept: an array with a count beside it, since both go as they are into `Sheet`, which C sees (`zib_read_sheet`).
+#[derive(Clone, Copy)]
+pub(crate) struct Chain<'a> {
+    pub swaps: [usize; MOST_SWAPS],
+    pub count: usize,
+    pub rest: &'a [u8],
+}
+
+// Line 2 of a result sheet: its release, where it names one, its order number, and the bytes after it.
+#[derive(Clone, Copy)]
+pub(crate) struct Order<'a> {
+    pub release: Option<usize>,
+    pub order: usize,
+    pub rest: &'a [u8],
+}
+
+// The refusal of a line that is malformed, missing or left over.
+pub(crate) fn bad_line(place: usize) -> Refused
+    ensures { result ≡ bad_line place }
 {
-    let at = page.next;
-    let end = line::line_at(bytes, at, word, n);
-    let line::End::At(next) = end else {
-        return page::no_page(10, k);
-    };
-    if 32 < n {
-        return page::no_page(5, 0);
-    }
-    let lengths = page.lengths;
-    let numbers = values::values_at(bytes, at + word.len(), n);
-    page::Page {
-        number: 0,
-        place: 0,
-        lengths,
-        numbers,
-        count: n,
-        next,
+    Refused {
+        refusal: Refusal::BadLine,
+        place,
     }
 }
 
 // Line 1, for this word buffer.
-pub(crate) fn shape_at(bytes: &[u8], words: &[u32]) -> page::Page
-    ensures { FirstAt words.now bytes.now result }
+pub(crate) fn shape_from<'a>(bytes: &'a [u8], words: &[u32]) -> Result<Shape<'a>, Refused>
+    ensures { shape_told result ≡ shape_line words.now bytes.now }
 {
-    if 16384 < bytes.len() {
-        return page::no_page(9, 0);
+    if MOST_BYTES < bytes.len() {
+        return Err(Refused::from(Refusal::LongSheet));
     }
-    let start = page::no_page(0, 0);
-    let first = numbers_at(bytes, start, b"shape", 4, 1);
-    if first.number != 0 {
-        return first;
-    }
-    let v = first.numbers;
-    let lengths = [v[0], v[1], v[2], v[3]];
-    let number = checks::sheet_number(&lengths, words);
-    if number != 0 {
-        return page::no_page(number, 0);
-    }
-    let mut page = first;
-    page.lengths = lengths;
-    page
+    let mut numbers = [0; 4];
+    let rest = line::line_from(bytes, b"shape", 4, &mut numbers).ok_or(bad_line(1))?;
+    let lengths = numbers.map(|length| length as usize);
+    checks::check_sheet(&lengths, words)?;
+    Ok(Shape { lengths, rest })
 }
 
-// Line 2 of a sheet, a chain, where line 1 was not refused.
-pub(crate) fn chain_at(bytes: &[u8], first: page::Page) -> page::Page
-    requires { first.next ≤ length bytes.now }
-    ensures { SecondAt chain_line bytes.now first result }
+// Line 2 of a sheet, a chain.
+pub(crate) fn chain_from(bytes: &[u8]) -> Result<Chain<'_>, Refused>
+    ensures told { chain_told result ≡ chain_line bytes.now }
+    ensures padded { IfOk result Padded }
 {
-    if first.number != 0 {
-        return page::no_page(first.number, first.place);
+    let count = line::tabs_in(bytes);
+    let mut numbers = [0; MOST_SWAPS];
+    let rest = line::line_from(bytes, b"chain", count, &mut numbers).ok_or(bad_line(2))?;
+    if MOST_SWAPS < count {
+        return Err(Refused::from(Refusal::LongChain));
     }
-    let n = line::tabs_at(bytes, first.next);
-    let second = numbers_at(bytes, first, b"chain", n, 2);
-    if second.number != 0 {
-        return second;
+    let swaps = numbers.map(|swap| swap as usize);
+    match checks::first_above(&swaps[..count], 2) {
+        Some(place) => Err(Refused {
+            refusal: Refusal::BadSwap,
+            place,
+        }),
+        None => Ok(Chain { swaps, count, rest }),
     }
-    let swaps = second.numbers;
-    let count = second.count;
-    let bad = checks::first_above(&swaps[..count], 2);
-    if bad < count {
-        return page::no_page(6, bad);
-    }
-    second
 }
 
-// How many numbers line 2 of a result sheet must have, at `at`: two where it has two fields, else one.
-fn order_fields(bytes: &[u8], at: usize) -> usize
-    requires { at ≤ length bytes.now }
-    ensures { result ≡ order_fields (drop at bytes.now) }
+// How many numbers line 2 of a result sheet must have: two where it has two fields, else one.
+fn order_fields(bytes: &[u8]) -> usize
+    ensures { result ≡ order_fields bytes.now }
 {
-    let tabs = line::tabs_at(bytes, at);
-    if tabs == 2 {
-        return 2;
-    }
-    1
+    if line::tabs_in(bytes) == 2 { 2 } else { 1 }
 }
 
-// What refuses the numbers of line 2 of a result sheet, 14 and 7: a sheet that names no release is judged as one of release 1.
-fn order_number(numbers: [usize; 32], count: usize) -> u32
-    ensures { result ≡ line_number count numbers }
+// The release and the order number that one number says, or two.
+fn named(count: usize, numbers: [u32; 2]) -> (Option<usize>, usize)
+    ensures { result ≡ named count (get_or numbers 0 0) (get_or numbers 1 0) }
 {
-    if 1 < count {
-        return checks::named_number(23, numbers[0], numbers[1]);
+    let [first, second] = numbers;
+    if count == 2 {
+        (Some(first as usize), second as usize)
+    } else {
+        (None, first as usize)
     }
-    checks::named_number(23, 1, numbers[0])
 }
 
-// Line 2 of a result sheet, a release, where one is named, and an order number, where line 1 was not refused.
-pub(crate) fn order_at(bytes: &[u8], first: page::Page) -> page::Page
-    requires { first.next ≤ length bytes.now }
-    ensures { SecondAt order_line bytes.now first result }
+// Line 2 of a result sheet, a release, where one is named, and an order number.
+pub(crate) fn order_from(bytes: &[u8]) -> Result<Order<'_>, Refused>
+    ensures told { order_told result ≡ order_line bytes.now }
+    ensures named { IfOk result Named }
 {
-    if first.number != 0 {
-        return page::no_page(first.number, first.place);
-    }
-    let n = order_fields(bytes, first.next);
-    let second = numbers_at(bytes, first, b"order", n, 2);
-    if second.number != 0 {
-        return second;
-    }
-    let numbers = second.numbers;
-    let number = order_number(numbers, second.count);
-    if number != 0 {
-        return page::no_page(number, 0);
-    }
-    second
+    let count = order_fields(bytes);
+    let mut numbers = [0; 2];
+    let rest = line::line_from(bytes, b"order", count, &mut numbers).ok_or(bad_line(2))?;
+    let (release, order) = named(count, numbers);
+    // A sheet that names no release is judged as one of release 1.
+    checks::check_named(LAST_ORDER, release.unwrap_or(1), order)?;
+    Ok(Order {
+        release,
+        order,
+        rest,
+    })
 }

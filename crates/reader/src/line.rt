@@ -1,91 +1,47 @@
-// Lines at a place of the bytes: private to the library.
-ghost use Rattle.std.specs.Prelude.{◌≡◌, ◌≤◌, length, take, drop, get_or};
-ghost use Rattle.lists.specs.Same.{same};
+// Lines at the head of the bytes: private to the library.
+ghost use Rattle.std.specs.Prelude.{◌≡◌};
 ghost use Rattle.sheets.specs.Read.{read_fields, read_line, tabs};
-ghost use Rattle.reader.specs.Private.{EndAt};
+ghost use Rattle.reader.specs.Private.{ReadInto};
 
 use crate::field;
 
-// Where something that was read ends: it was not there, or the place after it.
-#[derive(Clone, Copy)]
-pub enum End {
-    Nowhere,
-    At(usize),
-}
-
-// The byte at p, 0 past the end.
-fn byte_at(bytes: &[u8], p: usize) -> u8
-    ensures { result ≡ get_or bytes.now p 0 }
+// n fields. Their first numbers are stored, as many as `out` has places for.
+// Kept: an index, since a chain may have more numbers than there are places, and is then read to its end.
+fn fields_from<'a>(bytes: &'a [u8], n: usize, out: &mut [u32]) -> Option<&'a [u8]>
+    ensures { ReadInto (read_fields n bytes.now) result out.old out.new }
 {
-    if p < bytes.len() { bytes[p] } else { 0 }
-}
-
-// Whether `word` stands at `at`.
-fn word_at(bytes: &[u8], at: usize, word: &[u8]) -> bool
-    requires { at ≤ length bytes.now }
-    ensures { result ≡ same (take (length word.now) (drop at bytes.now)) word.now }
-{
-    if bytes.len() - at < word.len() {
-        return false;
-    }
-    for i in 0..word.len() {
-        if bytes[at + i] != word[i] {
-            return false;
-        }
-    }
-    true
-}
-
-// n fields from `at` on.
-fn fields_at(bytes: &[u8], at: usize, n: usize) -> End
-    requires { at ≤ length bytes.now }
-    ensures { EndAt bytes.now (read_fields n (drop at bytes.now)) result }
-{
-    let mut p = at;
+    let mut rest = bytes;
     for i in 0..n {
-        let f = field::field_at(bytes, p);
-        let field::Field::Number { value: _, next } = f else {
-            return End::Nowhere;
-        };
-        p = next;
+        let field = field::field_from(rest)?;
+        if i < out.len() {
+            out[i] = field.value;
+        }
+        rest = field.rest;
     }
-    End::At(p)
+    Some(rest)
 }
 
-// The line of `word` and n numbers at `at`.
-pub(crate) fn line_at(bytes: &[u8], at: usize, word: &[u8], n: usize) -> End
-    requires { at ≤ length bytes.now }
-    ensures { EndAt bytes.now (read_line word.now n (drop at bytes.now)) result }
+// A line of `word` and n numbers, the first of which are stored, as many as `out` has places for. Answers the bytes after it.
+pub(crate) fn line_from<'a>(
+    bytes: &'a [u8],
+    word: &[u8],
+    n: usize,
+    out: &mut [u32],
+) -> Option<&'a [u8]>
+    ensures { ReadInto (read_line word.now n bytes.now) result out.old out.new }
 {
-    if !word_at(bytes, at, word) {
-        return End::Nowhere;
-    }
-    let f = fields_at(bytes, at + word.len(), n);
-    let End::At(p) = f else {
-        return End::Nowhere;
-    };
-    if byte_at(bytes, p) != 10 {
-        return End::Nowhere;
-    }
-    End::At(p + 1)
+    let fields = bytes.strip_prefix(word)?;
+    let rest = fields_from(fields, n, out)?;
+    rest.strip_prefix(b"\n")
 }
 
-// How many tabs stand before the first LF from `at` on.
-pub(crate) fn tabs_at(bytes: &[u8], at: usize) -> usize
-    requires { at ≤ length bytes.now }
-    ensures { result ≡ tabs (drop at bytes.now) }
+// How many tabs stand before the first LF.
+pub(crate) fn tabs_in(bytes: &[u8]) -> usize
+    ensures { result ≡ tabs bytes.now }
 {
-    let mut count = 0;
-    let mut p = at;
-    while p < bytes.len() {
-        let b = bytes[p];
-        if b == 10 {
-            return count;
-        }
-        if b == 9 {
-            count += 1;
-        }
-        p += 1;
-    }
-    count
+    bytes
+        .iter()
+        .take_while(|&&byte| byte != b'\n')
+        .filter(|&&byte| byte == b'\t')
+        .count()
 }

@@ -1,38 +1,22 @@
 -- The exchange across the diagonal in tiles. A tile is read row by row into an array and stored from it column by column; two tiles that mirror
 -- each other have so traded places, turned, and a tile on the diagonal is turned where it lies. Tile by tile the columns grow that stand exchanged, and
 -- band by band the rows. Rows a and c lie apart where a < c: (a + 1)·n ≤ c·n.
-use Rattle.lists.proofs.Kit.{◌≡◌, refl, ap, ◌∙◌, List, ⊎_elim, ℕ, ◌+◌, ◌*◌, ◌-◌, ◌≤◌, ◌<◌, arith, le-mul_of_pos_right, eq-zero-or-pos, length, get_or, lt-or-ge}
+use Rattle.lists.proofs.Kit.{◌≡◌, ap, ◌∙◌, List, ⊎_elim, ℕ, ◌+◌, ◌*◌, ◌-◌, ◌≤◌, ◌<◌, arith, length, get_or, lt-or-ge}
 use Rattle.lists.proofs.Words.{next_run}
 use Rattle.flat.specs.Turn.{Turn}
 use Rattle.moves.specs.Stretch.{Stretch}
-use Rattle.recursion.specs.PrivateTiles.{Tile, Lifted, Stored, Across}
+use Rattle.recursion.specs.PrivateTiles.{Lifted, Stored, Across}
 use Rattle.recursion.proofs.Turns.{filled_turn}
-
--- a side is no more than the words of its square
-pub side_few : (n : ℕ) → n ≤ n * n
-side_few n = ⊎_elim (λ (e : n ≡ 0). omega arith) (λ (h : 0 < n). le-mul_of_pos_right n h) (eq-zero-or-pos n)
+use Rattle.recursion.specs.declared.tile.Tile.{Tile}
 
 -- row r of a tile lies in the block
-pub row_inside : {n i j h w r : ℕ} {xs : List ℕ} → Tile n i j h w xs → r < h → (i + r) * n + j + w ≤ n * n
-row_inside {n} {i} {r = r} t k = omega (arith, t.columns, next_run n {j = i + r} {k = n} (omega (arith, t.rows)))
-
--- the tile that mirrors a tile
-pub mirrored : {n i j h w : ℕ} {xs : List ℕ} → Tile n i j h w xs → Tile n j i w h xs
-mirrored t = record { fill = t.fill; rows = t.columns; columns = t.rows; high = t.broad; broad = t.high }
-
--- a tile of words that were exchanged
-pub still_tile : {n i j h w : ℕ} {xs ys : List ℕ} → length ys ≡ length xs → Tile n i j h w xs → Tile n i j h w ys
-still_tile e t = record { fill = e ∙ t.fill; rows = t.rows; columns = t.columns; high = t.high; broad = t.broad }
-
--- no row is read yet
-pub lifted_none : {n i j w : ℕ} {xs tile : List ℕ} → length tile ≡ 256 → Lifted n i j 0 w xs tile
-lifted_none e = record { size = e; placed = λ a b p q. absurd (omega arith) }
+pub row_inside : (t : Tile) {r : ℕ} → r < t.height → (t.row + r) * t.side + t.column + t.width ≤ t.side * t.side
+row_inside t {r} k = omega (arith, t.columns_inside, next_run t.side {j = t.row + r} {k = t.side} (omega (arith, t.rows_inside)))
 
 -- one row more is
 pub lifted_more : {n i j r w : ℕ} {xs tile next : List ℕ} → w ≤ 16 → Lifted n i j r w xs tile
     → Stretch (r * 16) w (λ u. get_or xs ((i + r) * n + j + u) 0) tile next → Lifted n i j (r + 1) w xs next
 lifted_more {n} {i} {j} {r} {w} {xs} {tile} {next} broad l s = record {
-  size = s.same ∙ l.size;
   placed = λ a b p q x y. ⊎_elim
       (λ (k : a < i + r). s.below ((a - i) * 16 + (b - j)) (omega arith) ∙ l.placed a b p k x y)
       (λ (k : i + r ≤ a).
@@ -42,10 +26,6 @@ lifted_more {n} {i} {j} {r} {w} {xs} {tile} {next} broad l s = record {
       ∙ ap (λ (z : ℕ). get_or xs z 0) (omega (arith, ap (λ (z : ℕ). z * n) e)))
       (lt-or-ge a (i + r));
 }
-
--- no row is stored yet
-pub stored_none : {n i j w : ℕ} {tile xs : List ℕ} → Stored n i j 0 w tile xs xs
-stored_none = record { same = refl; placed = λ a b p q. absurd (omega arith); others = λ a b h f. refl }
 
 -- one row more is
 pub stored_more : {n i j r w : ℕ} {tile xs ys zs : List ℕ} → j + w ≤ n → Stored n i j r w tile xs ys
@@ -79,39 +59,6 @@ stored_more {n} {i} {j} {r} {w} {tile} {xs} {ys} {zs} inside d s = record {
         (lt-or-ge b j))
         (lt-or-ge (i + r) a))
         (lt-or-ge a (i + r))
-
--- a tile on the diagonal, stored turned in its own place
-pub own_across : {n i h : ℕ} {tile xs ys : List ℕ} → i + h ≤ n → Lifted n i i h h xs tile → Stored n i i h h tile xs ys → Across n i (i + h) 0 (i + h) xs ys
-own_across {n} {i} {h} within l d = record {
-  same = d.same;
-  traded = λ a b o p q x y. (
-    d.placed a b p q (omega arith) y ∙ l.placed b a (omega arith) y p q,
-    d.placed b a (omega arith) y p q ∙ l.placed a b p q (omega arith) y,
-  );
-  stands = λ a b o y f. (
-    d.others a b y (λ p q x z. f p q (omega arith) z),
-    d.others b a (omega arith) (λ p q x z. f x z (omega arith) q),
-  );
-}
-
--- two tiles that mirror each other, each stored turned in the place of the other
-pub trade_across : {n i j h w : ℕ} {one other xs ys zs : List ℕ} → i + h ≤ j → j + w ≤ n → Lifted n i j h w xs one → Lifted n j i w h xs other
-    → Stored n i j h w other xs ys → Stored n j i w h one ys zs → Across n i (i + h) j (j + w) xs zs
-trade_across apart within l m d e = record {
-  same = e.same ∙ d.same;
-  traded = λ a b o p q x y. (
-    e.others a b (omega arith) (λ p' q' x' y'. omega arith) ∙ d.placed a b p q x y ∙ m.placed b a x y p q,
-    e.placed b a x y p q ∙ l.placed a b p q x y,
-  );
-  stands = λ a b o y f. (
-    e.others a b y (λ p q x z. omega arith) ∙ d.others a b y f,
-    e.others b a (omega arith) (λ p q x z. f x z p q) ∙ d.others b a (omega arith) (λ p q x z. omega arith),
-  );
-}
-
--- nothing is exchanged yet
-pub across_none : {n lo hi from to : ℕ} {xs : List ℕ} → ((a b : ℕ) → lo ≤ a → a < hi → from ≤ b → b < to → ⊥) → Across n lo hi from to xs xs
-across_none f = record { same = refl; traded = λ a b o p q x y. absurd (f a b p q x y); stands = λ a b o y g. (refl, refl) }
 
 -- the columns up to a place, then those from there on
 pub columns_more : {n lo hi from mid to : ℕ} {xs ys zs : List ℕ} → from ≤ mid → mid ≤ to → to ≤ n → Across n lo hi from mid xs ys → Across n lo hi mid to ys zs

@@ -4,11 +4,11 @@ use Rattle.lists.proofs.Kit.{◌≡◌, refl, sym, ap, ◌∙◌, subst, List, �
 use borrow.Rule.Slice.PartMut.{mid_of, put_mid, mid_len}
 use Rattle.recursion.specs.Private.{rotated, Runs}
 use Rattle.recursion.specs.Merge.{Merged}
-use Rattle.lists.proofs.Parts.{whole, second, second_length, joined}
+use Rattle.lists.proofs.Parts.{second, joined}
 use Rattle.recursion.proofs.Four.{Four, four, middle-turned, Halved, halved}
 use Rattle.recursion.proofs.Merges.{merged_halves, merged_one}
 
--- a slice of runs, lent as its two halves one after the other
+-- a slice of runs: the stretch that is rotated, and the second half
 module _ {n p q : ℕ} {xs : List ℕ} (runs : Runs n p q xs) where
   cuts : Halved n p q
   cuts = halved n p q runs.some
@@ -16,29 +16,16 @@ module _ {n p q : ℕ} {xs : List ℕ} (runs : Runs n p q xs) where
   sum : length xs ≡ n / 2 * (p + q) + (n - n / 2) * (p + q)
   sum = omega (arith, cuts, runs.fill)
 
-  -- the stretch that is rotated is as long as its two parts
+  -- the stretch is as long as its two parts
   pub stretch_long : length (mid_of (n / 2 * p) (n * p + n / 2 * q - n / 2 * p) xs) ≡ (n - n / 2) * p + n / 2 * q
   stretch_long = mid_len (n / 2 * p) (n * p + n / 2 * q) xs (omega (arith, cuts, runs.fill)) ∙ omega (arith, cuts)
 
-  pub cut_within : n / 2 * (p + q) ≤ length xs
+  cut_within : n / 2 * (p + q) ≤ length xs
   cut_within = omega (arith, sum)
 
-  -- what the call on the first half asks
-  pub low_runs : 1 < n → Runs (n / 2) p q (take (n / 2 * (p + q)) xs)
-  low_runs h = record { some = omega arith; fill = length-take-le (n / 2 * (p + q)) xs cut_within }
-
-  -- the first half is back as ys
-  module _ (ys : List ℕ) (back : length ys ≡ length (take (n / 2 * (p + q)) xs)) where
-    pub cut_after : n / 2 * (p + q) ≤ length (ys ++ drop (n / 2 * (p + q)) xs)
-    cut_after = rw (whole (n / 2 * (p + q)) xs ys cut_within back) cut_within
-
-    -- what the call on the second half asks
-    pub high_runs : 1 < n
-        → Runs (n - n / 2) p q (mid_of (n / 2 * (p + q)) (length (ys ++ drop (n / 2 * (p + q)) xs) - n / 2 * (p + q)) (ys ++ drop (n / 2 * (p + q)) xs))
-    high_runs h = record {
-      some = omega arith;
-      fill = second_length (n / 2 * (p + q)) xs ys cut_within back ∙ omega (arith, sum);
-    }
+  -- what the call on the second half asks
+  pub high_runs : {v : List ℕ} → 1 < n → length v + n / 2 * (p + q) ≡ length xs → Runs (n - n / 2) p q v
+  high_runs h e = record { some = omega arith; fill = omega (arith, sum) }
 
 -- merge: the stretch comes back rotated as r, then the halves are merged
 module _ {n p q : ℕ} {xs r : List ℕ} (runs : Runs n p q xs)
@@ -80,97 +67,101 @@ module _ {n p q : ℕ} {xs r : List ℕ} (runs : Runs n p q xs)
       let m = merged_halves (n / 2) (n - n / 2) p q parts.a parts.b parts.c parts.d ys zs parts.la parts.lb parts.lc parts.ld low high in
       subst (λ (k : ℕ). Merged k p q xs (ys ++ zs)) all (subst (λ (l : List ℕ). Merged (n / 2 + (n - n / 2)) p q l (ys ++ zs)) (sym parts.whole) m)
 
+  pub merged_of_halves : {u v ys zs : List ℕ} → u ≡ take (n / 2 * (p + q)) next → v ≡ drop (n / 2 * (p + q)) next
+      → Merged (n / 2) p q u ys → Merged (n - n / 2) p q v zs → Merged n p q xs (ys ++ zs)
+  merged_of_halves {ys = ys} {zs = zs} e f low high =
+      merged_both (subst (λ (l : List ℕ). Merged (n / 2) p q l ys) (e ∙ low_lent) low) (subst (λ (l : List ℕ). Merged (n - n / 2) p q l zs) (f ∙ high_lent) high)
+
+  -- the same where the second half is cut from the slice with the first half back
   pub merged_whole : {ys zs : List ℕ} → Merged (n / 2) p q (take (n / 2 * (p + q)) next) ys
       → Merged (n - n / 2) p q (mid_of (n / 2 * (p + q)) (length (ys ++ drop (n / 2 * (p + q)) next) - n / 2 * (p + q)) (ys ++ drop (n / 2 * (p + q)) next)) zs
       → Merged n p q xs (put_mid (n / 2 * (p + q)) (length (ys ++ drop (n / 2 * (p + q)) next) - n / 2 * (p + q)) (ys ++ drop (n / 2 * (p + q)) next) zs)
   merged_whole {ys} {zs} low high =
       let within = cut_within next_runs in
-      rw (joined (n / 2 * (p + q)) next ys within low.same zs)
-      (merged_both
-      (subst (λ (l : List ℕ). Merged (n / 2) p q l ys) low_lent low)
-      (subst (λ (l : List ℕ). Merged (n - n / 2) p q l zs) (second (n / 2 * (p + q)) next ys within low.same ∙ high_lent) high))
+      rw (joined (n / 2 * (p + q)) next ys within low.same zs) (merged_of_halves refl (second (n / 2 * (p + q)) next ys within low.same) low high)
 
   -- of two runs each, the halves are merged as they stand
   pub merged_two : n ≡ 2 → Merged n p q xs next
   merged_two e = rw next_is (merged_both (merged_one (n / 2) p q (parts.a ++ parts.c) (omega arith)) (merged_one (n - n / 2) p q (parts.b ++ parts.d) (omega arith)))
 
--- split: the halves come back split as ys and zs, then the stretch is rotated
-module _ {n p q : ℕ} {xs ys zs : List ℕ} (runs : Runs n p q xs) (low : Merged (n / 2) p q ys (take (n / 2 * (p + q)) xs))
-    (high : Merged (n - n / 2) p q zs (mid_of (n / 2 * (p + q)) (length (ys ++ drop (n / 2 * (p + q)) xs) - n / 2 * (p + q)) (ys ++ drop (n / 2 * (p + q)) xs))) where
-  -- the slice once both halves are back
-  abbrev both : List ℕ
-  both = put_mid (n / 2 * (p + q)) (length (ys ++ drop (n / 2 * (p + q)) xs) - n / 2 * (p + q)) (ys ++ drop (n / 2 * (p + q)) xs) zs
+-- both halves of xs are split: s is the slice then
+pub record HalvesSplit (n p q : ℕ) (xs s : List ℕ) : Type 0 where
+  pub ys : List ℕ
+  pub zs : List ℕ
+  pub low : Merged (n / 2) p q ys (take (n / 2 * (p + q)) xs)
+  pub high : Merged (n - n / 2) p q zs (drop (n / 2 * (p + q)) xs)
+  pub back : s ≡ ys ++ zs
 
-  both_is : both ≡ ys ++ zs
-  both_is = joined (n / 2 * (p + q)) xs ys (cut_within runs) (sym low.same) zs
+-- both came back split
+pub halves_split : {n p q : ℕ} {xs u v ys zs s : List ℕ} → u ≡ take (n / 2 * (p + q)) xs → v ≡ drop (n / 2 * (p + q)) xs
+    → Merged (n / 2) p q ys u → Merged (n - n / 2) p q zs v → s ≡ ys ++ zs → HalvesSplit n p q xs s
+halves_split {n} {p} {q} {ys = ys} {zs = zs} e f low high back = record {
+  ys = ys;
+  zs = zs;
+  low = subst (λ (l : List ℕ). Merged (n / 2) p q ys l) e low;
+  high = subst (λ (l : List ℕ). Merged (n - n / 2) p q zs l) f high;
+  back = back;
+}
 
-  ys_long : length ys ≡ n / 2 * p + n / 2 * q
-  ys_long = sym low.same ∙ length-take-le (n / 2 * (p + q)) xs (cut_within runs) ∙ omega (arith, cuts runs)
+-- of two runs each, the halves are split as they stand
+pub two_split : {n p q : ℕ} {xs s : List ℕ} → n ≡ 2 → s ≡ xs → HalvesSplit n p q xs s
+two_split {n} {p} {q} {xs} e back = record {
+  ys = take (n / 2 * (p + q)) xs;
+  zs = drop (n / 2 * (p + q)) xs;
+  low = merged_one (n / 2) p q (take (n / 2 * (p + q)) xs) (omega arith);
+  high = merged_one (n - n / 2) p q (drop (n / 2 * (p + q)) xs) (omega arith);
+  back = back ∙ sym (take-append-drop (n / 2 * (p + q)) xs);
+}
 
-  zs_long : length zs ≡ (n - n / 2) * p + (n - n / 2) * q
-  zs_long = sym high.same ∙ second_length (n / 2 * (p + q)) xs ys (cut_within runs) (sym low.same) ∙ omega (arith, cuts runs, sum runs)
+-- split: both halves are split, then the stretch is rotated
+module _ {n p q : ℕ} {xs s : List ℕ} (runs : Runs n p q xs) (halves : HalvesSplit n p q xs s) where
+  ys_long : length halves.ys ≡ n / 2 * p + n / 2 * q
+  ys_long = sym halves.low.same ∙ length-take-le (n / 2 * (p + q)) xs (cut_within runs) ∙ omega (arith, cuts runs)
 
-  pub both_runs : Runs n p q both
-  both_runs = record {
-    some = runs.some;
-    fill = ap length both_is ∙ length-append ys zs ∙ omega (arith, cuts runs, ys_long, zs_long);
-  }
+  zs_long : length halves.zs ≡ (n - n / 2) * p + (n - n / 2) * q
+  zs_long = sym halves.high.same ∙ length-drop (n / 2 * (p + q)) xs ∙ omega (arith, cuts runs, sum runs)
 
-  pieces : Four (n / 2 * p) (n / 2 * q) ((n - n / 2) * p) ((n - n / 2) * q) both
+  pieces : Four (n / 2 * p) (n / 2 * q) ((n - n / 2) * p) ((n - n / 2) * q) s
   pieces = record {
-    a = take (n / 2 * p) ys;
-    b = drop (n / 2 * p) ys;
-    c = take ((n - n / 2) * p) zs;
-    d = drop ((n - n / 2) * p) zs;
-    la = length-take-le (n / 2 * p) ys (omega (arith, ys_long));
-    lb = length-drop (n / 2 * p) ys ∙ omega (arith, ys_long);
-    lc = length-take-le ((n - n / 2) * p) zs (omega (arith, zs_long));
-    ld = length-drop ((n - n / 2) * p) zs ∙ omega (arith, zs_long);
+    a = take (n / 2 * p) halves.ys;
+    b = drop (n / 2 * p) halves.ys;
+    c = take ((n - n / 2) * p) halves.zs;
+    d = drop ((n - n / 2) * p) halves.zs;
+    la = length-take-le (n / 2 * p) halves.ys (omega (arith, ys_long));
+    lb = length-drop (n / 2 * p) halves.ys ∙ omega (arith, ys_long);
+    lc = length-take-le ((n - n / 2) * p) halves.zs (omega (arith, zs_long));
+    ld = length-drop ((n - n / 2) * p) halves.zs ∙ omega (arith, zs_long);
     whole =
-        both_is
-        ∙ ap (λ (l : List ℕ). l ++ zs) (sym (take-append-drop (n / 2 * p) ys))
-        ∙ ap (λ (l : List ℕ). (take (n / 2 * p) ys ++ drop (n / 2 * p) ys) ++ l) (sym (take-append-drop ((n - n / 2) * p) zs))
-        ∙ append_assoc (take (n / 2 * p) ys) (drop (n / 2 * p) ys) (take ((n - n / 2) * p) zs ++ drop ((n - n / 2) * p) zs);
+        halves.back
+        ∙ ap (λ (l : List ℕ). l ++ halves.zs) (sym (take-append-drop (n / 2 * p) halves.ys))
+        ∙ ap (λ (l : List ℕ). (take (n / 2 * p) halves.ys ++ drop (n / 2 * p) halves.ys) ++ l) (sym (take-append-drop ((n - n / 2) * p) halves.zs))
+        ∙ append_assoc (take (n / 2 * p) halves.ys) (drop (n / 2 * p) halves.ys) (take ((n - n / 2) * p) halves.zs ++ drop ((n - n / 2) * p) halves.zs);
   }
 
-  pub split_whole : {r : List ℕ} → r ≡ rotated (n / 2 * q) (mid_of (n / 2 * p) (n * p + n / 2 * q - n / 2 * p) both)
-      → Merged n p q (put_mid (n / 2 * p) (n * p + n / 2 * q - n / 2 * p) both r) xs
+  pub split_of_halves : {r : List ℕ} → r ≡ rotated (n / 2 * q) (mid_of (n / 2 * p) (n * p + n / 2 * q - n / 2 * p) s)
+      → Merged n p q (put_mid (n / 2 * p) (n * p + n / 2 * q - n / 2 * p) s r) xs
   unfolding pieces
-  split_whole {r} turned =
+  split_of_halves {r} turned =
       let all : n / 2 + (n - n / 2) ≡ n = omega arith in
       let first : Merged (n / 2) p q (pieces.a ++ pieces.b) (take (n / 2 * (p + q)) xs)
-      = subst (λ (l : List ℕ). Merged (n / 2) p q l (take (n / 2 * (p + q)) xs)) (sym (take-append-drop (n / 2 * p) ys)) low in
+      = subst (λ (l : List ℕ). Merged (n / 2) p q l (take (n / 2 * (p + q)) xs)) (sym (take-append-drop (n / 2 * p) halves.ys)) halves.low in
       let last : Merged (n - n / 2) p q (pieces.c ++ pieces.d) (drop (n / 2 * (p + q)) xs)
-      = subst (λ (l : List ℕ). Merged (n - n / 2) p q l (drop (n / 2 * (p + q)) xs)) (sym (take-append-drop ((n - n / 2) * p) zs))
-      (subst (λ (l : List ℕ). Merged (n - n / 2) p q zs l) (second (n / 2 * (p + q)) xs ys (cut_within runs) (sym low.same)) high) in
+      = subst (λ (l : List ℕ). Merged (n - n / 2) p q l (drop (n / 2 * (p + q)) xs)) (sym (take-append-drop ((n - n / 2) * p) halves.zs)) halves.high in
       let m = merged_halves (n / 2) (n - n / 2) p q pieces.a pieces.c pieces.b pieces.d (take (n / 2 * (p + q)) xs) (drop (n / 2 * (p + q)) xs)
       pieces.la pieces.lc pieces.lb pieces.ld first last in
       rw (middle-turned pieces (n * p + n / 2 * q - n / 2 * p) (omega (arith, cuts runs)) r turned)
       (subst (λ (k : ℕ). Merged k p q (pieces.a ++ (pieces.c ++ (pieces.b ++ pieces.d))) xs) all
       (subst (λ (l : List ℕ). Merged (n / 2 + (n - n / 2)) p q (pieces.a ++ (pieces.c ++ (pieces.b ++ pieces.d))) l) (take-append-drop (n / 2 * (p + q)) xs) m))
 
--- of two runs each, the halves are split as they stand
-module _ {n p q : ℕ} {xs : List ℕ} (runs : Runs n p q xs) (e : n ≡ 2) where
-  abbrev front : List ℕ
-  front = take (n / 2 * (p + q)) xs
+-- the same where the second half is cut from the slice with the first half back
+module _ {n p q : ℕ} {xs ys zs : List ℕ} (runs : Runs n p q xs) (low : Merged (n / 2) p q ys (take (n / 2 * (p + q)) xs))
+    (high : Merged (n - n / 2) p q zs (mid_of (n / 2 * (p + q)) (length (ys ++ drop (n / 2 * (p + q)) xs) - n / 2 * (p + q)) (ys ++ drop (n / 2 * (p + q)) xs))) where
+  -- the slice once both halves are back
+  abbrev both : List ℕ
+  both = put_mid (n / 2 * (p + q)) (length (ys ++ drop (n / 2 * (p + q)) xs) - n / 2 * (p + q)) (ys ++ drop (n / 2 * (p + q)) xs) zs
 
-  abbrev rest : List ℕ
-  rest = drop (n / 2 * (p + q)) xs
-
-  low_stands : Merged (n / 2) p q front front
-  low_stands = merged_one (n / 2) p q front (omega arith)
-
-  high_stands : Merged (n - n / 2) p q rest (mid_of (n / 2 * (p + q)) (length (front ++ rest) - n / 2 * (p + q)) (front ++ rest))
-  high_stands =
-      subst (λ (l : List ℕ). Merged (n - n / 2) p q rest l) (sym (second (n / 2 * (p + q)) xs front (cut_within runs) refl))
-      (merged_one (n - n / 2) p q rest (omega arith))
-
-  both_stand : both runs low_stands high_stands ≡ xs
-  both_stand = both_is runs low_stands high_stands ∙ take-append-drop (n / 2 * (p + q)) xs
-
-  pub split_two : {r : List ℕ} → r ≡ rotated (n / 2 * q) (mid_of (n / 2 * p) (n * p + n / 2 * q - n / 2 * p) xs)
-      → Merged n p q (put_mid (n / 2 * p) (n * p + n / 2 * q - n / 2 * p) xs r) xs
-  split_two {r} turned =
-      subst (λ (l : List ℕ). Merged n p q (put_mid (n / 2 * p) (n * p + n / 2 * q - n / 2 * p) l r) xs) both_stand
-      (split_whole runs low_stands high_stands
-      (subst (λ (l : List ℕ). r ≡ rotated (n / 2 * q) (mid_of (n / 2 * p) (n * p + n / 2 * q - n / 2 * p) l)) (sym both_stand) turned))
+  pub split_whole : {r : List ℕ} → r ≡ rotated (n / 2 * q) (mid_of (n / 2 * p) (n * p + n / 2 * q - n / 2 * p) both)
+      → Merged n p q (put_mid (n / 2 * p) (n * p + n / 2 * q - n / 2 * p) both r) xs
+  split_whole =
+      let within = cut_within runs in
+      split_of_halves runs (halves_split refl (second (n / 2 * (p + q)) xs ys within (sym low.same)) low high (joined (n / 2 * (p + q)) xs ys within (sym low.same) zs))

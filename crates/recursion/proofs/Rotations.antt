@@ -10,6 +10,13 @@ pub rotated-parts : (p q : List ℕ) (k : ℕ) → length p ≡ k → rotated k 
 unfolding rotated
 rotated-parts p q k e = rw (take_at p q k e, drop_at p q k e)
 
+-- the two parts around k, once their first w words have traded places
+pub both_parts : {k w : ℕ} (xs : List ℕ) {front back ys zs : List ℕ} → w ≤ k → front ≡ take k xs → back ≡ drop k xs → ys ≡ take w back → zs ≡ take w front
+    → (ys ++ drop w front) ++ (zs ++ drop w back) ≡ traded k w xs
+unfolding traded
+both_parts {k} {w} xs low e f g h =
+    rw (g, h, e, f, take-take w k xs low, drop-drop w k xs) (append_assoc (take w (drop k xs)) (drop w (take k xs)) (take w xs ++ drop (k + w) xs))
+
 module _ (k w : ℕ) (xs : List ℕ) (low : w ≤ k) (high : k + w ≤ length xs) where
   -- the stretches: the first w words, what lies between, the w words from k on, the rest
   abbrev a : List ℕ

@@ -4,22 +4,14 @@ use Rattle.lists.proofs.Kit.{◌≡◌, sym, ap, ◌∙◌, subst, List, ◌++�
 use Rattle.flat.specs.Turn.{Turn}
 use Rattle.flat.proofs.Turn.{literally, from_literal}
 use Rattle.recursion.specs.Merge.{Merged}
-use Rattle.recursion.specs.Private.{Runs, Block}
+use Rattle.recursion.specs.Private.{Block}
 use Rattle.lists.proofs.Parts.{in_front, behind}
-use Rattle.recursion.proofs.Cuts.{Parted, Both, rows_cut, columns_cut}
 
 -- a block that fills its slice is turned where each of its words is: past it there is none
 pub filled_turn : (m n : ℕ) (xs ys : List ℕ) → length xs ≡ m * n → length ys ≡ length xs
     → ((i j : ℕ) → i < m → j < n → get_or ys (j * m + i) 0 ≡ get_or xs (i * n + j) 0) → Turn m n xs ys
 filled_turn m n xs ys long same placed = from_literal m n xs ys same placed (λ k h.
     get_or-eq_default ys 0 {n = k} (omega (arith, same)) ∙ sym (get_or-eq_default xs 0 {n = k} (omega arith)))
-
--- a block of equal sides: what the exchange across its diagonal asks, and that it is the block's turn
-pub square_block : {m n : ℕ} {xs : List ℕ} → Block m n xs → m ≡ n → length xs ≡ n * n
-square_block {n = n} b e = b.fill ∙ ap (λ (k : ℕ). k * n) e
-
-pub square_turned : {m n : ℕ} {xs ys : List ℕ} → m ≡ n → Turn n n xs ys → Turn m n xs ys
-square_turned e t = rw e t
 
 -- h rows and g rows of n words, turned to a and b, and merged to zs
 module _ {h g n : ℕ} (xs : List ℕ) {a b zs : List ℕ} (long : length xs ≡ h * n + g * n)
@@ -88,33 +80,41 @@ module _ {m h g : ℕ} {xs ys a b : List ℕ} (long : length xs ≡ m * h + m * 
       subst (λ (k : ℕ). get_or (a ++ b) (k * m + i) 0 ≡ get_or xs (i * (h + g) + k) 0) e (right i (j - h) hi (omega arith)))
       (lt-or-ge j h))
 
--- a tall block, cut by rows: what its merge asks, and that it is turned
-module _ {m n : ℕ} {xs z : List ℕ} (b : Block m n xs) (h : 1 < m) (d : Both (m / 2 * n) (m / 2) n (m - m / 2) n xs z) where
+-- a tall block, cut by rows: the second part, and the whole once both are turned and merged
+module _ {m n : ℕ} {xs : List ℕ} (b : Block m n xs) where
   rows_sum : m / 2 + (m - m / 2) ≡ m
   rows_sum = omega arith
 
-  pub merge_runs : Runs n (m / 2) (m - m / 2) z
-  merge_runs = record { some = b.columns; fill = d.same ∙ b.fill ∙ mul_comm m n ∙ ap (λ (k : ℕ). n * k) (sym rows_sum) }
+  rows_long : length xs ≡ m / 2 * n + (m - m / 2) * n
+  rows_long = b.fill ∙ ap (λ (k : ℕ). k * n) (sym rows_sum) ∙ add-mul (m / 2) (m - m / 2) n
 
-  pub tall_turned : {zs : List ℕ} → Merged n (m / 2) (m - m / 2) z zs → Turn m n xs zs
-  tall_turned {zs} g =
-      subst (λ (k : ℕ). Turn k n xs zs) rows_sum
-      (merged_turn xs (rows_cut b h).all d.turn₁ d.turn₂ (subst (λ (l : List ℕ). Merged n (m / 2) (m - m / 2) l zs) d.back g))
+  pub lower_block : {v : List ℕ} → 1 < m → length v + m / 2 * n ≡ length xs → Block (m - m / 2) n v
+  lower_block h e = record { rows = omega arith; columns = b.columns; fill = omega (arith, rows_long) }
 
--- a wide block, cut by columns: what its split asks, what is cut, and that it is turned
-module _ {m n : ℕ} {xs : List ℕ} (b : Block m n xs) (h : 1 < n) where
+  pub tall_turned : {u v ys zs ws : List ℕ} → u ≡ take (m / 2 * n) xs → v ≡ drop (m / 2 * n) xs → Turn (m / 2) n u ys → Turn (m - m / 2) n v zs
+      → Merged n (m / 2) (m - m / 2) (ys ++ zs) ws → Turn m n xs ws
+  tall_turned {ys = ys} {zs = zs} {ws = ws} e f upper lower merged =
+      subst (λ (k : ℕ). Turn k n xs ws) rows_sum
+      (merged_turn xs rows_long
+      (subst (λ (l : List ℕ). Turn (m / 2) n l ys) e upper)
+      (subst (λ (l : List ℕ). Turn (m - m / 2) n l zs) f lower)
+      merged)
+
+-- a wide block, cut by columns and split to ys: the second part, and the whole once both are turned
+module _ {m n : ℕ} {xs : List ℕ} (b : Block m n xs) {ys : List ℕ} (split : Merged m (n / 2) (n - n / 2) ys xs) where
   columns_sum : n / 2 + (n - n / 2) ≡ n
   columns_sum = omega arith
 
-  pub split_runs : Runs m (n / 2) (n - n / 2) xs
-  split_runs = record { some = b.rows; fill = b.fill ∙ ap (λ (k : ℕ). m * k) (sym columns_sum) }
+  columns_long : length xs ≡ m * (n / 2) + m * (n - n / 2)
+  columns_long = b.fill ∙ ap (λ (k : ℕ). m * k) (sym columns_sum) ∙ mul-add m (n / 2) (n - n / 2)
 
-  split_block : {ys : List ℕ} → Merged m (n / 2) (n - n / 2) ys xs → Block m n ys
-  split_block s = record { rows = b.rows; columns = b.columns; fill = sym s.same ∙ b.fill }
+  pub right_block : {v : List ℕ} → 1 < n → length v + m * (n / 2) ≡ length ys → Block m (n - n / 2) v
+  right_block h e = record { rows = b.rows; columns = omega arith; fill = omega (arith, columns_long, split.same) }
 
-  pub split_parts : {ys : List ℕ} → Merged m (n / 2) (n - n / 2) ys xs → Parted (m * (n / 2)) m (n / 2) m (n - n / 2) ys
-  split_parts s = columns_cut (split_block s) h
-
-  pub wide_turned : {ys z : List ℕ} → Merged m (n / 2) (n - n / 2) ys xs → Both (m * (n / 2)) m (n / 2) m (n - n / 2) ys z → Turn m n xs z
-  wide_turned {ys} {z} s d =
-      rw d.back (subst (λ (k : ℕ). Turn m k xs (d.a ++ d.b)) columns_sum (split_turn (columns_cut b h).all s d.turn₁ d.turn₂))
+  pub wide_turned : {u v zs ws : List ℕ} → u ≡ take (m * (n / 2)) ys → v ≡ drop (m * (n / 2)) ys → Turn m (n / 2) u zs → Turn m (n - n / 2) v ws
+      → Turn m n xs (zs ++ ws)
+  wide_turned {zs = zs} {ws = ws} e f left right =
+      subst (λ (k : ℕ). Turn m k xs (zs ++ ws)) columns_sum
+      (split_turn columns_long split
+      (subst (λ (l : List ℕ). Turn m (n / 2) l zs) e left)
+      (subst (λ (l : List ℕ). Turn m (n - n / 2) l ws) f right))

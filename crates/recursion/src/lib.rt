@@ -5,24 +5,19 @@ mod recursion;
 mod rotation;
 mod runs;
 mod square;
+mod tile;
 
+ghost use Rattle.refusals.specs.Refusal.{answered};
 ghost use Rattle.recursion.specs.Promise.{RecursionPromise};
 
-use recursion::{tall, wide};
+use refusals::Refusal;
 
-// Turns the block of m rows and n columns that fills the buffer, with no scratch: 0, or 1, 2, 3, 13.
-pub fn turn(buf: &mut [u32], m: usize, n: usize) -> u32
-    ensures { RecursionPromise m n buf.old result buf.new }
+// Turns the block of m rows and n columns that fills the buffer, with no scratch; or refuses with 1, 2, 3 or 13.
+#[tactic(auto, using(crate::proofs::Lent::checked_block))]
+pub fn turn(buf: &mut [u32], m: usize, n: usize) -> Result<(), Refusal>
+    ensures { RecursionPromise m n buf.old (answered result) buf.new }
 {
-    let lens = [m, n];
-    let number = checks::block_number(&lens, buf);
-    if number != 0 {
-        return number;
-    }
-    if n <= m {
-        tall(buf, m, n);
-    } else {
-        wide(buf, m, n);
-    }
-    0
+    checks::check_block(&[m, n], buf)?;
+    recursion::turned(buf, m, n);
+    Ok(())
 }

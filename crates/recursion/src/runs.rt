@@ -15,17 +15,17 @@ pub(crate) fn merge(s: &mut [u32], n: usize, p: usize, q: usize)
     }
     let h = n / 2;
     let g = n - h;
-    let cut = h * (p + q);
-    let from = h * p;
-    let to = n * p + h * q;
-    rotate(&mut s[from..to], g * p);
+    rotate(&mut s[h * p..n * p + h * q], g * p);
     if n == 2 {
         return;
     }
-    merge(&mut s[..cut], h, p, q);
-    merge(&mut s[cut..], g, p, q);
+    let (first, second) = s.split_at_mut(h * (p + q));
+    merge(first, h, p, q);
+    merge(second, g, p, q);
 }
 
+// Kept: `merge` and `split` do the same steps in opposite orders, so one function for both would only choose between two bodies.
+//
 // Splits p, q, p, q and so on into n runs of p words and the n runs of q words that follow them.
 pub(crate) fn split(s: &mut [u32], n: usize, p: usize, q: usize)
     requires { Runs n p q s.old }
@@ -36,14 +36,10 @@ pub(crate) fn split(s: &mut [u32], n: usize, p: usize, q: usize)
     }
     let h = n / 2;
     let g = n - h;
-    let cut = h * (p + q);
-    let from = h * p;
-    let to = n * p + h * q;
-    if n == 2 {
-        rotate(&mut s[from..to], h * q);
-        return;
+    if 2 < n {
+        let (first, second) = s.split_at_mut(h * (p + q));
+        split(first, h, p, q);
+        split(second, g, p, q);
     }
-    split(&mut s[..cut], h, p, q);
-    split(&mut s[cut..], g, p, q);
-    rotate(&mut s[from..to], h * q);
+    rotate(&mut s[h * p..n * p + h * q], h * q);
 }

@@ -12,3 +12,5 @@ pub mod Calls
 pub mod Scratch
 -- what the checks of an adjacent swap tell, and that any two outcomes of its promise coincide
 pub mod Swap
+-- a refusal is told by its number, an answer by the number that C sees of it
+pub mod Numbers

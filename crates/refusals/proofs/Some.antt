@@ -1,6 +1,7 @@
 -- A test over the entries of a list: what it says from one entry on, what it says of each entry, and where the first entry is at which
 -- it holds. From the definitions of `some` and `first_place`, by induction on the list.
-use Rattle.lists.proofs.Kit.{◌≡◌, refl, Bool, true, false, cond, ◌||◌, List, [], ◌∷◌, ℕ, zero, suc, ◌+◌, ◌<◌, ◌≤◌, not-suc-le-zero, le_of_suc-le-suc, arith, length, drop, get_or, drop-next, drop_end}
+use Rattle.std.specs.List.{list_any, position_or_len}
+use Rattle.lists.proofs.Kit.{◌≡◌, refl, Bool, true, false, not, cond, ◌||◌, List, [], ◌∷◌, ℕ, zero, suc, ◌+◌, ◌<◌, ◌≤◌, not-suc-le-zero, le_of_suc-le-suc, arith, length, drop, get_or, drop-next, drop_end}
 use Rattle.refusals.specs.Conditions.{some, first_place}
 
 pub either_false : (a b : Bool) → (a || b) ≡ false → (a ≡ false) × (b ≡ false)
@@ -60,3 +61,17 @@ no_place f (x ∷ l) h = go (f x) h (no_place f l)
     go : (t : Bool) → suc (length l) ≤ cond t 0 (suc (first_place f l)) → (length l ≤ first_place f l → some f l ≡ false) → (t || some f l) ≡ false
     go true h ih = absurd (not-suc-le-zero h)
     go false h ih = ih (le_of_suc-le-suc h)
+
+-- the library's words for the same: a test at some entry, the first entry that passes
+pub some_any : {A : Type 0} (f : A → Bool) (l : List A) → list_any f l ≡ some f l
+some_any f [] = refl
+some_any f (x ∷ l) = rw (some_any f l)
+
+pub first_position : (f : ℕ → Bool) (l : List ℕ) → position_or_len f l ≡ first_place f l
+unfolding first_place
+first_position f [] = refl
+first_position f (x ∷ l) = by_test (f x) (first_position f l)
+  where
+    by_test : {a b : ℕ} (t : Bool) → a ≡ b → cond (not t) (1 + a) 0 ≡ cond t 0 (suc b)
+    by_test true e = refl
+    by_test false e = omega (arith, e)

@@ -3,3 +3,4 @@ pub mod Conditions
 pub mod Calls
 pub mod Scratch
 pub mod Promise
+pub mod Refusal

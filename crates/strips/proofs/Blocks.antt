@@ -1,6 +1,6 @@
 -- Blocks of chunks turned one after the other. A part of the words that comes back turned is a block turned where it lies; after e blocks those
 -- before e are turned and the others stand; all of them turned are the layout that exchanges the two axes in the middle.
-use Rattle.lists.proofs.Kit.{◌≡◌, refl, sym, ap, ◌∙◌, List, [], ◌∷◌, ◌⊎◌, inl, inr, ⊎_elim, ℕ, ◌+◌, ◌*◌, ◌-◌, ◌<◌, ◌≤◌, mul_comm, mul-le-mul_right, add-mul, one-mul, arith, digits_lt, length, get_or, eq-or-ne}
+use Rattle.lists.proofs.Kit.{◌≡◌, sym, ap, ◌∙◌, List, [], ◌∷◌, ◌⊎◌, inl, inr, ⊎_elim, ℕ, ◌+◌, ◌*◌, ◌-◌, ◌<◌, ◌≤◌, mul_comm, mul-le-mul_right, add-mul, one-mul, arith, digits_lt, length, get_or, eq-or-ne}
 use borrow.Rule.Slice.PartMut.{mid_of, put_mid, mid_len, same_len_mid}
 use Rattle.layout.proofs.Offsets.{at_three}
 use Rattle.layout.specs.Layout.{volume, Within, at, pick, Laid}
@@ -69,9 +69,6 @@ unfolding at volume
 swap_at outer m n chunk e i j u = omega arith
 
 module _ {m n chunk : ℕ} where
-  pub turned_none : {xs : List ℕ} → TurnedTo m n chunk 0 xs xs
-  turned_none = record { same = refl; placed = λ k i j u h. absurd (omega arith); stands = λ p h. refl }
-
   -- one block more
   pub turned_more : {e : ℕ} {xs ys zs : List ℕ} → TurnedTo m n chunk e xs ys → TurnedAt m n chunk (e * (m * n * chunk)) ys zs → TurnedTo m n chunk (e + 1) xs zs
   turned_more {e} {xs} {ys} {zs} a t = record {

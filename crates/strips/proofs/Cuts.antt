@@ -1,36 +1,16 @@
 -- The sizes of large blocks: a side cut in strips of 32 to 64 words or in halves, the strips, the marks of their grid and the lines left over have room.
-use Rattle.lists.proofs.Kit.{◌≡◌, ap, subst, ◌∙◌, List, ◌⊎◌, inl, inr, ⊎_elim, ℕ, ◌+◌, ◌*◌, ◌-◌, ◌/◌, ◌%◌, ◌<◌, ◌≤◌, div-add-mod', div-lt_iff_lt-mul, mod-lt, mul-le-mul, mul-le-mul_left, mul-le-mul_right, le-mul_of_pos_right, mul-pos, arith, length, lt-or-ge}
-use Rattle.grids.specs.Promises.{Turnable}
-use Rattle.strips.specs.PrivateBounds.{From, Waiting, Narrow, Thin, Cut, Large}
+use Rattle.lists.proofs.Kit.{◌≡◌, ap, subst, List, ◌⊎◌, inl, ⊎_elim, ℕ, ◌+◌, ◌*◌, ◌-◌, ◌/◌, ◌%◌, ◌<◌, ◌≤◌, div-add-mod', div-lt_iff_lt-mul, mul-le-mul, mul-le-mul_right, le-mul_of_pos_right, arith, length, lt-or-ge}
+use Rattle.strips.specs.PrivateBounds.{Waiting, Thin, Cut}
 use Rattle.grids.specs.Grids.{GridTurned}
-use Rattle.strips.specs.PrivateSteps.{BlocksTurned, PartTurned, Widened}
+use Rattle.strips.specs.PrivateSteps.{BlocksTurned, Widened}
+use Rattle.strips.proofs.Strips.{PartTurned}
 use Rattle.strips.proofs.Bounds.{tall_turned, wide_turned}
 
--- the first number of lines that is tried, and each later one
-pub cut_first : {g : ℕ} → 0 < g → g ≤ 31 → Thin g ((32 + g - 1) / g)
-cut_first {g} some light =
-    let whole = div-add-mod' (32 + g - 1) g in
-    let less = mod-lt (32 + g - 1) some in
-    record { least = omega arith; most = omega arith }
-
-pub cut_next : {g k : ℕ} → 0 < g → (32 + g - 1) / g ≤ k → k ≤ 64 / g → Thin g k
-cut_next {g} {k} some low high =
-    let whole = div-add-mod' (32 + g - 1) g in
-    let less = mod-lt (32 + g - 1) some in
-    let most = div-add-mod' 64 g in
-    record { least = omega (arith, mul-le-mul_right g low); most = omega (arith, mul-le-mul_right g high) }
-
--- and the last one is small
-pub cut_last : {g : ℕ} → 0 < g → 64 / g ≤ 64
-cut_last {g} some = omega (arith, div-add-mod' 64 g, le-mul_of_pos_right (64 / g) some)
-
-pub few_lines : {g r : ℕ} → 0 < g → Thin g r → r ≤ 64
-few_lines {g} {r} some c = omega (arith, c.most, le-mul_of_pos_right r some)
-
+-- a strip has a line
 pub some_lines : {g r : ℕ} → Thin g r → 0 < r
 some_lines {g} {r} c = ⊎_elim (λ (h : r < 1). let z : r ≡ 0 = omega arith in absurd (omega (arith, c.least, ap (λ (k : ℕ). k * g) z))) (λ (h : 1 ≤ r). h) (lt-or-ge r 1)
 
--- lines of 32 to 64 words may be cut off, and halves where elements are long
+-- lines of 32 to 64 words may be cut off
 module _ {x other g : ℕ} (big : 64 < x * g) (few : x * other * g ≤ 1048576) where
   pub cut_thin : {r : ℕ} → Thin g r → Cut x other g r
   cut_thin {r} c =
@@ -46,25 +26,6 @@ module _ {x other g : ℕ} (big : 64 < x * g) (few : x * other * g ≤ 1048576) 
       within : (r : ℕ) → x / r * r + x % r ≡ x → x / r * r ≤ x
       within r whole = omega arith
 
-  pub cut_half : 8 ≤ g → g ≤ 31 → other ≤ 4096 → Cut x other g (x / 2)
-  cut_half long light narrow =
-      let r = x / 2 in
-      let three : 3 ≤ x = ⊎_elim (λ (h : x < 3). absurd (omega (arith, mul-le-mul (two h) light))) (λ (h : 3 ≤ x). h) (lt-or-ge x 3) in
-      let some : 0 < r = omega arith in
-      let whole : x / r * r + x % r ≡ x = div-add-mod' x r in
-      let times : x / r ≤ 3 = ⊎_elim (λ (h : x / r < 4). omega arith) (λ (h : 4 ≤ x / r). absurd (omega (arith, mul-le-mul_right r h))) (lt-or-ge (x / r) 4) in
-      let half : r * 2 ≤ x = omega arith in
-      let eight : x * other * 8 ≤ x * other * g = mul-le-mul_left (x * other) long in
-      record {
-        some = some;
-        low = omega arith;
-        strip = inr (long, omega (arith, mul-le-mul_right other half));
-        marks = omega (arith, mul-le-mul narrow times);
-      }
-    where
-      two : x < 3 → x ≤ 2
-      two h = omega arith
-
 -- a side cut in y times r lines and q left over
 pub record Stripped (x other g r y q : ℕ) : Type 0 where
   pub whole : y * r + q ≡ x
@@ -73,9 +34,7 @@ pub record Stripped (x other g r y q : ℕ) : Type 0 where
   pub some_lines : 0 < r
   pub some_strips : 0 < y
   pub far : y ≤ 4096
-  pub run : y * r ≤ 4096
   pub marks : other * y ≤ 65536
-  pub chunk : r * g ≤ 126976
   pub strip : r * other * g ≤ x * other * g
 
 pub stripped : {x other g r : ℕ} → Cut x other g r → g ≤ 31 → x ≤ 4096 → Stripped x other g r (x / r) (x % r)
@@ -92,15 +51,9 @@ stripped {x} {other} {g} {r} c light far =
       some_lines = c.some;
       some_strips = one;
       far = omega (arith, le-mul_of_pos_right y c.some);
-      run = omega arith;
       marks = c.marks;
-      chunk = omega (arith, mul-le-mul few light);
       strip = omega (arith, mul-le-mul_right (other * g) c.low);
     }
-
--- an element has words, so that a side with more than 64 words is not empty
-some_side : {x : ℕ} (g : ℕ) → 64 < x * g → 0 < x
-some_side {x} g big = ⊎_elim (λ (h : x < 1). let z : x ≡ 0 = omega arith in absurd (omega (arith, ap (λ (k : ℕ). k * g) z))) (λ (h : 1 ≤ x). h) (lt-or-ge x 1)
 
 -- a line that is left over has at most 1,024 words: none is left, or it is the shorter one
 short_line : {x other g r y q : ℕ} → Stripped x other g r y q → 0 < g → x * other * g ≤ 1048576 → (q ≡ 0) ⊎ (other ≤ x) → y * r * g < x * g → other ≤ 1024
@@ -120,97 +73,10 @@ short_line {x} {other} {g} {r} {y} {q} p some few left less = ⊎_elim
     after_too : 1024 < other → other ≤ x → 1025 ≤ x
     after_too k h = omega arith
 
--- a large block cut by rows
-module _ {m n g r y q : ℕ} {xs tile : List ℕ} (t : Large m n g xs tile) (c : Cut m n g r) (p : Stripped m n g r y q) {ys : List ℕ} (same : length ys ≡ length xs) where
-  pub rows_rest : From (n * (y * r * g)) q n g ys
-  rows_rest = record {
-    rows = some_side g t.columns;
-    columns = t.words;
-    far_rows = t.far_columns;
-    far_columns = omega (arith, t.light);
-    inside = omega (arith, t.inside, p.sum);
-  }
-
-  module _ {room : List ℕ} (same-room : length room ≡ length tile) where
-    pub rows_strips : Narrow y r n g ys room
-    rows_strips = record {
-      rows = p.some_lines;
-      columns = some_side g t.columns;
-      words = t.words;
-      far_rows = omega (arith, c.low, t.far_rows);
-      far_columns = t.far_columns;
-      few = omega (arith, p.strip, t.few);
-      narrow = ⊎_elim (λ h. inl (inl h)) (λ k. inr k) c.strip;
-      inside = omega (arith, t.inside, p.sum);
-      room = same-room ∙ t.room;
-    }
-
-    pub rows_grid : Turnable y n (r * g) ys room
-    rows_grid = record {
-      some_rows = p.some_strips;
-      some_columns = some_side g t.columns;
-      far_rows = p.far;
-      far_columns = t.far_columns;
-      few = omega (arith, p.marks);
-      some_words = mul-pos p.some_lines t.words;
-      inside = omega (arith, t.inside, p.sum);
-      marked = omega (arith, p.marks, t.room);
-    }
-
-    pub rows_wait : (q ≡ 0) ⊎ (n ≤ m) → Waiting n (y * r * g) (m * g) ys room
-    rows_wait left = record {
-      some = some_side g t.columns;
-      order = omega (arith, p.words);
-      short = short_line p t.words t.few left;
-      inside = omega (arith, t.inside);
-      room = same-room ∙ t.room;
-    }
-
--- and by columns
-module _ {m n g r z q : ℕ} {xs tile : List ℕ} (t : Large m n g xs tile) (c : Cut n m g r) (p : Stripped n m g r z q) {ys : List ℕ} (same : length ys ≡ length xs) where
-  pub columns_rest : From (m * (z * r * g)) q g m ys
-  columns_rest = record {
-    rows = t.words;
-    columns = some_side g t.rows;
-    far_rows = omega (arith, t.light);
-    far_columns = t.far_rows;
-    inside = omega (arith, t.inside, p.sum);
-  }
-
-  module _ {room : List ℕ} (same-room : length room ≡ length tile) where
-    pub columns_strips : Narrow z m r g ys room
-    columns_strips = record {
-      rows = some_side g t.rows;
-      columns = p.some_lines;
-      words = t.words;
-      far_rows = t.far_rows;
-      far_columns = omega (arith, c.low, t.far_columns);
-      few = omega (arith, p.strip, t.few);
-      narrow = ⊎_elim (λ h. inl (inr h)) (λ k. inr (k.0, omega (arith, k.1))) c.strip;
-      inside = omega (arith, t.inside, p.sum);
-      room = same-room ∙ t.room;
-    }
-
-    pub columns_grid : Turnable m z (r * g) ys room
-    columns_grid = record {
-      some_rows = some_side g t.rows;
-      some_columns = p.some_strips;
-      far_rows = t.far_rows;
-      far_columns = p.far;
-      few = omega (arith, p.marks);
-      some_words = mul-pos p.some_lines t.words;
-      inside = omega (arith, t.inside, p.sum);
-      marked = omega (arith, p.marks, t.room);
-    }
-
-    pub columns_wait : (q ≡ 0) ⊎ (m ≤ n) → Waiting m (z * r * g) (n * g) ys room
-    columns_wait left = record {
-      some = some_side g t.rows;
-      order = omega (arith, p.words);
-      short = short_line p t.words (omega (arith, t.few)) left;
-      inside = omega (arith, t.inside);
-      room = same-room ∙ t.room;
-    }
+-- the lines of a large block that are left over have room
+pub waits : {x other g r y q : ℕ} {xs : List ℕ} → Stripped x other g r y q → 0 < other → 0 < g → x * other * g ≤ 1048576 → (q ≡ 0) ⊎ (other ≤ x) → other * (x * g) ≤ length xs
+    → Waiting other (y * r * g) (x * g) xs
+waits p some words few left inside = record { some = some; order = omega (arith, p.words); short = short_line p words few left; inside = inside }
 
 -- the steps of a large block are its turn, the lines left over being joined to those of the strips
 pub rows_joined : {m n g r y q : ℕ} {xs vs ws ys zs : List ℕ} → Stripped m n g r y q → BlocksTurned y r n g xs vs → GridTurned y n (r * g) vs ws

@@ -1,6 +1,5 @@
 -- Words apart from one another, filled one by one: those that are passed hold their values, every other one stands.
-use Rattle.lists.proofs.Kit.{◌≡◌, refl, sym, ap, ◌∙◌, List, ⊎_elim, ℕ, ◌+◌, ◌*◌, ◌<◌, ◌≤◌, mul-le-mul_right, add-mul, one-mul, arith, length, get_or, set, length-set, get_or-set_same, get_or-set_other, eq-or-ne}
-use Rattle.strips.specs.PrivateMoves.{Scattered}
+use Rattle.lists.proofs.Kit.{◌≡◌, sym, ap, ◌∙◌, List, ⊎_elim, ℕ, ◌+◌, ◌*◌, ◌<◌, ◌≤◌, mul-le-mul_right, add-mul, one-mul, arith, length, get_or, set, length-set, get_or-set_same, get_or-set_other, eq-or-ne}
 
 -- the words that are passed are filled
 pub record Spread (to apart hi : ℕ) (value : ℕ → ℕ) (xs ys : List ℕ) : Type 0 where
@@ -9,9 +8,6 @@ pub record Spread (to apart hi : ℕ) (value : ℕ → ℕ) (xs ys : List ℕ) :
   pub others : (k : ℕ) → ((u : ℕ) → u < hi → k ≡ to + u * apart → ⊥) → get_or ys k 0 ≡ get_or xs k 0
 
 module _ {to apart : ℕ} {value : ℕ → ℕ} {xs : List ℕ} where
-  pub nothing_spread : Spread to apart 0 value xs xs
-  nothing_spread = record { same = refl; holds = λ u h. absurd (omega arith); others = λ k h. refl }
-
   pub spread_more : {hi : ℕ} {ys : List ℕ} → Spread to apart hi value xs ys → 0 < apart → (v : ℕ) → v ≡ value hi → to + hi * apart < length xs
       → Spread to apart (hi + 1) value xs (set ys (to + hi * apart) v)
   spread_more {hi} {ys} f some v e h = record {
@@ -25,6 +21,3 @@ module _ {to apart : ℕ} {value : ℕ → ℕ} {xs : List ℕ} where
         (eq-or-ne u hi);
     others = λ k g. get_or-set_other ys (to + hi * apart) k v 0 (g hi (omega arith)) ∙ f.others k (λ u l. g u (omega arith));
   }
-
-  pub all_spread : {hi count : ℕ} {ys : List ℕ} → Spread to apart hi value xs ys → hi ≡ count → Scattered to apart count value xs ys
-  all_spread f last = record { same = f.same; holds = λ u h. f.holds u (omega arith); others = λ k g. f.others k (λ u h. g u (omega arith)) }

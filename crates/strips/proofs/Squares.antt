@@ -1,7 +1,7 @@
 -- A square turned across its diagonal: row by row, each element before the diagonal trades places with the one that mirrors it. After i rows the elements of the
 -- first i rows and columns stand turned, and the others stand where they stood. A square of words goes by recursion, which takes what it is lent.
-use Rattle.lists.proofs.Kit.{◌≡◌, refl, sym, ap, ◌∙◌, List, ◌⊎◌, inl, inr, ⊎_elim, ℕ, ◌+◌, ◌*◌, ◌-◌, ◌/◌, ◌%◌, ◌<◌, ◌≤◌, mul-le-mul, le-ltb, arith, digits_div, digits_mod, digits_lt, length, get_or, eq-or-ne, lt-or-ge}
-use borrow.Rule.Slice.PartMut.{mid_of, put_mid, mid_len}
+use Rattle.lists.proofs.Kit.{◌≡◌, sym, ap, ◌∙◌, subst, List, ◌++◌, take, drop, length-take-le, ◌⊎◌, inl, inr, ⊎_elim, ℕ, ◌+◌, ◌*◌, ◌-◌, ◌/◌, ◌%◌, ◌<◌, ◌≤◌, le-ltb, arith, digits_div, digits_mod, digits_lt, length, get_or, eq-or-ne, lt-or-ge}
+use borrow.Rule.Slice.PartMut.{mid_of, put_mid}
 use Rattle.layout.specs.Layout.{volume}
 use Rattle.refusals.specs.FirstOf.{first_of}
 use Rattle.refusals.specs.Calls.{recursion_checks}
@@ -11,7 +11,6 @@ use Rattle.flat.proofs.Turn.{volume_two}
 use Rattle.strips.proofs.Blocks.{laid-turned, part_turned}
 use Rattle.moves.specs.Stretch.{Outside, Traded}
 use Rattle.grids.specs.Grids.{GridTurned}
-use Rattle.strips.specs.PrivateBounds.{Square}
 use Rattle.strips.specs.PrivateMoves.{RowCrossed}
 use Rattle.lists.proofs.Words.{same_word, next_run}
 use Rattle.strips.proofs.Strips.{from_words, turn_flat}
@@ -55,15 +54,6 @@ pair {n} {g} {i} {j} size inside hi hj =
     }
 
 module _ {n g i : ℕ} {xs : List ℕ} where
-  pub crossed_none : RowCrossed n g i 0 xs xs
-  crossed_none = record {
-    same = refl;
-    row = λ j u h. absurd (omega arith);
-    column = λ j u h. absurd (omega arith);
-    others = λ a b u ha hb hu p q. refl;
-    tail = λ k h. refl;
-  }
-
   -- one element more
   pub crossed_more : {e : ℕ} {ys zs : List ℕ} → i < n → e < i → RowCrossed n g i e xs ys → Traded ((i * n + e) * g) ((e * n + i) * g) g ys zs → RowCrossed n g i (e + 1) xs zs
   crossed_more {e} {ys} {zs} hi he c t = record {
@@ -114,14 +104,6 @@ pub record SquareTo (n g i : ℕ) (xs ys : List ℕ) : Type 0 where
   pub tail : (k : ℕ) → n * n * g ≤ k → get_or ys k 0 ≡ get_or xs k 0
 
 module _ {n g : ℕ} {xs : List ℕ} where
-  pub square_first : SquareTo n g 1 xs xs
-  square_first = record {
-    same = refl;
-    gone = λ a b u ha hb hu. let p : a ≡ 0 = omega arith in let q : b ≡ 0 = omega arith in rw (p, q) refl;
-    stand = λ a b u ha hb hu o. refl;
-    tail = λ k h. refl;
-  }
-
   -- one row more
   pub square_more : {i : ℕ} {ys zs : List ℕ} → i < n → SquareTo n g i xs ys → RowCrossed n g i i ys zs → SquareTo n g (i + 1) xs zs
   square_more {i} {ys} {zs} hi s c = record {
@@ -147,36 +129,32 @@ module _ {n g : ℕ} {xs : List ℕ} where
     tail = λ k h. c.tail k h ∙ s.tail k h;
   }
 
-  -- the square still lies in the words
-  pub here : {i : ℕ} {ys : List ℕ} → Square n g xs → SquareTo n g i xs ys → Square n g ys
-  here q s = record { some = q.some; words = q.words; few = q.few; inside = omega (arith, q.inside, s.same) }
-
   pub square_all : {ys : List ℕ} → SquareTo n g n xs ys → GridTurned n n g xs ys
   square_all s = from_words n n g s.same (λ i j u hi hj hu. s.gone i j u hi hj hu) s.tail
 
 -- a square of words, lent as the part of the buffer that it fills, is accepted by the recursion, and comes back turned
-module _ {n : ℕ} {xs : List ℕ} (q : Square n 1 xs) where
-  side : n ≤ 4096
-  side = ⊎_elim (λ (h : 4096 < n). absurd (omega (arith, q.few, mul-le-mul (above h) (above h)))) (λ (h : n ≤ 4096). h) (lt-or-ge 4096 n)
-    where
-      above : 4096 < n → 4097 ≤ n
-      above h = h
+module _ {n : ℕ} (xs : List ℕ) (some : 0 < n) (side : n ≤ 4096) (few : n * n ≤ 1048576) (inside : n * n ≤ length xs) where
+  exact : length (take (n * n) xs) ≡ volume (sides n n)
+  exact = length-take-le (n * n) xs (omega (arith, inside)) ∙ omega (arith, volume_two n n)
 
-  exact : length (mid_of 0 (n * n - 0) xs) ≡ volume (sides n n)
-  exact = omega (arith, mid_len 0 (n * n) xs (omega (arith, q.inside)), volume_two n n)
-
-  pub lent_accepted : first_of (recursion_checks (sides n n) (mid_of 0 (n * n - 0) xs)) ≡ 0
+  pub lent_accepted : first_of (recursion_checks (sides n n) (take (n * n) xs)) ≡ 0
   lent_accepted =
       rw (
-        range_in n (λ e. omega (arith, q.some)) side,
-        le-ltb 1048576 (volume (sides n n)) (omega (arith, q.few, volume_two n n)),
-        not_short (sides n n) (mid_of 0 (n * n - 0) xs) exact,
-        not_long (sides n n) (mid_of 0 (n * n - 0) xs) exact,
+        range_in n (λ e. omega (arith, some)) side,
+        le-ltb 1048576 (volume (sides n n)) (omega (arith, few, volume_two n n)),
+        not_short (sides n n) (take (n * n) xs) exact,
+        not_long (sides n n) (take (n * n) xs) exact,
       )
 
-  pub lent_turned : {ys : List ℕ} → Turn n n (mid_of 0 (n * n - 0) xs) ys → GridTurned n n 1 xs (put_mid 0 (n * n - 0) xs ys)
-  lent_turned {ys} t =
-      let b = part_turned {m = n} {n = n} {chunk = 1} {base = 0} {end = n * n} {xs = xs} {ys = ys} (omega arith) (omega (arith, q.inside)) (laid-turned (turn_flat t)) in
+  -- the same where the part is said to begin at 0
+  part_back : {ys : List ℕ} → Turn n n (mid_of 0 (n * n - 0) xs) ys → GridTurned n n 1 xs (put_mid 0 (n * n - 0) xs ys)
+  part_back {ys} t =
+      let b = part_turned {m = n} {n = n} {chunk = 1} {base = 0} {end = n * n} {xs = xs} {ys = ys} (omega arith) (omega (arith, inside)) (laid-turned (turn_flat t)) in
       from_words n n 1 b.same
       (λ i j u hi hj hu. same_word (put_mid 0 (n * n - 0) xs ys) (omega arith) ∙ b.placed i j u hi hj hu ∙ same_word xs (omega arith))
       (λ k h. b.others k (inr (omega arith)))
+
+  pub lent_turned : {ys : List ℕ} → Turn n n (take (n * n) xs) ys → GridTurned n n 1 xs (ys ++ drop (n * n) xs)
+  lent_turned {ys} t =
+      let e : n * n - 0 ≡ n * n = omega arith in
+      subst (λ (k : ℕ). GridTurned n n 1 xs (ys ++ drop k xs)) e (part_back (subst (λ (k : ℕ). Turn n n (take k xs) ys) (sym e) t))

@@ -1,14 +1,13 @@
 -- A small block is lifted into the tile, its rows apart, and written back row by row or column by column: column j of the tile is the stretch of m words
 -- from j·m on. Blocks so turned one after the other, each a part of the buffer, are the layout whose two axes in the middle are exchanged.
-use Rattle.lists.proofs.Kit.{◌≡◌, refl, sym, ap, ap₂, ◌∙◌, ⊎_elim, List, ℕ, ◌+◌, ◌*◌, ◌-◌, ◌/◌, ◌%◌, ◌<◌, ◌≤◌, zero-mul, mul_comm, add-mul, one-mul, le-mul_of_pos_right, arith, digits_div, digits_mod, digits_lt, length, get_or, eq-or-ne}
-use borrow.Rule.Slice.PartMut.{mid_of, put_mid, mid_len}
-use Rattle.strips.proofs.Blocks.{laid-turned, part_turned, TurnedTo, turned_more, all-turned}
+use Rattle.lists.proofs.Kit.{◌≡◌, refl, sym, ap, ap₂, subst, ◌∙◌, ◌⊎◌, ⊎_elim, List, ℕ, ◌+◌, ◌*◌, ◌-◌, ◌/◌, ◌%◌, ◌<◌, ◌≤◌, mul_comm, add-mul, one-mul, arith, digits_div, digits_mod, digits_lt, length, get_or, eq-or-ne}
+use borrow.Rule.Slice.PartMut.{mid_of, put_mid}
+use Rattle.strips.proofs.Blocks.{TurnedAt, laid-turned, part_turned, TurnedTo, turned_more, all-turned}
 use Rattle.moves.specs.Stretch.{Stretch}
 use Rattle.strips.specs.PrivateMoves.{Scattered, RowsOut, Lifted}
-use Rattle.strips.specs.PrivateBounds.{Held, From}
 use Rattle.grids.specs.Grids.{GridTurned}
 use Rattle.strips.specs.PrivateSteps.{BlocksTurned}
-use Rattle.moves.proofs.Filling.{Filled, nothing_filled, piece_up}
+use Rattle.moves.proofs.Filling.{Filled, piece_up}
 use Rattle.lists.proofs.Words.{same_word, next_run}
 use Rattle.strips.proofs.Strips.{from_words}
 
@@ -20,26 +19,13 @@ turned_word at m n tile k = get_or tile (at + (k % m * n + k / m)) 0
 column-word : (at m n j p : ℕ) (tile : List ℕ) → p < m → get_or tile (at + j + p * n) 0 ≡ turned_word at m n tile (j * m + p)
 column-word at m n j p tile h = same_word tile (omega (arith, ap₂ (λ (a b : ℕ). at + (a * n + b)) (digits_mod j h) (digits_div j h)))
 
-pub columns_none : (at m : ℕ) {value : ℕ → ℕ} {xs : List ℕ} → Filled at 0 (0 * m) value xs xs
-columns_none at m = rw zero-mul (nothing_filled 0)
-
 -- one column more is written
 pub column_more : (at m n j : ℕ) (tile : List ℕ) {xs ys zs : List ℕ} → Filled at 0 (j * m) (turned_word at m n tile) xs ys
     → Stretch (at + j * m) m (λ u. get_or tile (at + j + u * n) 0) ys zs → Filled at 0 ((j + 1) * m) (turned_word at m n tile) xs zs
 column_more at m n j tile f s =
     piece_up (j * m) f s (λ p h. column-word at m n j p tile h) (omega arith) (omega arith) (omega (arith, add-mul j 1 m, one-mul m)) (omega (arith, add-mul j 1 m, one-mul m))
 
--- column j of the tile ends within m by n words, and of one that begins at an offset
-pub column_inside : {m n j size : ℕ} → m * n ≤ size → j < n → (u : ℕ) → u < m → j + u * n < size
-column_inside {m} {n} {j} {size} room h u k = omega (arith, digits_lt {q = u} {r = j} k h)
-
-pub column_from : (at : ℕ) {m n j size : ℕ} → at + m * n ≤ size → j < n → (u : ℕ) → u < m → at + j + u * n < size
-column_from at {m} {n} {j} {size} room h u k = omega (arith, digits_lt {q = u} {r = j} k h)
-
--- rows lifted, one by one, and all at once where an element is a word
-pub lifted_none : {n g : ℕ} {xs tile : List ℕ} → Lifted 0 n g xs tile tile
-lifted_none = record { same = refl; placed = λ i j u h. absurd (omega arith) }
-
+-- one row more is lifted, and all at once where an element is a word
 pub lifted_more : {e n g : ℕ} {xs before tile next : List ℕ} → Lifted e n g xs before tile → Stretch (e * (n * g)) (g * n) (turned_word (e * (n * g)) n g xs) tile next
     → Lifted (e + 1) n g xs before next
 lifted_more {e} {n} {g} {xs} {before} {tile} {next} l s = record {
@@ -109,55 +95,25 @@ module _ {m n : ℕ} {tile xs : List ℕ} where
 pub block_inside : {y t size : ℕ} (words : ℕ) → y * words ≤ size → t < y → t * words + words ≤ size
 block_inside {y} {t} words room h = omega (arith, next_run words {j = t} {k = y} h)
 
--- how far the products of a small block go
-pub record Sizes (m n g size : ℕ) : Type 0 where
-  pub row : n * g ≤ size
-  pub lines : m * g ≤ size
-  pub places : m * n ≤ size
-
-pub sizes : {y m n g : ℕ} {xs tile : List ℕ} → Held y m n g xs tile → Sizes m n g (length tile)
-sizes {m = m} {n} {g} h =
-    let a = le-mul_of_pos_right (n * g) h.rows in
-    let b = le-mul_of_pos_right (m * g) h.columns in
-    let c = le-mul_of_pos_right (m * n) h.words in
-    record { row = omega (arith, h.room, a); lines = omega (arith, h.room, b); places = omega (arith, h.room, c) }
-
--- one of many blocks
-pub one_held : (base end : ℕ) (ys : List ℕ) {y m n g : ℕ} {xs tile kept : List ℕ} → Held y m n g xs tile → length kept ≡ length tile → end ≡ base + m * n * g → end ≤ length ys
-    → Held 1 m n g (mid_of base (end - base) ys) kept
-one_held base end ys h same is inside = record {
-  rows = h.rows;
-  columns = h.columns;
-  words = h.words;
-  inside = omega (arith, mid_len base end ys inside);
-  room = omega (arith, h.room);
-}
-
--- blocks of words from an offset on
-pub from_held : {base end y m n : ℕ} {xs tile : List ℕ} → From base y m n xs → m * n ≤ length tile → end ≡ base + y * (m * n) → Held y m n 1 (mid_of base (end - base) xs) tile
-from_held {base} {end} {xs = xs} f room is = record {
-  rows = f.rows;
-  columns = f.columns;
-  words = omega arith;
-  inside = omega (arith, mid_len base end xs (omega (arith, f.inside)));
-  room = omega arith;
-}
-
 -- one block more is turned
-pub block_more : {m n g t : ℕ} {xs ys zs : List ℕ} → TurnedTo m n g t xs ys → t * (m * n * g) + m * n * g ≤ length ys
-    → GridTurned m n g (mid_of (t * (m * n * g)) (t * (m * n * g) + m * n * g - t * (m * n * g)) ys) zs
-    → TurnedTo m n g (t + 1) xs (put_mid (t * (m * n * g)) (t * (m * n * g) + m * n * g - t * (m * n * g)) ys zs)
-block_more a room s = turned_more a (part_turned refl room (laid-turned s))
+pub block_more : {m n g t words : ℕ} {xs ys zs : List ℕ} → words ≡ m * n * g → TurnedTo m n g t xs ys → t * words + words ≤ length ys
+    → GridTurned m n g (mid_of (t * words) (t * words + words - t * words) ys) zs → TurnedTo m n g (t + 1) xs (put_mid (t * words) (t * words + words - t * words) ys zs)
+block_more {m} {n} {g} {t} {words} {xs} {ys} {zs} e a room s =
+    turned_more a
+    (subst (λ (k : ℕ). TurnedAt m n g (t * k) ys (put_mid (t * words) (t * words + words - t * words) ys zs)) e (part_turned (omega (arith, e)) room (laid-turned s)))
 
 -- blocks of one line, turned, are as they were
-pub rows_stand : {y m n g : ℕ} {xs : List ℕ} → m ≡ 1 → BlocksTurned y m n g xs xs
+rows_stand : {y m n g : ℕ} {xs : List ℕ} → m ≡ 1 → BlocksTurned y m n g xs xs
 rows_stand {y} {m} {n} {g} {xs} one = all-turned (record { same = refl; placed = λ k i j u hk hi hj hu. stands k i j u (omega arith); stands = λ p h. refl })
   where
     stands : (k i j u : ℕ) → i ≡ 0 → get_or xs (k * (m * n * g) + ((j * m + i) * g + u)) 0 ≡ get_or xs (k * (m * n * g) + ((i * n + j) * g + u)) 0
     stands k i j u z = rw (z, one) (same_word xs (omega arith))
 
-pub columns_stand : {y m n g : ℕ} {xs : List ℕ} → n ≡ 1 → BlocksTurned y m n g xs xs
+columns_stand : {y m n g : ℕ} {xs : List ℕ} → n ≡ 1 → BlocksTurned y m n g xs xs
 columns_stand {y} {m} {n} {g} {xs} one = all-turned (record { same = refl; placed = λ k i j u hk hi hj hu. stands k i j u (omega arith); stands = λ p h. refl })
   where
     stands : (k i j u : ℕ) → j ≡ 0 → get_or xs (k * (m * n * g) + ((j * m + i) * g + u)) 0 ≡ get_or xs (k * (m * n * g) + ((i * n + j) * g + u)) 0
     stands k i j u z = rw (z, one) (same_word xs (omega arith))
+
+pub line_stands : {y m n g : ℕ} {xs : List ℕ} → (m ≡ 1) ⊎ (n ≡ 1) → BlocksTurned y m n g xs xs
+line_stands one = ⊎_elim rows_stand columns_stand one

@@ -3,18 +3,24 @@ use Rattle.lists.proofs.Kit.{◌≡◌, sym, ◌∙◌, List, ◌⊎◌, inl, in
 use Rattle.refusals.specs.FirstOf.{first_of}
 use Rattle.refusals.proofs.Promise.{accepted}
 use Rattle.lists.proofs.Words.{same_word}
-use Rattle.tiles.specs.Promises.{tile_checks, ToTilesPromise, FromTilesPromise}
-use Rattle.tiles.specs.Private.{Converts, Converted}
-use Rattle.tiles.specs.declared.bands.Tiling.{Tiling}
+use Rattle.tiles.specs.Promises.{tile_checks}
+use Rattle.tiles.specs.Private.{Converts, Retiled, Converted}
+use Rattle.tiles.specs.PrivateWay.{tiling_of, WayTiled, WayPromise}
+use Rattle.tiles.specs.declared.Way.{Way}
+use Rattle.tiles.specs.declared.Way.TheVariants.{Into, OutOf}
 use Rattle.tiles.proofs.Accepted.{Accepted, tiles_accepted}
 use Rattle.tiles.proofs.Places.{wide_place}
 
--- the block into tiles, and out of them
-abbrev pub into_tiles : ℕ → ℕ → ℕ → ℕ → Tiling
-into_tiles m n r s = record { rows = m; columns = n; height = r; from = n; to = s }
-
-abbrev pub out_of_tiles : ℕ → ℕ → ℕ → ℕ → Tiling
-out_of_tiles m n r s = record { rows = m; columns = n; height = r; from = s; to = n }
+-- the words of the block's rows stand where those of its tiles do, one way or the other
+retiled : (m n r s : ℕ) (way : Way) {xs ys : List ℕ} → Retiled (tiling_of way m n r s) xs ys → WayTiled way m n r s xs ys
+retiled m n r s Into {xs} c = record {
+  same = c.same;
+  placed = λ i j row low. c.placed i j row low ∙ same_word xs (wide_place m n r n i j (omega arith) low);
+}
+retiled m n r s OutOf {ys = ys} c = record {
+  same = sym c.same;
+  placed = λ i j row low. sym (c.placed i j row low) ∙ same_word ys (wide_place m n r n i j (omega arith) low);
+}
 
 module _ (m n r s : ℕ) {b₀ s₀ : List ℕ} (good : first_of (tile_checks m n r s b₀ s₀) ≡ 0) where
   ok : Accepted m n r s b₀ s₀
@@ -34,21 +40,10 @@ module _ (m n r s : ℕ) {b₀ s₀ : List ℕ} (good : first_of (tile_checks m 
     room = ok.room;
   }
 
-  pub converts_into : Converts (into_tiles m n r s) b₀ s₀
-  converts_into = converts n s ok.some ok.step ok.wide (inl (omega arith))
+  pub converts_by : (way : Way) → Converts (tiling_of way m n r s) b₀ s₀
+  converts_by Into = converts n s ok.some ok.step ok.wide (inl (omega arith))
+  converts_by OutOf = converts s n ok.step ok.some (omega (arith, ok.narrow)) (inr (omega arith))
 
-  pub converts_out : Converts (out_of_tiles m n r s) b₀ s₀
-  converts_out = converts s n ok.step ok.some (omega (arith, ok.narrow)) (inr (omega arith))
-
-  module _ {b after : List ℕ} where
-    pub to_outcome : Converted (into_tiles m n r s) b₀ b s₀ after → ToTilesPromise m n r s b₀ s₀ 0 b after
-    to_outcome c =
-        accepted good
-        (record { same = c.0.same; placed = λ i j row low. c.0.placed i j row low ∙ same_word b₀ (wide_place m n r n i j (omega arith) low) })
-        c.1
-
-    pub from_outcome : Converted (out_of_tiles m n r s) b₀ b s₀ after → FromTilesPromise m n r s b₀ s₀ 0 b after
-    from_outcome c =
-        accepted good
-        (record { same = sym c.0.same; placed = λ i j row low. sym (c.0.placed i j row low) ∙ same_word b (wide_place m n r n i j (omega arith) low) })
-        c.1
+  pub outcome : (way : Way) {b after : List ℕ} → Converted (tiling_of way m n r s) b₀ b s₀ after → WayPromise way m n r s b₀ s₀ 0 b after
+  outcome Into c = accepted good (retiled m n r s Into c.0) c.1
+  outcome OutOf c = accepted good (retiled m n r s OutOf c.0) c.1

@@ -1,11 +1,5 @@
--- a line by value, as a walk by hand has it
-pub mod LineByValue
--- a slice that is lent again for a call, and comes back
-pub mod Again
--- what a proof has at exit of a thin writer that was passed by value
-pub mod AtExit
--- digits from the last one on
-pub mod Spelling
+-- the digits of a number, counted and printed
+pub mod Digits
 -- texts put one behind the other
 pub mod Puts
 -- the lines of a result sheet, put and measured

@@ -1,13 +1,21 @@
 -- The lines of a result sheet one behind the other, and their lengths added. By induction on the rows and on the numbers.
-use Rattle.lists.proofs.Kit.{◌≡◌, refl, sym, ap, ◌∙◌, Bool, true, false, cond, List, [], ◌∷◌, ◌++◌, append_assoc, ℕ, zero, suc, ◌+◌, ◌-◌, ◌*◌, ◌<◌, ◌≤◌, arith, eqb, length, take, drop, get_or, length-append, drop-drop, take-add, take_all}
+use Rattle.lists.proofs.Kit.{◌≡◌, refl, sym, ap, ◌∙◌, List, [], ◌∷◌, ◌++◌, append_assoc, ℕ, zero, suc, ◌+◌, ◌*◌, ◌/◌, ◌<◌, ◌≤◌, arith, add-one, mul-div_cancel, length, take, drop, get_or, ne_eqb, length-take-le, length-append, take_at, drop_at, div-eq_of_lt, take-add, take_all}
+use native.Mathlib.Nat.{add-div_left}
+use Rattle.refusals.proofs.Conditions.{length_at}
 use Rattle.layout.specs.Layout.{volume}
 use Rattle.sheets.specs.Print.{line_feed, decimal, field, fields, line}
 use Rattle.sheets.specs.Sheet.{shape_word, order_word, row_word, row_count, row_width, rows_text, order_numbers, result_by}
 use Rattle.sheets.proofs.Rows.{rows_volume}
 use Rattle.sheets.proofs.Length.{length-line}
 use Rattle.writer.specs.PrivateBytes.{Room, Put}
-use Rattle.writer.specs.PrivateWriter.{text_of, shape_line_of, order_line_of, page_of_lines, Ready}
-use Rattle.writer.specs.declared.page.Line.{Line}
+use Rattle.std.specs.Prelude.{Option, Some, None}
+use Rattle.std.specs.Option.{unwrap_or}
+use Rattle.checks.specs.Words.{capped}
+use Rattle.checks.proofs.SheetBlock.{counts}
+use Rattle.sheets.specs.Private.{OnSheet}
+use Rattle.sheets.proofs.Rows.{result_first}
+use Rattle.writer.specs.PrivateWriter.{page_of, Measured, named, second_of, Second}
+use Rattle.writer.specs.declared.page.Page.{Page}
 use Rattle.writer.proofs.Puts.{Leads, leads_room, leads_step, leads_end, leads_same, first_room, second_room, third_room, three_put, fields-next, no_fields}
 
 -- a line is its word, its fields and its LF
@@ -30,36 +38,34 @@ module _ {out : List ℕ} {at : ℕ} (word vs : List ℕ) (r : Room out at (line
       → Put out₂ b (line_feed ∷ []) next out₃ → Put out at (line word vs) next out₃
   line-put p q e = three_put word (fields vs) (line_feed ∷ []) (line-parts word vs) r p q e
 
--- one row, then the others
-rows_next : (count n i from : ℕ) (words : List ℕ) → i < count
-    → rows_text (count - i) n (drop from words) ≡ line row_word (take n (drop from words)) ++ rows_text (count - (i + 1)) n (drop (from + n) words)
+-- one row of a width, then the others
+rows_next : (n : ℕ) (row rest : List ℕ) → 0 < n → length row ≡ n
+    → rows_text (length (row ++ rest) / n) n (row ++ rest) ≡ line row_word row ++ rows_text (length rest / n) n rest
 unfolding rows_text
-rows_next count n i from words h =
-    let a : count - i ≡ suc (count - (i + 1)) = omega arith in
-    rw a (ap (λ (l : List ℕ). line row_word (take n (drop from words)) ++ rows_text (count - (i + 1)) n l) (drop-drop n from words))
+rows_next n row rest h e =
+    let a : length (row ++ rest) / n ≡ suc (length rest / n) =
+    ap (λ (k : ℕ). k / n) (length-append row rest ∙ ap (λ (k : ℕ). k + length rest) e) ∙ add-div_left (length rest) h ∙ add-one (length rest / n) in
+    rw (a, take_at row rest n e, drop_at row rest n e)
 
-no_rows : (count n i : ℕ) (words : List ℕ) → count ≤ i → rows_text (count - i) n words ≡ []
+no_rows : (n : ℕ) (words : List ℕ) → length words < n → rows_text (length words / n) n words ≡ []
 unfolding rows_text
-no_rows count n i words h = let a : count - i ≡ 0 = omega arith in rw a
+no_rows n words h = rw (div-eq_of_lt h)
 
--- rows put one by one: those from row i on, whose words begin at `from`, lead to the whole text
-module _ (count n i from : ℕ) (words : List ℕ) {out₀ : List ℕ} {at : ℕ} {text out : List ℕ} {p : ℕ}
-    (h : Leads out₀ at text out p (rows_text (count - i) n (drop from words))) where
-  abbrev row : List ℕ
-  row = line row_word (take n (drop from words))
+-- rows put one by one: those that are left lead to the whole text
+module _ (n : ℕ) {out₀ : List ℕ} {at : ℕ} {text out : List ℕ} {p : ℕ} where
+  module _ (row rest : List ℕ) (pos : 0 < n) (long : length row ≡ n) {left : List ℕ} (so : left ≡ row ++ rest)
+      (h : Leads out₀ at text out p (rows_text (length left / n) n left)) where
+    split : Leads out₀ at text out p (line row_word row ++ rows_text (length rest / n) n rest)
+    split = leads_same (rows_next n row rest pos long) (rw so at h)
 
-  abbrev rest : List ℕ
-  rest = rows_text (count - (i + 1)) n (drop (from + n) words)
+    pub next_row_room : Room out p (line row_word row)
+    next_row_room = leads_room (line row_word row) (rows_text (length rest / n) n rest) split
 
-  pub next_row_room : i < count → Room out p (line row_word (take n (drop from words)))
-  next_row_room k = leads_room row rest (leads_same (rows_next count n i from words k) h)
+    pub next-row-put : {next : ℕ} {out' : List ℕ} → Put out p (line row_word row) next out' → Leads out₀ at text out' next (rows_text (length rest / n) n rest)
+    next-row-put = leads_step (line row_word row) (rows_text (length rest / n) n rest) split
 
-  pub next-row-put : i < count → {next : ℕ} {out' : List ℕ} → Put out p (line row_word (take n (drop from words))) next out'
-      → Leads out₀ at text out' next (rows_text (count - (i + 1)) n (drop (from + n) words))
-  next-row-put k = leads_step row rest (leads_same (rows_next count n i from words k) h)
-
-  pub all_rows_put : count ≤ i → Put out₀ at text p out
-  all_rows_put k = leads_end (leads_same (no_rows count n i (drop from words) k) h)
+  pub all_rows_put : (left : List ℕ) → length left < n → Leads out₀ at text out p (rows_text (length left / n) n left) → Put out₀ at text p out
+  all_rows_put left k h = leads_end (leads_same (no_rows n left k) h)
 
 fields-append : (us vs : List ℕ) → fields (us ++ vs) ≡ fields us ++ fields vs
 unfolding fields
@@ -87,49 +93,6 @@ length_rows (suc count) n words =
     )
     (omega arith)
 
--- line 2 by value: its text, and that it has two numbers at most
-pub order_text : (release order : ℕ) → text_of (order_line_of release order) ≡ line order_word (order_numbers release order)
-order_text release order = by (eqb release 0)
-  where
-    by : (t : Bool) → text_of (cond t (record { word = order_word; numbers = order ∷ 0 ∷ 0 ∷ 0 ∷ []; count = 1 })
-        (record { word = order_word; numbers = release ∷ order ∷ 0 ∷ 0 ∷ []; count = 2 }))
-        ≡ line order_word (cond t (order ∷ []) (release ∷ order ∷ []))
-    by true = refl
-    by false = refl
-
-pub order_count_lem : (release order : ℕ) → (order_line_of release order).count ≤ 4
-order_count_lem release order = by (eqb release 0)
-  where
-    by : (t : Bool) → (cond {A = Line} t (record { word = order_word; numbers = order ∷ 0 ∷ 0 ∷ 0 ∷ []; count = 1 })
-        (record { word = order_word; numbers = release ∷ order ∷ 0 ∷ 0 ∷ []; count = 2 })).count ≤ 4
-    by true = omega arith
-    by false = omega arith
-
--- a result sheet is its two lines, by value, and the rows: what the thin writer needs for it, and what it puts
-module _ (ds : List ℕ) (release order : ℕ) (words : List ℕ) {shape line : Line} {rows : ℕ} (four : length ds ≡ 4) (s : shape ≡ shape_line_of ds)
-    (l : line ≡ order_line_of release order) (r : rows ≡ row_count ds) where
-  page : page_of_lines shape line words rows (get_or ds 3 0) ≡ result_by ds release order words
-  unfolding result_by row_width
-  page = rw (s, l, order_text release order, take_all 4 ds (omega arith), r, four)
-
-  pub page_ready : {out : List ℕ} → rows * get_or ds 3 0 ≤ length words → length (result_by ds release order words) ≤ length out
-      → Ready out shape line words rows (get_or ds 3 0)
-  page_ready h k = record { first = rw s (omega arith); second = rw l (order_count_lem release order); enough = h; room = record { fits = rw page (omega arith) } }
-
-  pub page_put : {out : List ℕ} {next : ℕ} {out' : List ℕ} → Put out 0 (page_of_lines shape line words rows (get_or ds 3 0)) next out'
-      → Put out 0 (result_by ds release order words) next out'
-  page_put q = rw page at q
-
--- the length of a result sheet from its parts
-pub length_result : (ds : List ℕ) (release order : ℕ) (words : List ℕ)
-    → length (result_by ds release order words)
-    ≡ length (line shape_word ds ++ line order_word (order_numbers release order)) + length (rows_text (row_count ds) (row_width ds) words)
-unfolding result_by
-length_result ds release order words =
-    let second = line order_word (order_numbers release order) in
-    ap length (sym (append_assoc (line shape_word ds) second (rows_text (row_count ds) (row_width ds) words)))
-    ∙ length-append (line shape_word ds ++ second) (rows_text (row_count ds) (row_width ds) words)
-
 -- the field of the next number measured, then the others
 pub measure_next : (vs : List ℕ) (i : ℕ) → i < length vs
     → length (fields (drop i vs)) ≡ 1 + length (decimal (get_or vs i 0)) + length (fields (drop (i + 1) vs))
@@ -141,17 +104,69 @@ measure_next vs i h =
 pub measure_all : (vs : List ℕ) (i : ℕ) → length vs ≤ i → length (fields (drop i vs)) ≡ 0
 measure_all vs i h = ap length (no_fields vs i h)
 
--- the length of a result sheet, measured: its two lines, and four bytes a row beside the fields
-pub length_measured : (ds : List ℕ) (release order : ℕ) (words : List ℕ) → length ds ≡ 4
-    → length (result_by ds release order words)
-    ≡ length (text_of (shape_line_of ds)) + length (text_of (order_line_of release order)) + 4 * row_count ds + length (fields (take (volume ds) words))
-length_measured ds release order words four =
-    length_result ds release order words
-    ∙ rw (
-      order_text release order,
-      length-append (line shape_word ds) (line order_word (order_numbers release order)),
-      length_rows (row_count ds) (row_width ds) words,
-      rows_volume ds (omega arith),
-      take_all 4 ds (omega arith),
+-- the length of a page, measured: of each line a word and an LF beside the fields, and four bytes a row
+pub page_measured : (p : Page) → Measured p
+    → length (page_of p) ≡ 12 + length (fields p.shape.now) + length (fields p.order.now) + 4 * p.rows + length (fields p.words.now)
+page_measured p m =
+    rw (
+      length-append (line shape_word p.shape.now) (line order_word p.order.now ++ rows_text p.rows p.width p.words.now),
+      length-append (line order_word p.order.now) (rows_text p.rows p.width p.words.now),
+      length-line shape_word p.shape.now,
+      length-line order_word p.order.now,
+      length_rows p.rows p.width p.words.now,
+      take_all (p.rows * p.width) p.words.now (omega (arith, m.all)),
     )
     (omega arith)
+
+-- a page of these numbers, wherever they stand
+abbrev pub page_like : (shape order words : List ℕ) (rows width : ℕ) → Page
+page_like shape order words rows width =
+    record {
+      shape = record { ref_ptr = (0, 0); now = shape };
+      order = record { ref_ptr = (0, 0); now = order };
+      words = record { ref_ptr = (0, 0); now = words };
+      rows = rows;
+      width = width;
+    }
+
+-- the page of a block that was checked is small, and its text is the result sheet
+pub record Built (text : List ℕ) (p : Page) : Type 0 where
+  pub measured : Measured p
+  pub whole : page_of p ≡ text
+
+second_numbers : (release : Option ℕ) (order : ℕ) → Second release order
+    → (second_of (unwrap_or release 0 ∷ order ∷ []) release ≡ order_numbers (named release) order)
+    × (length (second_of (unwrap_or release 0 ∷ order ∷ []) release) ≤ 4)
+second_numbers None order s = (refl, omega arith)
+second_numbers (Some release) order s = (rw (ne_eqb release 0 (λ z. s.not_zero (ap Some z))), omega arith)
+
+pub built : (ds words : List ℕ) (release : Option ℕ) (order : ℕ) {size rows : ℕ} (p : Page) → length ds ≡ 4 → OnSheet ds words → Second release order
+    → size ≡ capped (volume ds) → rows ≡ capped (volume (take 3 ds)) → p.shape.now ≡ ds → p.order.now ≡ second_of (unwrap_or release 0 ∷ order ∷ []) release
+    → p.words.now ≡ take size words → p.rows ≡ rows → p.width ≡ get_or ds 3 0 → Built (result_by ds (named release) order words) p
+unfolding result_by
+built ds words release order {size} {rows} p four h s e f shape second part count wide =
+    let k = counts ds words four h in
+    let n = second_numbers release order s in
+    let v : row_count ds * row_width ds ≡ volume ds = rows_volume ds (omega arith) in
+    let size-is : size ≡ volume ds = e ∙ k.size in
+    let rows-is : p.rows ≡ row_count ds = count ∙ f ∙ k.rows in
+    let width-is : p.width ≡ row_width ds = wide ∙ k.wide in
+    let words-are : p.words.now ≡ take (volume ds) words = part ∙ ap (λ (m : ℕ). take m words) size-is in
+    let long : length (take (volume ds) words) ≡ volume ds = length-take-le (volume ds) words h.enough in
+    record {
+      measured =
+          record {
+            first = rw shape (omega arith);
+            second = rw second n.1;
+            few_rows = rw rows-is k.few_rows;
+            few = rw words-are (omega (arith, long, h.few));
+            all = rw (rows-is, width-is, words-are, long) v;
+            wide = rw wide (length_at ds h.lengths 3 (omega arith)).0;
+          };
+      whole = rw (shape, second, n.0, rows-is, width-is, words-are) (result_first ds (named release) order words four h.enough);
+    }
+
+-- the rows of a page are as many as its words make
+pub page_rows : (p : Page) → Measured p → rows_text (length p.words.now / p.width) p.width p.words.now ≡ rows_text p.rows p.width p.words.now
+page_rows p m =
+    ap (λ (k : ℕ). rows_text k p.width p.words.now) (ap (λ (k : ℕ). k / p.width) (sym m.all) ∙ mul-div_cancel p.rows m.wide)

@@ -1,8 +1,10 @@
 -- Texts put one behind the other: what is left to be put leads to the whole. From the law of runs of stores.
-use Rattle.lists.proofs.Kit.{◌≡◌, refl, sym, ap, ◌∙◌, List, [], ◌∷◌, ◌++◌, append-nil, ℕ, ◌+◌, ◌<◌, ◌≤◌, arith, add-one, length, set, drop, get_or, length-append, length-set, drop_of_length-le, sets, length-sets, drop-next, drop_end}
+use Rattle.lists.proofs.Kit.{◌≡◌, refl, sym, ap, ◌∙◌, List, [], ◌∷◌, ◌++◌, append-nil, suc, take-suc, take_all, set, append_assoc, ℕ, ◌+◌, ◌<◌, ◌≤◌, arith, length, take, drop, drop-drop, sets-eq, get_or, length-append, drop_of_length-le, sets, length-sets, drop-next}
 use Rattle.sheets.specs.Print.{tab_byte, decimal, field, fields}
 use Rattle.writer.specs.PrivateBytes.{Room, Put}
 use Rattle.sheets.proofs.Stores.{sets-append}
+use Rattle.std.proofs.Math.Seq.{take-suc-set}
+use borrow.Rule.Slice.PartMut.{put_mid}
 
 -- what is left, put at p, is the whole text, put at `at`, and the whole text has room
 pub record Leads (out₀ : List ℕ) (at : ℕ) (text out : List ℕ) (p : ℕ) (left : List ℕ) : Type 0 where
@@ -56,29 +58,28 @@ module _ (vs : List ℕ) (i : ℕ) {out₀ : List ℕ} {at : ℕ} {text out : Li
   pub all-put : length vs ≤ i → Put out₀ at text p out
   all-put k = leads_end (leads_same (no_fields vs i k) h)
 
--- the bytes of a word, put one by one
-module _ (word : List ℕ) (at i : ℕ) {out₀ : List ℕ} {text out : List ℕ} (h : Leads out₀ at text out (at + i) (drop i word)) where
-  pub next_byte : i < length word → Leads out₀ at text (set out (at + i) (get_or word i 0)) (at + (i + 1)) (drop (i + 1) word)
-  next_byte k =
-      leads_step (get_or word i 0 ∷ []) (drop (i + 1) word) (leads_same (drop-next word i k) h) (record { place = omega arith; bytes = refl })
-
-  pub all_bytes : i ≡ length word → Put out₀ at text (at + length word) out
-  all_bytes e = rw (← e) (leads_end (leads_same (drop_end word i (omega arith)) h))
+-- a part that was overwritten
+pub overwritten : (at k : ℕ) (out text : List ℕ) → k ≡ length text → at + length text ≤ length out → put_mid at k out text ≡ sets out at text
+overwritten at k out text e h = rw (e, drop-drop (length text) at out) (sym (append_assoc (take at out) text (drop (at + length text) out)) ∙ sym (sets-eq text out at h))
 
 -- a field is its tab and its number
 module _ {out : List ℕ} {at : ℕ} (v : ℕ) (r : Room out at (field v)) where
-  pub field_in : at < length out
+  whole_field : Leads out at (field v) out at ((tab_byte ∷ []) ++ (decimal v ++ []))
   unfolding field
-  field_in = omega (arith, r.fits)
+  whole_field = leads_same (ap (λ (l : List ℕ). tab_byte ∷ l) (sym (append-nil (decimal v)))) (leads_start r)
 
-  pub field_room : Room (set out at tab_byte) (at + 1) (decimal v)
-  unfolding field
-  field_room = record { fits = omega (arith, r.fits, length-set out at tab_byte) }
+  pub tab_room : Room out at (tab_byte ∷ [])
+  tab_room = leads_room (tab_byte ∷ []) (decimal v ++ []) whole_field
 
-  pub field_put : {next : ℕ} {out' : List ℕ} → Put (set out at tab_byte) (at + 1) (decimal v) next out' → Put out at (field v) next out'
-  unfolding field
-  field_put q =
-      record { place = omega (arith, q.place); bytes = q.bytes ∙ ap (λ (k : ℕ). sets (set out at tab_byte) k (decimal v)) (add-one at) }
+  module _ {a : ℕ} {out₁ : List ℕ} (p : Put out at (tab_byte ∷ []) a out₁) where
+    number_left : Leads out at (field v) out₁ a (decimal v ++ [])
+    number_left = leads_step (tab_byte ∷ []) (decimal v ++ []) whole_field p
+
+    pub number_room : Room out₁ a (decimal v)
+    number_room = leads_room (decimal v) [] number_left
+
+    pub field_put : {next : ℕ} {out₂ : List ℕ} → Put out₁ a (decimal v) next out₂ → Put out at (field v) next out₂
+    field_put q = leads_end (leads_step (decimal v) [] number_left q)
 
 pub put-length : {out : List ℕ} {at : ℕ} {text : List ℕ} {next : ℕ} {out' : List ℕ} → Put out at text next out' → length out' ≡ length out
 put-length {out} {at} {text} q = ap length q.bytes ∙ length-sets out at text
@@ -103,3 +104,13 @@ module _ {out : List ℕ} {at : ℕ} {text : List ℕ} (s t u : List ℕ) (parts
   pub three_put : {a b next : ℕ} {out₁ out₂ out₃ : List ℕ} → Put out at s a out₁ → Put out₁ a t b out₂ → Put out₂ b u next out₃
       → Put out at text next out₃
   three_put p q e = leads_end (leads_step u [] (third p q) e)
+
+-- bytes overwritten from the front by those of a text
+pub one_byte_more : (i : ℕ) (place text : List ℕ) → i < length place → i < length text → take i place ≡ take i text
+    → take (i + 1) (set place i (get_or text i 0)) ≡ take (i + 1) text
+one_byte_more i place text h k e =
+    let next : i + 1 ≡ suc i = omega arith in
+    rw next (take-suc-set place i (get_or text i 0) h ∙ ap (λ (l : List ℕ). l ++ (get_or text i 0 ∷ [])) e ∙ sym (take-suc text i 0 k))
+
+pub whole_text : (i : ℕ) (place text : List ℕ) → length place ≤ i → length text ≤ i → take i place ≡ take i text → place ≡ text
+whole_text i place text h k e = sym (take_all i place h) ∙ e ∙ take_all i text k

@@ -32,3 +32,8 @@ module _ (number place : ℕ) (out : List ℕ) where
   pub refusal_fits : {next : ℕ} {out' : List ℕ} → length (refusal_text number place) ≤ length out → Put out 0 (refusal_text number place) next out'
       → WriteRefusalPromise number place out (record { number = 0; count = next }) out'
   refusal_fits h q = let p = all-written (line_fits h) h q in record { answers = p.0; bytes = p.1 }
+
+  -- what stands behind a borrow that came back
+  pub refusal_arrived : {answered : Written} (final last : List ℕ) → final ≡ last → WriteRefusalPromise number place out answered last
+      → WriteRefusalPromise number place out answered final
+  refusal_arrived final last e t = rw e t

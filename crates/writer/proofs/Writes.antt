@@ -1,7 +1,10 @@
 -- The writers of result sheets: what they promise on each way out. Both check the block, then the numbers of their second line, then the room for the
 -- text: the laws are over the checks of those numbers. From the definitions.
-use Rattle.lists.proofs.Kit.{◌≡◌, sym, ◌∙◌, false, List, [], ◌∷◌, ◌++◌, ℕ, ◌<◌, ◌≤◌, arith, length, T, lit<, lt-ltb, le-ltb, ltb-false}
+use Rattle.lists.proofs.Kit.{◌≡◌, refl, sym, ap, ◌∙◌, false, List, [], ◌∷◌, ◌++◌, ℕ, ◌<◌, ◌≤◌, arith, length, T, lit<, lt-ltb, le-ltb, ltb-false}
 use Rattle.layout.specs.Layout.{volume}
+use Rattle.std.specs.Prelude.{Some, None, Result, Ok, Err}
+use Rattle.std.specs.Result.{IsErr, IsErrAnd}
+use Rattle.refusals.specs.declared.Refusal.{Refusal}
 use Rattle.refusals.specs.FirstOf.{Check, check, first_of, refusing}
 use Rattle.refusals.specs.Conditions.{bad_length, short_buffer, no_order, no_release}
 use Rattle.refusals.specs.Calls.{plan_checks, named_checks}
@@ -11,9 +14,13 @@ use Rattle.sheets.specs.Right.{SheetNumbers}
 use Rattle.sheets.specs.Sheet.{result_text, result_by}
 use Rattle.sheets.specs.Meaning.{big_sheet}
 use Rattle.sheets.specs.Private.{OnSheet}
+use Rattle.sheets.proofs.SecondLines.{one_of_two}
 use Rattle.sheets.specs.Checks.{sheet_checks}
 use Rattle.writer.specs.declared.Written.{Written}
-use Rattle.writer.specs.PrivateBytes.{Put, room_number, TextWritten}
+use Rattle.writer.specs.PrivateBytes.{Room, Put, room_number, TextWritten}
+use Rattle.writer.specs.PrivateWriter.{page_of, Measured, Second}
+use Rattle.writer.specs.declared.page.Page.{Page}
+use Rattle.writer.proofs.Pages.{Built}
 use Rattle.writer.specs.Writer.{short_bytes, nothing_written, written, written_to, writer_number, WriteResultPromise, release_number, WriteReleasePromise}
 use Rattle.writer.proofs.InFull.{none_written, all-written}
 
@@ -163,3 +170,35 @@ module _ (ds : List ℕ) (release order : ℕ) (words out : List ℕ) where
       → release_number ds release order words out ≡ 0
   number_0_by h n k =
       zero_so ds words (named_checks 4 release order) (result_by ds release order words) out tt h (rw (n, le-ltb 23 order k))
+
+-- what stands behind a borrow that came back
+pub moved : {text out : List ℕ} {answered : Written} (final last : List ℕ) → final ≡ last → TextWritten text out answered last → TextWritten text out answered final
+moved final last e t = rw e t
+
+-- a page, measured: too long for the buffer; or with room in it, and then written
+module _ {text out : List ℕ} {p : Page} (b : Built text p) where
+  pub page_short : {n : ℕ} → n ≡ length (page_of p) → length out < n → TextWritten text out (nothing_written 24) out
+  page_short e h = text_short text out (rw (← b.whole, ← e) h) refl
+
+  module _ {n : ℕ} (e : n ≡ length (page_of p)) (h : n ≤ length out) {start : List ℕ} {at : ℕ} (s : (start ≡ out) × (at ≡ 0)) where
+    pub page_ready : Measured p × Room start at (page_of p)
+    page_ready = (b.measured, rw (s.0, s.1) (record { fits = omega arith }))
+
+    pub page_put : {next count : ℕ} {out' : List ℕ} → Put start at (page_of p) next out' → count ≡ next
+        → TextWritten text out (record { number = 0; count = count }) out'
+    page_put q is = rw is (text_put text out (rw (← b.whole) (omega arith)) (rw (s.0, s.1, b.whole) at q))
+
+-- an answer that is an error, which a `?` made
+pub err_is : {A : Type 0} (r : Result A Refusal) (x : Refusal) → IsErr r × IsErrAnd r (λ e. e ≡ x) → r ≡ Err x
+err_is (Ok a) x h = absurd h.1
+err_is (Err e) x h = ap Err h.1
+
+-- the second line's numbers, where they were checked
+pub second_none : (order : ℕ) → order ≤ 23 → Second None order
+second_none order h = record { not_zero = λ e. cc; one_of_two = omega arith; known = h }
+
+pub second_some : (release order : ℕ) → first_of (named_checks 4 release order) ≡ 0 → Second (Some release) order
+second_some release order e =
+    let g = named_good release order e in
+    let h = one_of_two release g.0 in
+    record { not_zero = λ z. let k : release ≡ 0 = cc in h.0 k; one_of_two = h.1; known = g.1 }

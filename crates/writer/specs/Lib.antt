@@ -4,5 +4,5 @@ pub mod Writer
 pub mod RefusalWriter
 -- for private functions only: bytes put into a buffer
 pub mod PrivateBytes
--- for private functions only: the thin writer
+-- for private functions only: the thin writer and the page that it writes
 pub mod PrivateWriter

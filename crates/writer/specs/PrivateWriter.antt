@@ -1,43 +1,45 @@
 -- These definitions serve only the contracts of private functions: a reader of the promises can pass over them.
--- What a thin writer is once a text is put, and what a page needs. Assumes nothing.
-use Rattle.std.specs.Prelude.{cond, List, [], ◌∷◌, ◌++◌, ℕ, ◌+◌, ◌*◌, ◌≤◌, eqb, length, take}
-use Rattle.std.proofs.lemmas.List.Edits.{sets}
-use denote.Ref.{at_last}
+-- What a thin writer does, what a page is, and what it needs to be measured and written. Assumes nothing.
+use Rattle.std.specs.Prelude.{◌≡◌, List, ◌++◌, ℕ, ◌*◌, ◌<◌, ◌≤◌, length, drop, Option, Some, None}
 use Rattle.sheets.specs.Print.{line}
 use Rattle.sheets.specs.Sheet.{shape_word, order_word, rows_text}
-use Rattle.writer.specs.PrivateBytes.{Room}
-use Rattle.writer.specs.declared.page.Line.{Line}
+use Rattle.writer.specs.PrivateBytes.{Room, Put}
 use Rattle.writer.specs.declared.writer.Writer.{Writer}
+use Rattle.writer.specs.declared.page.Page.{Page}
 
--- the numbers of a line that is passed by value
-abbrev pub numbers_in : Line → List ℕ
-numbers_in l = take l.count l.numbers
+-- the text has room from the writer's place on
+abbrev pub HasRoom : Writer → List ℕ → Type 0
+HasRoom w = Room w.out.now w.at
 
--- the text of such a line
-abbrev pub text_of : Line → List ℕ
-text_of l = line l.word (numbers_in l)
+-- the text was written at the writer's place, which is the one after it then
+abbrev pub Writes : Writer → List ℕ → Writer → Type 0
+Writes w text w' = Put w.out.now w.at text w'.at w'.out.now
 
--- line 1 of a result sheet: `shape` and the lengths
-abbrev pub shape_line_of : List ℕ → Line
-shape_line_of ds = record { word = shape_word; numbers = ds; count = 4 }
+-- the release as a result sheet has it: 0 stands for none
+abbrev pub named : Option ℕ → ℕ
+named None = 0
+named (Some release) = release
 
--- line 2 of a result sheet: `order`, the release where one is named (0 stands for none), and the order number
-abbrev pub order_line_of : ℕ → ℕ → Line
-order_line_of release order =
-    cond (eqb release 0) (record { word = order_word; numbers = order ∷ 0 ∷ 0 ∷ 0 ∷ []; count = 1 })
-    (record { word = order_word; numbers = release ∷ order ∷ 0 ∷ 0 ∷ []; count = 2 })
+-- the numbers of the second line, of a release and an order number
+abbrev pub second_of : List ℕ → Option ℕ → List ℕ
+second_of pair None = drop 1 pair
+second_of pair (Some release) = pair
 
--- the same borrow with the text at the writer's place, and the place after it
-abbrev pub stored : Writer → List ℕ → Writer
-stored w text = record { out = at_last w.out (sets w.out.now w.at text); at = w.at + length text }
+-- a release and an order number that were checked
+pub record Second (release : Option ℕ) (order : ℕ) : Type 0 where
+  pub not_zero : release ≡ Some 0 → ⊥
+  pub one_of_two : named release ≤ 2
+  pub known : order ≤ 23
 
 -- two lines, then rows
-abbrev pub page_of_lines : Line → Line → List ℕ → ℕ → ℕ → List ℕ
-page_of_lines shape order words count n = text_of shape ++ (text_of order ++ rows_text count n words)
+abbrev pub page_of : Page → List ℕ
+page_of p = line shape_word p.shape.now ++ (line order_word p.order.now ++ rows_text p.rows p.width p.words.now)
 
--- the two lines have four numbers at most, the words suffice for the rows, and the bytes have room for all
-pub record Ready (out : List ℕ) (shape order : Line) (words : List ℕ) (count n : ℕ) : Type 0 where
-  pub first : shape.count ≤ 4
-  pub second : order.count ≤ 4
-  pub enough : count * n ≤ length words
-  pub room : Room out 0 (page_of_lines shape order words count n)
+-- a page is small: its lines have four numbers at most, and its words are those of its rows, which are not empty
+pub record Measured (p : Page) : Type 0 where
+  pub first : length p.shape.now ≤ 4
+  pub second : length p.order.now ≤ 4
+  pub few_rows : p.rows ≤ 1024
+  pub few : length p.words.now ≤ 1024
+  pub all : p.rows * p.width ≡ length p.words.now
+  pub wide : 0 < p.width

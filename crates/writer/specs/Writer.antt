@@ -1,12 +1,19 @@
 -- What the writer answers and writes. Assumes nothing: these are definitions.
-use Rattle.std.specs.Prelude.{◌≡◌, Bool, cond, List, [], ◌∷◌, ◌++◌, ℕ, ltb, eqb, length, drop}
+use Rattle.std.specs.Prelude.{◌≡◌, Bool, cond, List, [], ◌∷◌, ◌++◌, ℕ, ltb, eqb, length, drop, Result, Ok, Err}
 use Rattle.refusals.specs.FirstOf.{Check, check, first_of}
 use Rattle.refusals.specs.Conditions.{no_order}
 use Rattle.refusals.specs.Calls.{named_checks}
 use Rattle.sheets.specs.Sheet.{result_text, result_by}
 use Rattle.sheets.specs.Right.{SheetNumbers}
 use Rattle.sheets.specs.Checks.{sheet_checks}
+use Rattle.refusals.specs.Refusal.{number_of}
+use Rattle.refusals.specs.declared.Refusal.{Refusal}
 use Rattle.writer.specs.declared.Written.{Written}
+
+-- what C sees of an answer: the count is 0 where the writer refuses
+abbrev pub in_c : Result ℕ Refusal → Written
+in_c (Ok count) = record { number = 0; count = count }
+in_c (Err r) = record { number = number_of r; count = 0 }
 
 -- 24: the byte buffer is shorter than the result sheet
 abbrev pub short_bytes : List ℕ → List ℕ → Bool

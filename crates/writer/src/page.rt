@@ -1,108 +1,61 @@
-// The lines of a result sheet, measured and put: private to the library.
-ghost use Rattle.std.specs.Prelude.{◌≡◌, false, ◌*◌, ◌≤◌, length};
-ghost use Rattle.refusals.specs.Conditions.{bad_length};
-ghost use Rattle.sheets.specs.Print.{fields, line};
-ghost use Rattle.sheets.specs.Sheet.{rows_text};
-ghost use Rattle.writer.specs.PrivateBytes.{Room, Put};
-ghost use Rattle.writer.specs.PrivateWriter.{text_of, shape_line_of, order_line_of};
+// A result sheet, measured and written: private to the library.
+ghost use Rattle.std.specs.Prelude.{◌≡◌, ◌≤◌, length};
+ghost use Rattle.sheets.specs.Print.{decimal, fields};
+ghost use Rattle.writer.specs.PrivateWriter.{HasRoom, Writes, page_of, Measured};
 
-use crate::put;
+use crate::writer::Writer;
 
-// How many bytes the fields of these words have.
-pub(crate) fn words_len(words: &[u32]) -> usize
-    requires { length words.now ≤ 1024 }
-    ensures { (result ≡ length (fields words.now)) × (result ≤ 11264) }
+// How many digits a number has.
+// Kept: a count becomes a `usize` by `as`, since the library has no `From<u32>` for `usize`.
+fn digits_of(value: u32) -> usize
+    ensures { result ≡ length (decimal value) }
+{
+    match value.checked_ilog10() {
+        Some(below) => below as usize + 1,
+        None => 1,
+    }
+}
+
+// How many bytes the fields of these numbers have.
+pub(crate) fn fields_len(numbers: &[u32]) -> usize
+    requires { length numbers.now ≤ 1024 }
+    ensures { (result ≡ length (fields numbers.now)) × (result ≤ 11264) }
 {
     let mut total = 0;
-    for i in 0..words.len() {
-        total += 1 + put::digits_of(words[i]);
+    for &number in numbers {
+        total += 1 + digits_of(number);
     }
     total
 }
 
-// A line by value: its word, and its first `count` numbers.
+// A result sheet: the numbers of its first line and of its second, and the words of its rows.
 #[derive(Clone, Copy)]
-pub struct Line {
-    pub word: [u8; 5],
-    pub numbers: [u32; 4],
-    pub count: usize,
+pub(crate) struct Page<'a> {
+    pub shape: &'a [u32],
+    pub order: &'a [u32],
+    pub words: &'a [u32],
+    pub rows: usize,
+    pub width: usize,
 }
 
-// Line 1 of a result sheet: `shape` and the lengths.
-pub(crate) fn shape_line(lens: [usize; 4]) -> Line
-    requires { bad_length lens ≡ false }
-    ensures { result ≡ shape_line_of lens }
-{
-    Line {
-        word: *b"shape",
-        numbers: [
-            lens[0] as u32,
-            lens[1] as u32,
-            lens[2] as u32,
-            lens[3] as u32,
-        ],
-        count: 4,
+impl Page<'_> {
+    // How many bytes it has: of each line also its word and its LF.
+    pub(crate) fn len(&self) -> usize
+        requires { Measured self.now }
+        ensures { result ≡ length (page_of self.now) }
+    {
+        let head = 12 + fields_len(self.shape) + fields_len(self.order);
+        head + 4 * self.rows + fields_len(self.words)
     }
-}
 
-// Line 2 of a result sheet: `order`, the release where one is named (0 stands for none), and the order number.
-pub(crate) fn order_line(release: usize, order: usize) -> Line
-    requires { (release ≤ 2) × (order ≤ 23) }
-    ensures { result ≡ order_line_of release order }
-{
-    if release == 0 {
-        return Line {
-            word: *b"order",
-            numbers: [order as u32, 0, 0, 0],
-            count: 1,
-        };
+    // Its two lines, then its rows.
+    pub(crate) fn write(&self, writer: &mut Writer<'_>)
+        requires { Measured self.now × HasRoom writer.old (page_of self.now) }
+        ensures same_reference { writer.new.out.ghost_name ≡ writer.old.out.ghost_name }
+        ensures put { Writes writer.old (page_of self.now) writer.new }
+    {
+        writer.line(b"shape", self.shape);
+        writer.line(b"order", self.order);
+        writer.rows(self.words, self.width);
     }
-    Line {
-        word: *b"order",
-        numbers: [release as u32, order as u32, 0, 0],
-        count: 2,
-    }
-}
-
-// How many bytes a line has that is passed by value.
-pub(crate) fn head_len(l: Line) -> usize
-    requires { l.count ≤ 4 }
-    ensures { (result ≡ length (text_of l)) × (result ≤ 50) }
-{
-    let numbers = l.numbers;
-    6 + words_len(&numbers[..l.count])
-}
-
-// A line of a word and numbers.
-pub(crate) fn put_line(out: &mut [u8], at: usize, word: &[u8], numbers: &[u32]) -> usize
-    requires { Room out.old at (line word.now numbers.now) }
-    ensures { Put out.old at (line word.now numbers.now) result out.new }
-{
-    let first = put::put_word(out, at, word);
-    let end = put::put_words(out, first, numbers);
-    put::put_end(out, end)
-}
-
-// A line that is passed by value.
-pub(crate) fn put_head(out: &mut [u8], at: usize, l: Line) -> usize
-    requires { (l.count ≤ 4) × Room out.old at (text_of l) }
-    ensures { Put out.old at (text_of l) result out.new }
-{
-    let word = l.word;
-    let numbers = l.numbers;
-    put_line(out, at, &word, &numbers[..l.count])
-}
-
-// So many rows of n words each.
-pub(crate) fn put_rows(out: &mut [u8], at: usize, words: &[u32], count: usize, n: usize) -> usize
-    requires { (count * n ≤ length words.now) × Room out.old at (rows_text count n words.now) }
-    ensures { Put out.old at (rows_text count n words.now) result out.new }
-{
-    let mut p = at;
-    let mut from = 0;
-    for i in 0..count {
-        p = put_line(out, p, b"row", &words[from..from + n]);
-        from += n;
-    }
-    p
 }

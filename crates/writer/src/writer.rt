@@ -1,10 +1,8 @@
-// A thin writer: it holds the lent bytes and the place of the next one, and leaves the work to the functions on slice and
-// number. Private to the library.
-ghost use Rattle.std.specs.Prelude.{◌≡◌, ◌≤◌};
-ghost use Rattle.writer.specs.PrivateBytes.{Room, Put};
-ghost use Rattle.writer.specs.PrivateWriter.{text_of, stored, page_of_lines, Ready};
-
-use crate::page;
+// A thin writer over lent bytes: it keeps the place of the next byte. Private to the library.
+ghost use Rattle.std.specs.Prelude.{◌≡◌, ◌/◌, ◌<◌, length};
+ghost use Rattle.sheets.specs.Print.{decimal, field, fields, line};
+ghost use Rattle.sheets.specs.Sheet.{rows_text};
+ghost use Rattle.writer.specs.PrivateWriter.{HasRoom, Writes};
 
 // The lent bytes, and the place of the next one.
 #[derive(Drop)]
@@ -13,33 +11,85 @@ pub(crate) struct Writer<'a> {
     at: usize,
 }
 
-// A line: the writer is handed back with the next place.
-pub(crate) fn line<'a>(w: Writer<'a>, l: page::Line) -> Writer<'a>
-    requires { (l.count ≤ 4) × Room w.out.now w.at (text_of l) }
-    ensures { result ≡ stored w.entry (text_of l) }
+// Overwrites bytes by a text that is as long.
+fn overwrite(place: &mut [u8], text: &[u8])
+    requires { length place.old ≡ length text.now }
+    ensures { place.new ≡ text.now }
 {
-    let at = w.at;
-    let next = page::put_head(&mut *w.out, at, l);
-    Writer {
-        out: w.out,
-        at: next,
+    // Kept: `copy_from_slice` of so many bytes calls memmove, and the archive asks the C library for memcpy and memset alone, as the header says.
+    for i in 0..text.len() {
+        place[i] = text[i];
     }
 }
 
-// Two lines and rows at the start of the lent bytes, and the place after them: whoever calls it needs no writer.
-pub(crate) fn result(
-    out: &mut [u8],
-    shape: page::Line,
-    order: page::Line,
-    words: &[u32],
-    count: usize,
-    n: usize,
-) -> usize
-    requires { Ready out.old shape order words.now count n }
-    ensures { Put out.old 0 (page_of_lines shape order words.now count n) result out.new }
-{
-    let first = line(Writer { out: out, at: 0 }, shape);
-    let second = line(first, order);
-    let at = second.at;
-    page::put_rows(&mut *second.out, at, words, count, n)
+impl<'a> Writer<'a> {
+    // A writer at the start of the bytes.
+    pub(crate) fn new(out: &'a mut [u8]) -> Writer<'a>
+        ensures same_reference { result.out.ghost_name ≡ out.entry.ghost_name }
+        ensures start { (result.out.now ≡ out.old) × (result.at ≡ 0) }
+    {
+        Writer { out, at: 0 }
+    }
+
+    // How many bytes it has written.
+    pub(crate) fn count(&self) -> usize
+        ensures { result ≡ self.now.at }
+    {
+        self.at
+    }
+
+    // A text as it is.
+    fn text(&mut self, text: &[u8])
+        requires { HasRoom self.old text.now }
+        ensures same_reference { self.new.out.ghost_name ≡ self.old.out.ghost_name }
+        ensures put { Writes self.old text.now self.new }
+    {
+        let end = self.at + text.len();
+        overwrite(&mut self.out[self.at..end], text);
+        self.at = end;
+    }
+
+    // A field: a tab and a number.
+    fn field(&mut self, value: u32)
+        requires { HasRoom self.old (field value) }
+        ensures same_reference { self.new.out.ghost_name ≡ self.old.out.ghost_name }
+        ensures put { Writes self.old (field value) self.new }
+    {
+        self.text(b"\t");
+        let mut buffer = itoa::Buffer::new();
+        self.text(buffer.format(value).as_bytes());
+    }
+
+    // A field for each number.
+    fn fields(&mut self, numbers: &[u32])
+        requires { HasRoom self.old (fields numbers.now) }
+        ensures same_reference { self.new.out.ghost_name ≡ self.old.out.ghost_name }
+        ensures put { Writes self.old (fields numbers.now) self.new }
+    {
+        for &number in numbers {
+            self.field(number);
+        }
+    }
+
+    // A line of a word and numbers.
+    pub(crate) fn line(&mut self, word: &[u8], numbers: &[u32])
+        requires { HasRoom self.old (line word.now numbers.now) }
+        ensures same_reference { self.new.out.ghost_name ≡ self.old.out.ghost_name }
+        ensures put { Writes self.old (line word.now numbers.now) self.new }
+    {
+        self.text(word);
+        self.fields(numbers);
+        self.text(b"\n");
+    }
+
+    // Rows of a width.
+    pub(crate) fn rows(&mut self, words: &[u32], width: usize)
+        requires { (0 < width) × HasRoom self.old (rows_text (length words.now / width) width words.now) }
+        ensures same_reference { self.new.out.ghost_name ≡ self.old.out.ghost_name }
+        ensures put { Writes self.old (rows_text (length words.now / width) width words.now) self.new }
+    {
+        for row in words.chunks_exact(width) {
+            self.line(b"row", row);
+        }
+    }
 }

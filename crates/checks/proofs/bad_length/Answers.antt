@@ -1,16 +1,13 @@
-use Rattle.lists.proofs.Kit.{sym, ◌∙◌, arith, via}
+-- `bad_length` meets its contract: what the library's `any` finds is what the condition says.
+use Rattle.lists.proofs.Kit.{◌∙◌, rules}
+use Rattle.std.proofs.Common.{tests}
+use Rattle.std.proofs.lemmas.Iterator.{YieldsList-from_slice}
+use Rattle.std.proofs.lemmas.Iterator.Search.{any_from_yields_List}
 use Rattle.refusals.specs.Conditions.{out_of_range}
-use Rattle.refusals.proofs.Some.{some_here, some-past, some_end}
+use Rattle.refusals.proofs.Some.{some_any}
 use Rattle.checks.proofs.bad_length.Goals as goal
-
-pub returns-then-out_of_range : goal.returns-then-out_of_range
-returns-then-out_of_range c =
-    sym (c.loop-k.invariant.1 ∙ some_here out_of_range c.args.lens.now c.loop-k.k (omega arith) (search via))
-
-pub loop-k-preserved : goal.loop-k-preserved
-loop-k-preserved c =
-    (omega arith, c.loop-k.invariant.1 ∙ some-past out_of_range c.args.lens.now c.loop-k.k (omega arith) (search via))
 
 pub returns : goal.returns
 returns c =
-    sym (c.loop-k.invariant.1 ∙ some_end out_of_range c.args.lens.now c.loop-k.k (omega arith))
+    any_from_yields_List out_of_range _ _ c.any.result c.any.ensures.ran (YieldsList-from_slice c.args.lens.now cc) (λ x b q k. search (rules, tests))
+    ∙ some_any out_of_range c.args.lens.now

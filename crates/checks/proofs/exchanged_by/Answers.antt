@@ -3,11 +3,8 @@ use Rattle.lists.proofs.Kit.{sym, ◌∙◌, arith}
 use Rattle.orders.proofs.Needs.{exchanged_two, exchanged_past}
 use Rattle.checks.proofs.exchanged_by.Goals as goal
 
-pub returns-then-count-k : goal.returns-then-count-k
-returns-then-count-k c = sym (exchanged_past c.args.k c.args.lens.now (omega arith))
-
-pub returns-then-count-k-2 : goal.returns-then-count-k-2
-returns-then-count-k-2 c = sym (exchanged_past c.args.k c.args.lens.now (omega arith))
+pub returns-then-saturating_sub-k : goal.returns-then-saturating_sub-k
+returns-then-saturating_sub-k c = sym (exchanged_past c.args.k c.args.lens.now (omega (arith, c.saturating_sub.ensures)))
 
 pub returns : goal.returns
-returns c = c.longer.ensures ∙ sym (exchanged_two c.args.k c.args.lens.now (omega arith))
+returns c = c.max.ensures ∙ sym (exchanged_two c.args.k c.args.lens.now (omega (arith, c.saturating_sub.ensures)))

@@ -1,20 +1,22 @@
-use Rattle.lists.proofs.Kit.{arith, ltb, get_or, lt-ltb, le-ltb}
-use Rattle.refusals.proofs.Some.{first_here, first_past, first_end}
+-- `first_above` meets its contract: what the library's `position` finds is the place that the condition says.
+use Rattle.lists.proofs.Kit.{◌≡◌, ⊎_elim, cond, ℕ, ◌<◌, ◌≤◌, ltb, arith, rules, lt-or-ge, lt-ltb, le-ltb}
+use Rattle.std.specs.Prelude.{Option, Some, None, MatchOption, not}
+use Rattle.std.proofs.Common.{tests}
+use Rattle.std.proofs.lemmas.Iterator.{YieldsList-from_slice}
+use Rattle.std.proofs.lemmas.Iterator.Search.{position_from_yields_List}
+use Rattle.std.proofs.lemmas.List.Sums.{prefix_len-le-length}
+use Rattle.refusals.proofs.Some.{first_position}
 use Rattle.checks.proofs.first_above.Goals as goal
 
-pub loop-k-init : goal.loop-k-init
-loop-k-init c = (omega arith, omega arith)
-
-pub returns-then-last-numbers : goal.returns-then-last-numbers
-returns-then-last-numbers c =
-    let xs = c.args.numbers.now in
-    omega (arith, first_here (ltb c.args.last) xs c.loop-k.k (omega arith) (lt-ltb c.args.last (get_or xs c.loop-k.k 0) (search)))
-
-pub loop-k-preserved : goal.loop-k-preserved
-loop-k-preserved c =
-    let xs = c.args.numbers.now in
-    (omega arith, omega (arith, first_past (ltb c.args.last) xs c.loop-k.k (omega arith) (le-ltb c.args.last (get_or xs c.loop-k.k 0) (search))))
+-- a place below the length is found, and the length stands for none
+told : {r : Option ℕ} {p q n : ℕ} → r ≡ cond (ltb p n) (Some p) None → p ≡ q → p ≤ n → MatchOption r (q ≡ n) (λ k. (k < n) × (k ≡ q))
+told {r} {p} {q} {n} e same most =
+    ⊎_elim (λ (h : p < n). rw (e, lt-ltb p n h) (h, same)) (λ (h : n ≤ p). rw (e, le-ltb p n h) (omega (arith, same))) (lt-or-ge p n)
 
 pub returns : goal.returns
 returns c =
-    omega (arith, first_end (ltb c.args.last) c.args.numbers.now c.loop-k.k (omega arith))
+    let numbers = c.args.numbers.now in
+    told
+    (position_from_yields_List (ltb c.args.last) _ _ c.position.result c.position.ensures.ran (YieldsList-from_slice numbers cc) (λ x b q k. search (rules, tests)))
+    (first_position (ltb c.args.last) numbers)
+    (prefix_len-le-length (λ x. not (ltb c.args.last x)) numbers)

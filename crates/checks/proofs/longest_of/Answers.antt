@@ -1,22 +1,15 @@
-use Rattle.lists.proofs.Kit.{◌≡◌, List, ℕ, ◌+◌, ◌<◌, ◌≤◌, max, arith, length, drop, get_or, drop-next, drop_end}
+-- `longest_of` meets its contract: the greatest of the axes, from 0 on.
+use Rattle.lists.proofs.Kit.{◌≡◌, ◌∙◌, List, [], ◌∷◌, ℕ, max, arith, rules}
+use Rattle.std.specs.List.{fold}
 use Rattle.refusals.specs.Conditions.{longest}
 use Rattle.checks.proofs.longest_of.Goals as goal
 
-longest-next : (lens : List ℕ) (k : ℕ) → k < length lens → longest (drop k lens) ≡ max (get_or lens k 0) (longest (drop (k + 1) lens))
+longest_fold : (ds : List ℕ) (most : ℕ) → fold max most ds ≡ max most (longest ds)
 unfolding longest
-longest-next lens k h = rw (drop-next lens k h)
-
-longest_none : (lens : List ℕ) (k : ℕ) → length lens ≤ k → longest (drop k lens) ≡ 0
-unfolding longest
-longest_none lens k h = rw (drop_end lens k h)
-
-pub loop-k-init : goal.loop-k-init
-loop-k-init c = (omega arith, omega arith)
-
-pub loop-k-preserved : goal.loop-k-preserved
-loop-k-preserved c =
-    (omega arith, omega (arith, longest-next c.args.lens.now c.loop-k.k (omega arith)))
+longest_fold [] most = omega arith
+longest_fold (d ∷ ds) most = longest_fold ds (max most d) ∙ omega arith
 
 pub returns : goal.returns
 returns c =
-    omega (arith, longest_none c.args.lens.now c.loop-k.k (omega arith))
+    let most : c.fold.result ≡ fold max 0 c.args.lens.now = search rules in
+    most ∙ longest_fold c.args.lens.now 0 ∙ omega arith

@@ -11,15 +11,15 @@ entry_none : (ds c : List ℕ) (i : ℕ) → length c ≤ i → entry_need ds (d
 unfolding entry_need
 entry_none ds c i h = rw (drop_end c i h)
 
-pub loop-i-preserved : goal.loop-i-preserved
-loop-i-preserved c =
-    (omega arith, omega (arith, entry_next c.args.lens.now c.args.swaps.now c.loop-i.i (omega arith)))
+pub loop-k-preserved : goal.loop-k-preserved
+loop-k-preserved c =
+    (omega arith, omega (arith, entry_next c.args.lens.now c.args.swaps.now c.loop-k.k-index (omega arith)))
 
 pub returns : goal.returns
 returns c =
     let lens = c.args.lens.now in
     let swaps = c.args.swaps.now in
-    omega (arith, entry_none lens swaps c.loop-i.i (omega arith), need_at_entry lens swaps)
+    omega (arith, entry_none lens swaps c.loop-k.k-index (omega arith), need_at_entry lens swaps)
 
-pub loop-i-init : goal.loop-i-init
-loop-i-init c = (omega arith, omega arith)
+pub loop-k-init : goal.loop-k-init
+loop-k-init c = (omega arith, omega arith)

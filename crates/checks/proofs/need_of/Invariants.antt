@@ -4,5 +4,5 @@ use Rattle.lists.proofs.Kit.{◌≡◌, ◌≤◌, max, length, drop}
 use Rattle.orders.proofs.Needs.{entry_need}
 use Rattle.checks.proofs.need_of.Given as goal
 
-abbrev pub invariant-loop-i : goal.invariant-loop-i
-invariant-loop-i l = (l.i ≤ length l.swaps) × (max l.most (entry_need l.lens (drop l.i l.swaps)) ≡ entry_need l.lens l.swaps)
+abbrev pub invariant-loop-k : goal.invariant-loop-k
+invariant-loop-k l = (l.k-index ≤ length l.swaps) × (max l.most (entry_need l.lens (drop l.k-index l.swaps)) ≡ entry_need l.lens l.swaps)

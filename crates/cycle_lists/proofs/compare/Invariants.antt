@@ -2,5 +2,5 @@
 use Rattle.cycle_lists.proofs.Comparing.{Comparing}
 use Rattle.cycle_lists.proofs.compare.Given as goal
 
-abbrev pub invariant-loop-x : goal.invariant-loop-x
-invariant-loop-x l = Comparing l.m l.n l.list l.place l.x
+abbrev pub invariant-loop-start : goal.invariant-loop-start
+invariant-loop-start l = Comparing l.turn.m l.turn.n l.list l.rest l.place l.start

@@ -1,5 +1,5 @@
 -- `join` meets its contract: refused by its counts or shifts, or by the two ends; the ends of near shifts fit 64 bits, so the machine's are these.
-use Rattle.lists.proofs.Kit.{◌≡◌, sym, ap, ap₂, ◌∙◌, Bool, true, false, cond, List, ℕ, ◌≤◌, ◌^◌, arith, via}
+use Rattle.lists.proofs.Kit.{◌≡◌, sym, ap, ap₂, ◌∙◌, Bool, true, false, cond, List, ℕ, ◌≤◌, ◌^◌, arith}
 use lib.Signed.{lt_z, le_z}
 use lib.IntN.{ℤ, pos, nat_abs, ◌+ℤ◌}
 use mir.Syntax.{w64}
@@ -72,17 +72,17 @@ module _ (shifts : List ℤ) (frames : ℕ) (good : ShiftsNear shifts frames) wh
 
 pub overflow_add-end : goal.overflow_add-end
 overflow_add-end c =
-    let e = c.span_of-s.ensures in
-    sum_fits _ _ (shifted c.args.shifts.now c.args.frames (search via)) _ _ e.0 e.1
+    let e = c.span_of-span.ensures in
+    sum_fits _ _ (shifted c.args.shifts.now c.args.frames (sym c.in_ok-check_shifts.ensures)) _ _ e.0 e.1
 
 pub returns-then-end-first : goal.returns-then-end-first
 returns-then-end-first c =
-    let e = c.span_of-s.ensures in
-    let g = shifted c.args.shifts.now c.args.frames (search via) in
+    let e = c.span_of-span.ensures in
+    let g = shifted c.args.shifts.now c.args.frames (sym c.in_ok-check_shifts.ensures) in
     refused (sym (number _ _ g true (tested _ _ g _ _ e.0 e.1 true c.if-end-first.true))) (λ z. omega arith)
 
 pub returns : goal.returns
 returns c =
-    let e = c.span_of-s.ensures in
-    let g = shifted c.args.shifts.now c.args.frames (search via) in
+    let e = c.span_of-span.ensures in
+    let g = shifted c.args.shifts.now c.args.frames (sym c.in_ok-check_shifts.ensures) in
     accepted (number _ _ g false (tested _ _ g _ _ e.0 e.1 false c.if-end-first.false)) (ends_kept _ _ g _ _ e.0 e.1)

@@ -1,6 +1,6 @@
 -- `offset_delay` meets its contract: refused by its number, or given from the four readings. The checks have found them near, so no difference
 -- or sum overflows, and what the machine reads back from the bits of each is what it is.
-use Rattle.lists.proofs.Kit.{◌≡◌, List, ℕ, ◌^◌, ◌≤◌, via}
+use Rattle.lists.proofs.Kit.{◌≡◌, sym, List, ℕ, ◌^◌, ◌≤◌}
 use lib.IntN.{ℤ, nat_abs, ◌+ℤ◌, ◌-ℤ◌}
 use mir.Syntax.{w64}
 use mir.Val.{SFits, to_z, of_z}
@@ -36,24 +36,24 @@ module _ (run : List ℤ) (e : first_of (measure_checks run) ≡ 0) where
 pub returns : goal.returns
 returns c =
     let run = c.args.run.now in
-    let n = near run (search via) in
-    accepted (search via)
+    let n = near run (sym c.in_ok-check_measure.ensures) in
+    accepted (sym c.in_ok-check_measure.ensures)
     (simp (reading-kept run n, difference_kept run n, to_z-of_z (twice_fits run n), to_z-of_z (offset_fits run n), to_z-of_z (delay_fits run n)))
 
 pub overflow_sub-sum : goal.overflow_sub-sum
-overflow_sub-sum c = apart_fits c.args.run.now (search via) 1 0
+overflow_sub-sum c = apart_fits c.args.run.now (sym c.in_ok-check_measure.ensures) 1 0
 
 pub overflow_sub-sum-2 : goal.overflow_sub-sum-2
-overflow_sub-sum-2 c = apart_fits c.args.run.now (search via) 2 3
+overflow_sub-sum-2 c = apart_fits c.args.run.now (sym c.in_ok-check_measure.ensures) 2 3
 
 pub overflow_add-sum : goal.overflow_add-sum
-overflow_add-sum c = sum_fits c.args.run.now (search via)
+overflow_add-sum c = sum_fits c.args.run.now (sym c.in_ok-check_measure.ensures)
 
 pub overflow_sub-delay : goal.overflow_sub-delay
-overflow_sub-delay c = apart_fits c.args.run.now (search via) 3 0
+overflow_sub-delay c = apart_fits c.args.run.now (sym c.in_ok-check_measure.ensures) 3 0
 
 pub overflow_sub-delay-2 : goal.overflow_sub-delay-2
-overflow_sub-delay-2 c = apart_fits c.args.run.now (search via) 2 1
+overflow_sub-delay-2 c = apart_fits c.args.run.now (sym c.in_ok-check_measure.ensures) 2 1
 
 pub overflow_sub-delay-3 : goal.overflow_sub-delay-3
-overflow_sub-delay-3 c = rest-fits c.args.run.now (search via)
+overflow_sub-delay-3 c = rest-fits c.args.run.now (sym c.in_ok-check_measure.ensures)

@@ -2,24 +2,14 @@
 use Rattle.lists.proofs.Kit.{◌≡◌, length, rules}
 use Rattle.job.proofs.Parts.{of_four, inside, as_long, ran_on}
 use Rattle.job.proofs.run.Goals as goal
-use Rattle.job.proofs.run.Lts as lts
-use Rattle.job.proofs.run.Reads as reads
-use Rattle.job.proofs.run.Tie as tie
-
-abbrev Start : Type 0
-Start = lts.Start tie.the-claims reads.Pre reads.Post
-
-four : (x : Start) → length x.args.lengths ≡ 4
-four x = search rules
 
 pub slice_bounds-chain-end : goal.slice_bounds-chain-end
-slice_bounds-chain-end c =
-    inside _ c.args.words.now c.requires.0 c.requires.1 c.words_of-size.ensures
+slice_bounds-chain-end c = inside _ c.args.words.now c.requires.0 c.requires.1 c.words_of-size.ensures
 
 pub slice_bounds-chain-end-2 : goal.slice_bounds-chain-end-2
-slice_bounds-chain-end-2 c =
-    as_long _ _ c.requires.0 c.requires.1 c.words_of-size.ensures
+slice_bounds-chain-end-2 c = as_long _ _ c.requires.0 c.requires.1 c.words_of-size.ensures
 
 pub returns : goal.returns
 returns c =
-    ran_on _ _ c.requires.0 c.requires.1 c.words_of-size.ensures (of_four c.args.lengths (four (search))) c.chain.ensures
+    let four : length c.args.lengths ≡ 4 = search rules in
+    ran_on _ _ c.requires.0 c.requires.1 c.words_of-size.ensures (of_four c.args.lengths four) c.chain.ensures

@@ -1,34 +1,6 @@
--- `turn_back` meets its contract: refused by the checks, or the block is turned the other way round and scratch cleared.
-use Rattle.lists.proofs.Kit.{◌≡◌, via}
-use Rattle.refusals.specs.FirstOf.{first_of}
-use Rattle.refusals.specs.Calls.{passes_checks}
-use Rattle.refusals.proofs.Promise.{refused, accepted}
-use Rattle.flat.specs.Turn.{sides}
-use Rattle.strips.proofs.Strips.{flat_turn}
-use Rattle.flat.proofs.Accepted.{Accepted, flat_accepted}
-use Rattle.moves.proofs.Cleared.{zeroed_cleared}
-use Rattle.strips.proofs.Accepted.{flat_back}
+-- `turn_back` meets its contract: the turn the other way round has the same checks and needs the same scratch.
+use Rattle.strips.proofs.Back.{turned_about}
 use Rattle.strips.proofs.turn_back.Goals as goal
-use Rattle.strips.proofs.turn_back.Lts as lts
-use Rattle.strips.proofs.turn_back.Reads as reads
-use Rattle.strips.proofs.turn_back.Tie as tie
-
-abbrev Start : Type 0
-Start = lts.Start tie.the-claims reads.Pre reads.Post
-
--- what the checks tell of the arguments where none holds
-checked : (x : Start) → let a = x.args in first_of (passes_checks (sides a.m a.n) a.buf.now a.scratch.now) ≡ 0
-    → Accepted a.m a.n a.buf.now a.scratch.now
-checked x = flat_accepted _ _ _ _
 
 pub returns : goal.returns
-returns c =
-    let k = checked (search) (search via) in
-    accepted (search via) (flat_turn c.flat.ensures)
-    (zeroed_cleared k.room (rw c.longest_of-need.ensures at c.zero.ensures))
-
-pub returns-then-number-ne0 : goal.returns-then-number-ne0
-returns-then-number-ne0 c = search refused
-
-pub flat-requires : goal.flat-requires
-flat-requires c = flat_back (checked (search) (search via))
+returns c = turned_about c.turn.ensures

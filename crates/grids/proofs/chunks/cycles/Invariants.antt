@@ -9,7 +9,6 @@ invariant-loop-p l =
     Settled l.g.n l.g.m l.g.chunk l.initial.buf l.marks l.buf
     × Level (pairs l.g.n l.g.m) (half (l.g.n * l.g.m)) l.marks
     × (length l.marks ≡ length l.initial.marks)
-    × (length l.kept ≡ length l.initial.kept)
     × (0 < l.p)
     × ((k : ℕ) → 0 < k → k < l.p → bit_at l.marks k ≡ true)
 

@@ -1,14 +1,9 @@
-use Rattle.lists.proofs.Kit.{◌≡◌, sym, ap, ◌∙◌, ℕ, ◌*◌, ◌/◌, ◌%◌, ◌≤◌, arith, mod-lt, mod_self, mod-eq_of_lt, zero-mul, zero-mod, one-mul, div-le_self, mul-le-mul}
+use Rattle.lists.proofs.Kit.{◌≡◌, sym, ap, ◌∙◌, ℕ, ◌*◌, ◌/◌, ◌%◌, arith, mod-lt, mod_self, mod-eq_of_lt, zero-mul, zero-mod, one-mul}
 use Rattle.flat.specs.Gcd.{gcd_of}
 use Rattle.flat.proofs.Gcd.{gcd_step, gcd_end}
 use Rattle.walks.proofs.Remainders.{times_reduced}
 use Rattle.walks.proofs.Inverse.{less, inverse_step}
 use Rattle.passes.proofs.gcd.inverse.Goals as goal
-use Rattle.passes.proofs.gcd.inverse.Lts as lts
-use Rattle.passes.proofs.gcd.inverse.Reads as reads
-
-abbrev At-loop-x : Type 0
-At-loop-x = lts.At-loop reads.Pre reads.Post goal.the-invariant-loop-x goal.the-decreases-loop-x
 
 pub loop-x-init : goal.loop-x-init
 loop-x-init c =
@@ -22,11 +17,6 @@ loop-x-init c =
       ap (λ (z : ℕ). z % b) (zero-mul a) ∙ zero-mod b ∙ sym (mod_self b),
       sym (times_reduced 1 a b) ∙ ap (λ (z : ℕ). z % b) (one-mul a) ∙ sym (mod-eq_of_lt (mod-lt a c.requires.b_pos)),
     )
-
--- the product of a quotient and u
-small : (l : At-loop-x) → l.loop-x.y / l.loop-x.x * l.loop-x.u ≤ 16777216
-small l =
-    mul-le-mul {n₂ = 4096} {m₂ = 4096} (omega (arith, div-le_self l.loop-x.y l.loop-x.x)) (omega arith)
 
 pub loop-x-preserved : goal.loop-x-preserved
 loop-x-preserved c =
@@ -47,15 +37,3 @@ returns c =
     let e : c.loop-x.x ≡ 0 = omega arith in
     let one : c.loop-x.y ≡ 1 = sym (gcd_end c.loop-x.y) ∙ ap (gcd_of c.loop-x.y) (sym e) ∙ v.0 in
     record { small = v.3; one = v.5 ∙ ap (λ (z : ℕ). z % c.args.b) one }
-
-pub overflow_mul-w : goal.overflow_mul-w
-overflow_mul-w c = omega (arith, small (search))
-
-pub overflow_sub-w : goal.overflow_sub-w
-overflow_sub-w c = omega (arith, mod-lt (c.loop-x.y / c.loop-x.x * c.loop-x.u) c.requires.b_pos)
-
-pub overflow_add-w : goal.overflow_add-w
-overflow_add-w c = omega (arith, mod-lt (c.loop-x.y / c.loop-x.x * c.loop-x.u) c.requires.b_pos)
-
-pub loop-x-smaller : goal.loop-x-smaller
-loop-x-smaller c = mod-lt c.loop-x.y (omega arith)

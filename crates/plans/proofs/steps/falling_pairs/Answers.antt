@@ -1,16 +1,31 @@
-use Rattle.lists.proofs.Kit.{refl, mul-le-mul_right, arith}
-use Rattle.plans.proofs.PlanSteps.{pair_none, pairs_few, pairs_more, all_paired}
+use Rattle.lists.proofs.Kit.{◌≡◌, ap, List, [], ◌∷◌, ℕ, ◌+◌, ◌*◌, ◌≤◌, arith, length}
+use Rattle.orders.specs.Plans.{under, falling}
+use Rattle.orders.proofs.Plans.{under_few}
 use Rattle.plans.proofs.steps.falling_pairs.Goals as goal
+
+-- at most as many pairs as a square of the places
+falling_few : (most : ℕ) (axes : List ℕ) → length axes ≤ most → falling axes ≤ length axes * most
+unfolding falling
+falling_few most [] h = omega arith
+falling_few most (a ∷ axes) h = omega (arith, under_few a axes, falling_few most axes (omega arith))
+
+falling_none : (axes : List ℕ) → length axes ≡ 0 → falling axes ≡ 0
+unfolding falling
+falling_none [] e = omega arith
+falling_none (a ∷ axes) e = absurd (omega arith)
+
+falling_first : {rest after : List ℕ} {axis : ℕ} → rest ≡ axis ∷ after → falling rest ≡ under axis after + falling after
+unfolding falling
+falling_first e = ap falling e
 
 pub overflow_add-count : goal.overflow_add-count
 overflow_add-count c =
-    record { fits = omega (arith, pairs_few c.loop-k.invariant, mul-le-mul_right c.loop-k.k c.requires) }
+    record { fits = omega (arith, c.loop-axis.invariant.1, c.count_under-count.ensures, falling_first c.in-Some.ensures.cases.0, falling_few 5 c.args.axes.now c.requires) }
 
-pub loop-k-preserved : goal.loop-k-preserved
-loop-k-preserved c = pairs_more c.loop-k.invariant (omega arith) c.under_from-count.ensures
-
-pub loop-k-init : goal.loop-k-init
-loop-k-init c = pair_none refl
+pub loop-axis-preserved : goal.loop-axis-preserved
+loop-axis-preserved c =
+    (omega (arith, c.in-Some.ensures.cases.1), omega (arith, c.loop-axis.invariant.1, c.count_under-count.ensures, falling_first c.in-Some.ensures.cases.0))
 
 pub returns : goal.returns
-returns c = all_paired c.loop-k.invariant (omega arith)
+returns c =
+    omega (arith, c.loop-axis.invariant.1, falling_none c.loop-axis.rest.now c.in_default.ensures.cases)

@@ -1,60 +1,51 @@
-use Rattle.checks.proofs.SheetBlock.{room_left}
-use Rattle.reader.proofs.RowsFrom.{no_words}
-use Rattle.lists.proofs.Kit.{arith, ◌≡◌, refl, sym, ap, ◌∙◌, List, [], ℕ, ◌+◌, ◌-◌, length, drop, sets, length-sets}
-use Rattle.reader.specs.Private.{words_of, numbers_of}
-use Rattle.sheets.proofs.Stores.{sets-append}
-use Rattle.reader.proofs.RowsFrom.{rows_left, row_fields, row_at}
+-- `store_rows` meets its contract: the rows are those of the lengths, and they are stored only where all of them are right.
+use Rattle.lists.proofs.Kit.{◌≡◌, ◌∙◌, sym, length, take, length-take-le, [], ◌*◌, get_or, rules, arith}
+use Rattle.sheets.specs.Sheet.{row_count, row_width}
+use Rattle.sheets.specs.Meaning.{Verdict, row_lines}
+use Rattle.reader.specs.Private.{refused_as}
+use Rattle.reader.proofs.RowsFrom.{fits, rows_right, rows_wrong}
 use Rattle.reader.proofs.rows.store_rows.Goals as goal
 
-pub loop-i-init : goal.loop-i-init
-loop-i-init c =
-    let z : c.args.count - 0 ≡ c.args.count = omega arith in
-    (omega arith, c.requires.0, refl, rw z (omega (arith, c.requires.1)), rw z c.requires.2, rw z)
+pub rows_from-requires : goal.rows_from-requires
+rows_from-requires c =
+    let f = fits c.args.lengths.now c.args.words.now (search rules) c.requires c.words_of-count.ensures in (f.few, f.small)
 
-pub words_into-p-requires : goal.words_into-p-requires
-words_into-p-requires c =
-    let r = row_at c.args.bytes.now c.args.count c.args.n c.loop-i.i c.loop-i.p c.loop-i-test.true c.loop-i.invariant.1 c.loop-i.invariant.4 in
-    (r.inside, omega (arith, room_left c.args.count c.args.n c.loop-i.i c.loop-i-test.true), r.there)
+pub returns-in_err-rows_from : goal.returns-in_err-rows_from
+returns-in_err-rows_from c =
+    let f = fits c.args.lengths.now c.args.words.now (search rules) c.requires c.words_of-count.ensures in
+    let told : refused_as c.in_err-rows_from.field-0.0 ≡ row_lines 3 (row_count c.args.lengths.now) (row_width c.args.lengths.now) c.args.bytes.now =
+    rw (← f.rows, ← f.wide) c.in_err-rows_from.ensures.told in
+    rows_wrong c.from_residual.result c.in_err-rows_from.field-0.0 c.args.words.now c.from_residual.ensures told
 
-pub overflow_add-p-in-loop-i : goal.overflow_add-p-in-loop-i
-overflow_add-p-in-loop-i c =
-    let r = row_at c.args.bytes.now c.args.count c.args.n c.loop-i.i c.loop-i.p c.loop-i-test.true c.loop-i.invariant.1 c.loop-i.invariant.4 in
-    omega (arith, (r.onwards c.words_into-p.result c.words_into-p.ensures.read).0)
+pub slice_bounds-copy_from_slice-end : goal.slice_bounds-copy_from_slice-end
+slice_bounds-copy_from_slice-end c =
+    (fits c.args.lengths.now c.args.words.now (search rules) c.requires c.words_of-count.ensures).enough
 
-pub loop-i-preserved : goal.loop-i-preserved
-loop-i-preserved c =
-    let q = c.words_into-p in
-    let l = c.loop-i in
-    let a = c.args in
-    let r = row_at a.bytes.now a.count a.n l.i l.p c.loop-i-test.true l.invariant.1 l.invariant.4 in
-    let on = r.onwards q.result q.ensures.read in
-    let us = numbers_of (row_fields a.bytes.now a.n l.p) in
-    let left = words_of (rows_left a.count a.n (l.i + 1) (drop (q.result + 1) a.bytes.now)) in
-    let long : length us ≡ a.n = r.long in (
-      omega arith,
-      on.0,
-      ap length q.ensures.stored ∙ length-sets l.words l.from us ∙ l.invariant.2,
-      omega (arith, room_left a.count a.n l.i c.loop-i-test.true),
-      on.1,
-      ap (λ (x : List ℕ). sets x (l.from + a.n) left) q.ensures.stored
-          ∙ ap (λ (k : ℕ). sets (sets l.words l.from us) (l.from + k) left) (sym long)
-          ∙ sym (sets-append l.words l.from us left)
-          ∙ ap (sets l.words l.from) (sym on.2)
-          ∙ l.invariant.5,
-    )
+pub slice_bounds-copy_from_slice-end-2 : goal.slice_bounds-copy_from_slice-end-2
+slice_bounds-copy_from_slice-end-2 c =
+    sym (length-take-le _ _ (fits c.args.lengths.now c.args.words.now (search rules) c.requires c.words_of-count.ensures).enough)
+
+pub slice_bounds-block-end : goal.slice_bounds-block-end
+slice_bounds-block-end c =
+    let f = fits c.args.lengths.now c.args.words.now (search rules) c.requires c.words_of-count.ensures in
+    omega (arith, f.small, c.in_ok-rows_from.ensures.long)
+
+pub slice_bounds-copy_from_slice-end-3 : goal.slice_bounds-copy_from_slice-end-3
+slice_bounds-copy_from_slice-end-3 c =
+    let f = fits c.args.lengths.now c.args.words.now (search rules) c.requires c.words_of-count.ensures in
+    sym (length-take-le _ _ (omega (arith, f.small, c.in_ok-rows_from.ensures.long)))
+
+pub copy_from_slice-requires : goal.copy_from_slice-requires
+copy_from_slice-requires c =
+    let f = fits c.args.lengths.now c.args.words.now (search rules) c.requires c.words_of-count.ensures in
+    length-take-le _ _ f.enough ∙ sym (length-take-le _ _ (omega (arith, f.small, c.in_ok-rows_from.ensures.long)))
 
 pub returns : goal.returns
 returns c =
-    let l = c.loop-i in
-    let a = c.args in
-    let e : l.i ≡ a.count = omega arith in
-    let none : words_of (rows_left a.count a.n l.i (drop l.p a.bytes.now)) ≡ [] =
-    rw e (no_words a.count a.n (drop l.p a.bytes.now)) in
-    ap (sets l.words l.from) (sym none) ∙ l.invariant.5
-
-pub overflow_add-p : goal.overflow_add-p
-overflow_add-p c =
-    omega (arith, (row_at c.args.bytes.now c.args.count c.args.n c.loop-i.i c.loop-i.p c.loop-i-test.true c.loop-i.invariant.1 c.loop-i.invariant.4).inside)
-
-pub overflow_add-from : goal.overflow_add-from
-overflow_add-from c = omega (arith, room_left c.args.count c.args.n c.loop-i.i c.loop-i-test.true)
+    let f = fits c.args.lengths.now c.args.words.now (search rules) c.requires c.words_of-count.ensures in
+    let n = c.words_of-count.result * get_or c.args.lengths.now 3 0 in
+    let stored = take n c.rows_from.new.block in
+    let long : length stored ≡ n = length-take-le n c.rows_from.new.block (omega (arith, f.small, c.in_ok-rows_from.ensures.long)) in
+    let told : Verdict.go stored [] ≡ row_lines 3 (row_count c.args.lengths.now) (row_width c.args.lengths.now) c.args.bytes.now =
+    rw (← f.rows, ← f.wide) c.in_ok-rows_from.ensures.told in
+    rw c.copy_from_slice.ensures.after (rows_right stored c.args.words.now n long told)

@@ -1,60 +1,48 @@
--- `large::by_rows` meets its contract: strips of rows, the grid of their rows and the rows left over are one turn.
-use Rattle.lists.proofs.Kit.{refl, ◌∙◌, inr, ◌/◌, ◌%◌, mul-le-mul, arith}
-use Rattle.strips.proofs.Cuts.{Stripped, stripped, rows_strips, rows_grid, rows_rest, rows_wait, rows_joined}
+-- `by_rows` meets its contract: strips of rows, the grid of their rows and the rows left over are one turn.
+use Rattle.lists.proofs.Kit.{arith, ⊎_elim, inl, inr, mul-pos}
+use Rattle.strips.proofs.Cuts.{stripped, waits, rows_joined}
+use Rattle.strips.proofs.Strips.{rest_inside, part_blocks}
 use Rattle.strips.proofs.large.by_rows.Goals as goal
-use Rattle.strips.proofs.large.by_rows.Lts as lts
-use Rattle.strips.proofs.large.by_rows.Reads as reads
-use Rattle.strips.proofs.large.by_rows.Tie as tie
 
-abbrev Start : Type 0
-Start = lts.Start tie.the-claims reads.Pre reads.Post
+pub strips-requires : goal.strips-requires
+strips-requires c =
+    let cut = c.requires.2 in
+    let p = stripped cut c.requires.1.light c.args.shape.far_rows in
+    (omega (arith, c.requires.0, p.sum), ⊎_elim (λ h. inl (inl h)) (λ k. inr k) cut.strip)
 
--- how the rows are cut
-cut : (s : Start) → let a = s.args in Stripped a.m a.n a.g a.r (a.m / a.r) (a.m % a.r)
-cut s = let l = s.requires.0 in stripped s.requires.1 l.light l.far_rows
+pub invariant_of-turned : goal.invariant_of-turned
+invariant_of-turned c =
+    let shape = c.args.shape in
+    let p = stripped c.requires.2 c.requires.1.light shape.far_rows in
+    record {
+      rows = p.some_strips;
+      columns = shape.columns;
+      words = mul-pos p.some_lines shape.words;
+      far_rows = p.far;
+      far_columns = shape.far_columns;
+      few = omega (arith, p.sum, shape.few);
+    }
 
 pub turned-requires : goal.turned-requires
 turned-requires c =
-    rows_grid c.requires.0 c.requires.1 (cut (search)) c.strips.ensures.0.same c.strips.ensures.1
+    let p = stripped c.requires.2 c.requires.1.light c.args.shape.far_rows in
+    (omega (arith, c.requires.0, p.sum, c.strips.ensures.same), omega (arith, p.marks))
 
-pub strips_from-requires : goal.strips_from-requires
-strips_from-requires c = (
-  rows_rest c.requires.0 c.requires.1 (cut (search)) (c.turned.ensures.0.same ∙ c.strips.ensures.0.same),
-  inr (omega (arith, c.requires.0.light)),
-  c.turned.ensures.1 ∙ c.strips.ensures.1 ∙ c.requires.0.room,
-)
+pub strips-requires-2 : goal.strips-requires-2
+strips-requires-2 c =
+    let light = c.requires.1.light in
+    let p = stripped c.requires.2 light c.args.shape.far_rows in
+    (rest_inside _ c.turned.new.buf (omega (arith, c.requires.0, p.sum, c.turned.ensures.same, c.strips.ensures.same)), inl (inr (omega (arith, light))))
 
 pub rows_in-requires : goal.rows_in-requires
 rows_in-requires c =
-    rows_wait c.requires.0 c.requires.1 (cut (search)) (c.strips_from.ensures.0.same ∙ c.turned.ensures.0.same ∙ c.strips.ensures.0.same)
-    (c.strips_from.ensures.1 ∙ c.turned.ensures.1 ∙ c.strips.ensures.1) c.requires.2
+    let shape = c.args.shape in
+    let p = stripped c.requires.2 c.requires.1.light shape.far_rows in
+    let part = part_blocks c.turned.new.buf c.strips-2.ensures (omega (arith, c.requires.0, p.sum, c.turned.ensures.same, c.strips.ensures.same)) in
+    waits p shape.columns shape.words shape.few c.requires.3 (omega (arith, c.requires.0, part.same, c.turned.ensures.same, c.strips.ensures.same))
 
 pub returns : goal.returns
-returns c = (
-  rows_joined (cut (search)) c.strips.ensures.0 c.turned.ensures.0 c.strips_from.ensures.0 c.rows_in.ensures.0,
-  c.rows_in.ensures.1 ∙ c.strips_from.ensures.1 ∙ c.turned.ensures.1 ∙ c.strips.ensures.1,
-)
-
-pub nonzero_div-y : goal.nonzero_div-y
-nonzero_div-y c = omega (arith, (cut (search)).some_lines)
-
-pub overflow_mul-run : goal.overflow_mul-run
-overflow_mul-run c = record { fits = omega (arith, (cut (search)).run) }
-
-pub overflow_mul-run-2 : goal.overflow_mul-run-2
-overflow_mul-run-2 c = record { fits = omega (arith, mul-le-mul (cut (search)).run c.requires.0.light) }
-
-pub strips-requires : goal.strips-requires
-strips-requires c = rows_strips c.requires.0 c.requires.1 (cut (search)) refl refl
-
-pub overflow_mul-r : goal.overflow_mul-r
-overflow_mul-r c = record { fits = omega (arith, (cut (search)).chunk) }
-
-pub overflow_mul-n : goal.overflow_mul-n
-overflow_mul-n c = record { fits = omega (arith, (cut (search)).sum, c.requires.0.few) }
-
-pub nonzero_rem-m : goal.nonzero_rem-m
-nonzero_rem-m c = omega (arith, (cut (search)).some_lines)
-
-pub overflow_mul-m : goal.overflow_mul-m
-overflow_mul-m c = record { fits = omega (arith, mul-le-mul c.requires.0.far_rows c.requires.0.light) }
+returns c =
+    let p = stripped c.requires.2 c.requires.1.light c.args.shape.far_rows in
+    let part = part_blocks c.turned.new.buf c.strips-2.ensures (omega (arith, c.requires.0, p.sum, c.turned.ensures.same, c.strips.ensures.same)) in
+    rows_joined p c.strips.ensures c.turned.ensures part c.rows_in.ensures

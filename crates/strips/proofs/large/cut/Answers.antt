@@ -1,12 +1,6 @@
--- `large::cut` meets its contract: halves are cut where elements are long, else lines of 32 to 64 words.
-use Rattle.strips.proofs.Cuts.{cut_thin, cut_half}
+-- `cut` meets its contract: halves are cut where elements are long, else lines of 32 to 64 words.
+use Rattle.strips.proofs.Cuts.{cut_thin}
 use Rattle.strips.proofs.large.cut.Goals as goal
 
-pub returns-then-g-ge-LONG : goal.returns-then-g-ge-LONG
-returns-then-g-ge-LONG c = cut_half c.requires.2 c.requires.4 (search) c.requires.1 c.requires.3
-
-pub thin-requires : goal.thin-requires
-thin-requires c = (c.requires.0, c.requires.1)
-
-pub returns : goal.returns
-returns c = cut_thin c.requires.2 c.requires.4 c.thin.ensures
+pub returns-else-shape-ge-LONG : goal.returns-else-shape-ge-LONG
+returns-else-shape-ge-LONG c = cut_thin c.requires.rows c.args.shape.few c.thin.ensures

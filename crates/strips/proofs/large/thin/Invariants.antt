@@ -1,4 +1,3 @@
--- `large::thin` meets its contract: the first number is one of those, and so is each later one.
 use Rattle.lists.proofs.Kit.{◌+◌, ◌/◌, ◌-◌, ◌<◌, ◌≤◌}
 use Rattle.strips.specs.PrivateBounds.{Thin}
 use Rattle.strips.proofs.large.thin.Given as goal

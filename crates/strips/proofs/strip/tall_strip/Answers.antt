@@ -1,56 +1,51 @@
--- `strip::tall_strip` meets its contract: tiles of rows, the grid of their rows and the rows left over are one turn.
-use Rattle.lists.proofs.Kit.{refl, ◌∙◌, mul-pos, arith}
-use Rattle.strips.proofs.Bounds.{parted, tall_tiles, tall_grid, tall_rest, tall_turned}
+-- `tall_strip` meets its contract: tiles of rows, the grid of their rows and the rows left over are one turn.
+use Rattle.lists.proofs.Kit.{arith, mul-pos}
+use Rattle.strips.proofs.Bounds.{tall, tall_turned}
+use Rattle.strips.proofs.Strips.{rest_inside, part_blocks}
 use Rattle.strips.proofs.strip.tall_strip.Goals as goal
 
 pub smalls-requires : goal.smalls-requires
 smalls-requires c =
-    let p = parted c.requires c.tile_lines-s.ensures in
-    tall_tiles c.requires c.tile_lines-s.ensures p refl refl
+    let lines = c.tile_lines-s.ensures in
+    let p = tall c.args.shape c.requires.1 c.requires.2 lines in
+    (omega (arith, c.requires.0, p.sum), omega (arith, lines.room))
+
+pub invariant_of-turned : goal.invariant_of-turned
+invariant_of-turned c =
+    let shape = c.args.shape in
+    let lines = c.tile_lines-s.ensures in
+    let p = tall shape c.requires.1 c.requires.2 lines in
+    record {
+      rows = p.some;
+      columns = shape.columns;
+      words = mul-pos (omega (arith, lines.some)) shape.words;
+      far_rows = omega (arith, p.far);
+      far_columns = shape.far_columns;
+      few = omega (arith, p.sum, shape.few);
+    }
 
 pub turned-requires : goal.turned-requires
 turned-requires c =
-    let p = parted c.requires c.tile_lines-s.ensures in
-    tall_grid c.requires c.tile_lines-s.ensures p c.smalls.ensures.0.same c.smalls.ensures.1
+    let lines = c.tile_lines-s.ensures in
+    let p = tall c.args.shape c.requires.1 c.requires.2 lines in
+    (omega (arith, c.requires.0, p.sum, c.smalls.ensures.same), omega (arith, p.marks))
 
-pub smalls_from-requires : goal.smalls_from-requires
-smalls_from-requires c =
-    let p = parted c.requires c.tile_lines-s.ensures in (
-      tall_rest c.requires c.tile_lines-s.ensures p (c.turned.ensures.0.same ∙ c.smalls.ensures.0.same),
-      omega (arith, c.requires.narrow, c.requires.room, c.turned.ensures.1, c.smalls.ensures.1),
-    )
+pub smalls-requires-2 : goal.smalls-requires-2
+smalls-requires-2 c =
+    let lines = c.tile_lines-s.ensures in
+    let p = tall c.args.shape c.requires.1 c.requires.2 lines in
+    (rest_inside _ c.turned.new.buf (omega (arith, c.requires.0, p.sum, c.turned.ensures.same, c.smalls.ensures.same)), omega (arith, p.left))
 
 pub widen-requires : goal.widen-requires
 widen-requires c =
-    let p = parted c.requires c.tile_lines-s.ensures in (
-      omega (arith, c.requires.inside, p.sum, c.smalls_from.ensures.0.same, c.turned.ensures.0.same, c.smalls.ensures.0.same),
-      omega (arith, c.requires.room, p.left, c.smalls_from.ensures.1, c.turned.ensures.1, c.smalls.ensures.1),
-    )
+    let lines = c.tile_lines-s.ensures in
+    let p = tall c.args.shape c.requires.1 c.requires.2 lines in
+    let part = part_blocks c.turned.new.buf c.smalls-2.ensures (omega (arith, c.requires.0, p.sum, c.turned.ensures.same, c.smalls.ensures.same)) in
+    (omega (arith, c.requires.0, p.sum, part.same, c.turned.ensures.same, c.smalls.ensures.same), omega (arith, p.left))
 
 pub returns : goal.returns
 returns c =
-    let p = parted c.requires c.tile_lines-s.ensures in (
-      tall_turned p.whole c.smalls.ensures.0 c.turned.ensures.0 c.smalls_from.ensures.0 c.widen.ensures.0,
-      c.widen.ensures.1 ∙ c.smalls_from.ensures.1 ∙ c.turned.ensures.1 ∙ c.smalls.ensures.1,
-    )
-
-pub overflow_mul-n : goal.overflow_mul-n
-overflow_mul-n c = record { fits = omega (arith, c.requires.narrow) }
-
-pub tile_lines-s-requires : goal.tile_lines-s-requires
-tile_lines-s-requires c = (mul-pos c.requires.some c.requires.words, c.requires.narrow)
-
-pub overflow_mul-run : goal.overflow_mul-run
-overflow_mul-run c = let p = parted c.requires c.tile_lines-s.ensures in record { fits = omega (arith, p.whole, c.requires.far) }
-
-pub overflow_mul-run-2 : goal.overflow_mul-run-2
-overflow_mul-run-2 c = let p = parted c.requires c.tile_lines-s.ensures in record { fits = omega (arith, p.run) }
-
-pub overflow_mul-s : goal.overflow_mul-s
-overflow_mul-s c = let p = parted c.requires c.tile_lines-s.ensures in record { fits = omega (arith, p.chunk) }
-
-pub overflow_mul-n-2 : goal.overflow_mul-n-2
-overflow_mul-n-2 c = let p = parted c.requires c.tile_lines-s.ensures in record { fits = omega (arith, p.sum, c.requires.inside) }
-
-pub overflow_mul-q : goal.overflow_mul-q
-overflow_mul-q c = let p = parted c.requires c.tile_lines-s.ensures in record { fits = omega (arith, p.rest) }
+    let lines = c.tile_lines-s.ensures in
+    let p = tall c.args.shape c.requires.1 c.requires.2 lines in
+    let part = part_blocks c.turned.new.buf c.smalls-2.ensures (omega (arith, c.requires.0, p.sum, c.turned.ensures.same, c.smalls.ensures.same)) in
+    tall_turned p.whole c.smalls.ensures c.turned.ensures part c.widen.ensures

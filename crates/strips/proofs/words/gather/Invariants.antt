@@ -1,10 +1,5 @@
--- `gather` meets its contract: the stretch is filled from the front.
-use Rattle.lists.proofs.Kit.{◌+◌, ◌*◌, ◌-◌, ◌≤◌, get_or}
-use Rattle.moves.proofs.Filling.{Filled}
+use Rattle.lists.proofs.Kit.{◌≡◌, ℕ, ◌+◌, ◌*◌, ◌<◌, get_or}
 use Rattle.strips.proofs.words.gather.Given as goal
 
 abbrev pub invariant-loop-u : goal.invariant-loop-u
-invariant-loop-u l = (l.u ≤ l.count) × Filled l.to 0 l.u (λ k. get_or l.other (l.from + k * l.step) 0) l.initial.buf l.buf
-
-abbrev pub decreases-loop-u : goal.decreases-loop-u
-decreases-loop-u l = l.count - l.u
+invariant-loop-u l = (k : ℕ) → k < l.u → get_or l.word-items k 0 ≡ get_or l.other (l.from + k * l.step) 0

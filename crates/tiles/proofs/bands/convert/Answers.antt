@@ -6,6 +6,3 @@ pub returns : goal.returns
 returns c =
     let moved = c.move_bands.ensures in
     (moved.0, used_cleared c.requires.room moved.1 c.zero.ensures)
-
-pub move_bands-requires : goal.move_bands-requires
-move_bands-requires c = c.requires

@@ -6,6 +6,3 @@ use Rattle.tiles.proofs.bands.move_band.Goals as goal
 pub returns : goal.returns
 returns c =
     band_moved c.requires.small.before (c.copy.ensures.inside (omega (arith, c.requires), omega (arith, c.requires))) c.lay.ensures
-
-pub lay-requires : goal.lay-requires
-lay-requires c = record { small = c.requires.small; inside = c.requires.inside; room = omega (arith, c.requires) }

@@ -1,6 +1,0 @@
--- `close_range` meets its contract. The loop keeps that the runs passed have closed up; what each takes along lies before the next.
-use Rattle.cameras.proofs.Ranges.{Closing}
-use Rattle.cameras.proofs.rows.close_range.Given as goal
-
-abbrev pub invariant-loop-r : goal.invariant-loop-r
-invariant-loop-r l = Closing l.t.low l.t.high l.t.n l.t.k l.r l.initial.buf l.buf

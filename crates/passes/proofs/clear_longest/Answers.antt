@@ -1,7 +1,0 @@
--- `clear_longest` meets its contract: the longer side is what the call needs of scratch.
-use Rattle.moves.proofs.Cleared.{zeroed_cleared}
-use Rattle.passes.proofs.clear_longest.Goals as goal
-
-pub returns : goal.returns
-returns c =
-    zeroed_cleared c.requires (rw c.longest_of-longest.ensures at c.zero.ensures)
