@@ -37,7 +37,7 @@ impl From<Result<(), Refused>> for Judged {
 }
 
 // What follows the pair of this start and this length, if a list begins with it.
-// Kept: a word becomes a `usize` by `as`, since the library has no `From<u32>` for `usize`.
+// Kept: a word becomes a `usize` by `as`: the library has no `From<u32>` for it, and `try_from` would answer an error that none gives.
 fn after_pair(list: &[u32], start: usize, count: usize) -> Option<&[u32]>
     ensures { MatchOption result (take 2 list.now ≡ start ∷ count ∷ [] → ⊥) (λ rest. list.now ≡ start ∷ count ∷ rest.now) }
 {

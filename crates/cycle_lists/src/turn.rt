@@ -85,7 +85,7 @@ impl Turn {
     }
 
     // Along every cycle of the right list, one after the other.
-    // Kept: a word becomes a `usize` by `as`, since the library has no `From<u32>` for `usize`.
+    // Kept: a word becomes a `usize` by `as`: the library has no `From<u32>` for it, and `try_from` would answer an error that none gives.
     pub(crate) fn follow_all(self, list: &[u32], buf: &mut [u32])
         requires right { list.now ≡ cycles self.m self.n }
         requires exact { length buf.old ≡ self.m * self.n }

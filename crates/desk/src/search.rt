@@ -5,7 +5,7 @@ ghost use Rattle.desk.specs.Choice.{exchanges};
 ghost use Rattle.desk.specs.Private.{taken, HeldAs};
 
 // The usable exchange of a run with the smallest delay. Where there is none, the delay is negative.
-// Kept: an Option of both would hold a delay that is never negative, and each test of two delays would first take it apart.
+// Kept: a delay below 0 stands for none; with an Option each comparison of two delays would first take it apart.
 #[derive(Clone, Copy)]
 pub(crate) struct Held {
     pub(crate) found: usize,

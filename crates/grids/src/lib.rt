@@ -31,6 +31,7 @@ fn refused(buf: &[u32], marks: &[u32], m: usize, n: usize, chunk: usize) -> bool
 
 // Turns the block of m rows and n columns of chunks that the buffer begins with, and leaves the marks zero: false, and nothing changed, where the
 // block cannot be turned.
+// Kept: the promise and the refuted rows of `turn_grid` speak of a bool; no document gives this refusal a number that a `Result` could hold.
 pub fn turn_grid(buf: &mut [u32], marks: &mut [u32], m: usize, n: usize, chunk: usize) -> bool
     ensures { GridPromise m n chunk buf.old marks.old result buf.new marks.new }
 {

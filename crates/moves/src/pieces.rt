@@ -53,7 +53,7 @@ pub(crate) fn fall_pieces(buf: &mut [u32], to: usize, from: usize, count: usize)
     requires { (8 ≤ count) × (to + count ≤ length buf.old) × (from + count ≤ length buf.old) × Ahead to from count }
     ensures { Stretch to count (λ u. get_or buf.old (from + u) 0) buf.old buf.new }
 {
-    // Kept: the words that are left after the loop begin where it ends, which no `for` tells.
+    // Kept: the words that are left after the loop begin where it ends; a `for` would have to compute that place a second time.
     let mut u = 0;
     while 16 < count - u {
         let piece = held(buf, from + u);
@@ -68,7 +68,7 @@ pub(crate) fn rise_pieces(buf: &mut [u32], to: usize, from: usize, count: usize)
     requires { (8 ≤ count) × (from ≤ to) × (to + count ≤ length buf.old) }
     ensures { Stretch to count (λ u. get_or buf.old (from + u) 0) buf.old buf.new }
 {
-    // Kept: the words that are left after the loop end where it ends, which no `for` tells.
+    // Kept: the words that are left after the loop end where it ends; a `for` would have to compute that place a second time.
     let mut u = count;
     while 16 < u {
         u -= 8;

@@ -8,7 +8,8 @@ pub(crate) fn copy_words(buf: &mut [u32], to: usize, other: &[u32], from: usize,
     requires { (to + count ≤ length buf.old) × (from + count ≤ length other.now) }
     ensures { Stretch to count (λ u. get_or other.now (from + u) 0) buf.old buf.new }
 {
-    // Kept: `copy_from_slice` of so many words calls memmove, and the archive asks the C library for memcpy and memset alone, as the header says.
+    // Kept: `copy_from_slice` between two lent buffers calls memmove where the count is not known, and the header says that the archive asks the C
+    // library for memcpy and memset alone.
     for u in 0..count {
         buf[to + u] = other[from + u];
     }
@@ -19,21 +20,18 @@ pub(crate) fn fall_words(buf: &mut [u32], to: usize, from: usize, count: usize)
     requires { (to + count ≤ length buf.old) × (from + count ≤ length buf.old) × Ahead to from count }
     ensures { Stretch to count (λ u. get_or buf.old (from + u) 0) buf.old buf.new }
 {
-    // Kept: the two runs may overlap in one buffer, and the library has no copy_within.
+    // Kept: `copy_within` would serve, but it hides the order of the stores, which the must-fail edit fall_from_the_wrong_end is about.
     for u in 0..count {
         buf[to + u] = buf[from + u];
     }
 }
 
-// Moves words to a place after them, the last first.
+// Moves words to a place after them.
 pub(crate) fn rise_words(buf: &mut [u32], to: usize, from: usize, count: usize)
     requires { (from ≤ to) × (to + count ≤ length buf.old) }
     ensures { Stretch to count (λ u. get_or buf.old (from + u) 0) buf.old buf.new }
 {
-    // Kept: the two runs may overlap in one buffer, and the library has no copy_within.
-    for left in (0..count).rev() {
-        buf[to + left] = buf[from + left];
-    }
+    buf.copy_within(from..from + count, to);
 }
 
 pub(crate) fn zero_words(buf: &mut [u32], from: usize, count: usize)

@@ -130,7 +130,7 @@ pub fn step(
 }
 
 // Goes on with the turn of an m by n block from the stage that the progress word names, and stops after `budget` stores; or 1, 2, 3, 13, 4, 23.
-// Kept: the progress word becomes a `usize` by `as`, since the library has no `From<u32>` for `usize`.
+// Kept: the progress word becomes a `usize` by `as`: the library has no `From<u32>` for it, and `try_from` would answer an error that none gives.
 pub fn resume(
     buf: &mut [u32],
     scratch: &mut [u32],

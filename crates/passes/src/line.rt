@@ -49,7 +49,7 @@ impl Strides {
     }
 
     // The same; words that stand side by side and go side by side are one move.
-    // Kept: `copy_from_slice` in the last case asks that the first place is there, also for no word, which takes a test more than the loop.
+    // Kept: `copy_from_slice` in the last case takes slices that start in their buffers, also for no word, so that it takes a test more than the loop.
     fn copy(self, source: &[u32], target: &mut [u32])
         requires { CanCopy self source.now target.old }
         ensures { Copied self source.now target.old target.new }

@@ -37,7 +37,7 @@ impl GroupedSides {
     {
         let rows = Rows::new(self);
         let mut left = budget;
-        // Kept: the progress word becomes a `usize` by `as`, since the library has no `From<u32>` for `usize`.
+        // Kept: the progress word becomes a `usize` by `as`: the library has no `From<u32>` for it, and `try_from` would answer an error that none gives.
         // Divides: for a line, to find where it starts.
         for p in *progress as usize..self.stage_count() {
             let words = self.stage_words(p);

@@ -15,7 +15,7 @@ const MOST_SWAPS: usize = 32;
 // The last order number of four axes.
 const LAST_ORDER: usize = 23;
 
-// Kept: a number becomes a `usize` by `as` in this file, since the library has no `From<u32>` for `usize`.
+// Kept: a number becomes a `usize` by `as` in this file: the library has no `From<u32>` for it, and `try_from` would answer an error that none gives.
 
 // Line 1 of a sheet: its lengths, and the bytes after it.
 #[derive(Clone, Copy)]

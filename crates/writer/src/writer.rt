@@ -16,7 +16,8 @@ fn overwrite(place: &mut [u8], text: &[u8])
     requires { length place.old ≡ length text.now }
     ensures { place.new ≡ text.now }
 {
-    // Kept: `copy_from_slice` of so many bytes calls memmove, and the archive asks the C library for memcpy and memset alone, as the header says.
+    // Kept: `copy_from_slice` between two lent buffers calls memmove where the count is not known, and the header says that the archive asks the C
+    // library for memcpy and memset alone.
     for i in 0..text.len() {
         place[i] = text[i];
     }
