@@ -23,7 +23,6 @@ pub(crate) fn turn_each<F: Fn(&mut [u32], &mut Room)>(
     }
     let words = shape.size();
     // Kept: `chunks_exact_mut` was tried, and no invariant can name the buffer while its chunks are lent, so the proof stayed open.
-    // Divides: a few times a strip or a block, to cut it.
     for t in 0..y {
         let base = t * words;
         let end = base + words;
