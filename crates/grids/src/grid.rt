@@ -63,6 +63,6 @@ impl Grid {
         requires { p < self.n * self.m }
         ensures { result ≡ fold (self.n * self.m) p }
     {
-        p.min(self.mirrored(p))
+        moves::smaller(p, self.mirrored(p))
     }
 }

@@ -5,7 +5,7 @@ mod pieces;
 mod runs;
 mod words;
 
-ghost use Rattle.std.specs.Prelude.{true, false, ◌≡◌, ◌+◌, ◌≤◌};
+ghost use Rattle.std.specs.Prelude.{true, false, ◌≡◌, ◌+◌, ◌≤◌, min};
 ghost use Rattle.moves.specs.Promises.{Ahead, Apart, CopyPromise, FallPromise, HandPromise, RisePromise, ZeroPromise, TradePromise};
 
 // Kept: three numbers say a move throughout this crate, since the promises of its public calls name them so; a struct of them would be made at each
@@ -16,6 +16,13 @@ fn past(len: usize, at: usize, count: usize) -> bool
     ensures { (result ≡ false → at + count ≤ len) × (result ≡ true → (at + count ≤ len → ⊥)) }
 {
     len < count || len - count < at
+}
+
+// The smaller of two counts.
+pub fn smaller(x: usize, y: usize) -> usize
+    ensures { result ≡ min x y }
+{
+    x.min(y)
 }
 
 // Whether one of two runs of count words ends past a buffer of so many words.

@@ -1,7 +1,5 @@
 -- The calls on flat blocks: one outcome each, because those of their promises are one.
 use mathlib.Core.Path.{refl, sym, ◌∙◌}
-use Rattle.lists.proofs.Kit.{◌≡◌, ℕ, min, rules}
-use Rattle.std.specs.Ordering.{nat_cmp, ord_min}
 use Rattle.refusals.proofs as refusals
 use Rattle.recursion.proofs as recursion
 use Rattle.strips.proofs as strips
@@ -66,9 +64,8 @@ hand_once t = let e = moves.OneOutcome.hand_once t.args.1.0 t.args.1.1.0 t.args.
 pub rise_once : Once moves.rise.Kinds.ps moves.rise.Kinds.r moves.rise.Reads.Post
 rise_once t = let e = moves.OneOutcome.rise_once t.args.1.0 t.args.1.1.0 t.args.1.1.1.0 t.first t.second in (refl, λ i. (e i, _))
 
--- the smaller of two counts, as the library's `min` answers it, is one, and it is their minimum
-pub smaller_once : (a b : ℕ) {x y : ℕ} → x ≡ ord_min nat_cmp a b → y ≡ ord_min nat_cmp a b → (x ≡ y) × (x ≡ min a b)
-smaller_once a b p q = (p ∙ sym q, search rules)
+pub smaller_once : Once moves.smaller.Kinds.ps moves.smaller.Kinds.r moves.smaller.Reads.Post
+smaller_once t = (t.first ∙ sym t.second, refl)
 
 pub zero_once : Once moves.zero.Kinds.ps moves.zero.Kinds.r moves.zero.Reads.Post
 zero_once t = let e = moves.OneOutcome.zero_once t.args.1.0 t.args.1.1.0 t.first t.second in (refl, λ i. (e i, _))

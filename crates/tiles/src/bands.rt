@@ -42,7 +42,7 @@ fn rows_from(rows: usize, columns: usize, width: usize, j: usize) -> Rows
             step: columns,
         };
     }
-    let step = width.min(columns - j);
+    let step = moves::smaller(width, columns - j);
     Rows { at: rows * j, step }
 }
 
@@ -82,9 +82,9 @@ fn lay(buf: &mut [u32], scratch: &[u32], b: Band)
     requires { BandFits b buf.old scratch.now }
     ensures { BandLaidTo b b.columns (λ p. get_or scratch.now p 0) buf.old buf.new }
 {
-    let step = b.from.min(b.to);
+    let step = moves::smaller(b.from, b.to);
     for j in (0..b.columns).step_by(step) {
-        lay_piece(buf, scratch, b, j, step.min(b.columns - j));
+        lay_piece(buf, scratch, b, j, moves::smaller(step, b.columns - j));
     }
 }
 
@@ -103,7 +103,7 @@ fn move_bands(buf: &mut [u32], scratch: &mut [u32], t: Tiling)
     ensures { BlockMoved t buf.old buf.new scratch.old scratch.new }
 {
     for i in (0..t.rows).step_by(t.height) {
-        let rows = t.height.min(t.rows - i);
+        let rows = moves::smaller(t.height, t.rows - i);
         let b = Band {
             first: i * t.columns,
             rows,

@@ -7,4 +7,4 @@ pub returns-then-columns-width : goal.returns-then-columns-width
 returns-then-columns-width c = rows_wide (omega arith)
 
 pub returns : goal.returns
-returns c = rows_narrow (omega arith) c.requires.1 c.min-step.ensures
+returns c = rows_narrow (omega arith) c.requires.1 c.smaller-step.ensures
