@@ -20,7 +20,7 @@ module _ {n p q : ℕ} {xs : List ℕ} (runs : Runs n p q xs) where
   pub stretch_long : length (mid_of (n / 2 * p) (n * p + n / 2 * q - n / 2 * p) xs) ≡ (n - n / 2) * p + n / 2 * q
   stretch_long = mid_len (n / 2 * p) (n * p + n / 2 * q) xs (omega (arith, cuts, runs.fill)) ∙ omega (arith, cuts)
 
-  cut_within : n / 2 * (p + q) ≤ length xs
+  pub cut_within : n / 2 * (p + q) ≤ length xs
   cut_within = omega (arith, sum)
 
   -- what the call on the second half asks
@@ -67,18 +67,24 @@ module _ {n p q : ℕ} {xs r : List ℕ} (runs : Runs n p q xs)
       let m = merged_halves (n / 2) (n - n / 2) p q parts.a parts.b parts.c parts.d ys zs parts.la parts.lb parts.lc parts.ld low high in
       subst (λ (k : ℕ). Merged k p q xs (ys ++ zs)) all (subst (λ (l : List ℕ). Merged (n / 2 + (n - n / 2)) p q l (ys ++ zs)) (sym parts.whole) m)
 
-  pub merged_of_halves : {u v ys zs : List ℕ} → u ≡ take (n / 2 * (p + q)) next → v ≡ drop (n / 2 * (p + q)) next
-      → Merged (n / 2) p q u ys → Merged (n - n / 2) p q v zs → Merged n p q xs (ys ++ zs)
-  merged_of_halves {ys = ys} {zs = zs} e f low high =
-      merged_both (subst (λ (l : List ℕ). Merged (n / 2) p q l ys) (e ∙ low_lent) low) (subst (λ (l : List ℕ). Merged (n - n / 2) p q l zs) (f ∙ high_lent) high)
-
-  -- the same where the second half is cut from the slice with the first half back
   pub merged_whole : {ys zs : List ℕ} → Merged (n / 2) p q (take (n / 2 * (p + q)) next) ys
       → Merged (n - n / 2) p q (mid_of (n / 2 * (p + q)) (length (ys ++ drop (n / 2 * (p + q)) next) - n / 2 * (p + q)) (ys ++ drop (n / 2 * (p + q)) next)) zs
       → Merged n p q xs (put_mid (n / 2 * (p + q)) (length (ys ++ drop (n / 2 * (p + q)) next) - n / 2 * (p + q)) (ys ++ drop (n / 2 * (p + q)) next) zs)
   merged_whole {ys} {zs} low high =
       let within = cut_within next_runs in
-      rw (joined (n / 2 * (p + q)) next ys within low.same zs) (merged_of_halves refl (second (n / 2 * (p + q)) next ys within low.same) low high)
+      rw (joined (n / 2 * (p + q)) next ys within low.same zs)
+      (merged_both
+      (subst (λ (l : List ℕ). Merged (n / 2) p q l ys) low_lent low)
+      (subst (λ (l : List ℕ). Merged (n - n / 2) p q l zs) (second (n / 2 * (p + q)) next ys within low.same ∙ high_lent) high))
+
+  -- the same of the two parts that the slice was cut in
+  pub merged_of_halves : {u v ys zs : List ℕ} → u ≡ take (n / 2 * (p + q)) next → v ≡ drop (n / 2 * (p + q)) next
+      → Merged (n / 2) p q u ys → Merged (n - n / 2) p q v zs → Merged n p q xs (ys ++ zs)
+  merged_of_halves {ys = ys} {zs = zs} e f low high =
+      let within = cut_within next_runs in
+      let first = subst (λ (l : List ℕ). Merged (n / 2) p q l ys) e low in
+      let last = subst (λ (l : List ℕ). Merged (n - n / 2) p q l zs) (f ∙ sym (second (n / 2 * (p + q)) next ys within first.same)) high in
+      subst (λ (l : List ℕ). Merged n p q xs l) (joined (n / 2 * (p + q)) next ys within first.same zs) (merged_whole first last)
 
   -- of two runs each, the halves are merged as they stand
   pub merged_two : n ≡ 2 → Merged n p q xs next
@@ -113,55 +119,73 @@ two_split {n} {p} {q} {xs} e back = record {
   back = back ∙ sym (take-append-drop (n / 2 * (p + q)) xs);
 }
 
--- split: both halves are split, then the stretch is rotated
-module _ {n p q : ℕ} {xs s : List ℕ} (runs : Runs n p q xs) (halves : HalvesSplit n p q xs s) where
-  ys_long : length halves.ys ≡ n / 2 * p + n / 2 * q
-  ys_long = sym halves.low.same ∙ length-take-le (n / 2 * (p + q)) xs (cut_within runs) ∙ omega (arith, cuts runs)
-
-  zs_long : length halves.zs ≡ (n - n / 2) * p + (n - n / 2) * q
-  zs_long = sym halves.high.same ∙ length-drop (n / 2 * (p + q)) xs ∙ omega (arith, cuts runs, sum runs)
-
-  pieces : Four (n / 2 * p) (n / 2 * q) ((n - n / 2) * p) ((n - n / 2) * q) s
-  pieces = record {
-    a = take (n / 2 * p) halves.ys;
-    b = drop (n / 2 * p) halves.ys;
-    c = take ((n - n / 2) * p) halves.zs;
-    d = drop ((n - n / 2) * p) halves.zs;
-    la = length-take-le (n / 2 * p) halves.ys (omega (arith, ys_long));
-    lb = length-drop (n / 2 * p) halves.ys ∙ omega (arith, ys_long);
-    lc = length-take-le ((n - n / 2) * p) halves.zs (omega (arith, zs_long));
-    ld = length-drop ((n - n / 2) * p) halves.zs ∙ omega (arith, zs_long);
-    whole =
-        halves.back
-        ∙ ap (λ (l : List ℕ). l ++ halves.zs) (sym (take-append-drop (n / 2 * p) halves.ys))
-        ∙ ap (λ (l : List ℕ). (take (n / 2 * p) halves.ys ++ drop (n / 2 * p) halves.ys) ++ l) (sym (take-append-drop ((n - n / 2) * p) halves.zs))
-        ∙ append_assoc (take (n / 2 * p) halves.ys) (drop (n / 2 * p) halves.ys) (take ((n - n / 2) * p) halves.zs ++ drop ((n - n / 2) * p) halves.zs);
-  }
-
-  pub split_of_halves : {r : List ℕ} → r ≡ rotated (n / 2 * q) (mid_of (n / 2 * p) (n * p + n / 2 * q - n / 2 * p) s)
-      → Merged n p q (put_mid (n / 2 * p) (n * p + n / 2 * q - n / 2 * p) s r) xs
-  unfolding pieces
-  split_of_halves {r} turned =
-      let all : n / 2 + (n - n / 2) ≡ n = omega arith in
-      let first : Merged (n / 2) p q (pieces.a ++ pieces.b) (take (n / 2 * (p + q)) xs)
-      = subst (λ (l : List ℕ). Merged (n / 2) p q l (take (n / 2 * (p + q)) xs)) (sym (take-append-drop (n / 2 * p) halves.ys)) halves.low in
-      let last : Merged (n - n / 2) p q (pieces.c ++ pieces.d) (drop (n / 2 * (p + q)) xs)
-      = subst (λ (l : List ℕ). Merged (n - n / 2) p q l (drop (n / 2 * (p + q)) xs)) (sym (take-append-drop ((n - n / 2) * p) halves.zs)) halves.high in
-      let m = merged_halves (n / 2) (n - n / 2) p q pieces.a pieces.c pieces.b pieces.d (take (n / 2 * (p + q)) xs) (drop (n / 2 * (p + q)) xs)
-      pieces.la pieces.lc pieces.lb pieces.ld first last in
-      rw (middle-turned pieces (n * p + n / 2 * q - n / 2 * p) (omega (arith, cuts runs)) r turned)
-      (subst (λ (k : ℕ). Merged k p q (pieces.a ++ (pieces.c ++ (pieces.b ++ pieces.d))) xs) all
-      (subst (λ (l : List ℕ). Merged (n / 2 + (n - n / 2)) p q (pieces.a ++ (pieces.c ++ (pieces.b ++ pieces.d))) l) (take-append-drop (n / 2 * (p + q)) xs) m))
-
--- the same where the second half is cut from the slice with the first half back
+-- split: the halves come back split as ys and zs, the second one cut from the slice with the first half back; then the stretch is rotated
 module _ {n p q : ℕ} {xs ys zs : List ℕ} (runs : Runs n p q xs) (low : Merged (n / 2) p q ys (take (n / 2 * (p + q)) xs))
     (high : Merged (n - n / 2) p q zs (mid_of (n / 2 * (p + q)) (length (ys ++ drop (n / 2 * (p + q)) xs) - n / 2 * (p + q)) (ys ++ drop (n / 2 * (p + q)) xs))) where
   -- the slice once both halves are back
   abbrev both : List ℕ
   both = put_mid (n / 2 * (p + q)) (length (ys ++ drop (n / 2 * (p + q)) xs) - n / 2 * (p + q)) (ys ++ drop (n / 2 * (p + q)) xs) zs
 
+  both_is : both ≡ ys ++ zs
+  both_is = joined (n / 2 * (p + q)) xs ys (cut_within runs) (sym low.same) zs
+
+  high_split : Merged (n - n / 2) p q zs (drop (n / 2 * (p + q)) xs)
+  high_split = subst (λ (l : List ℕ). Merged (n - n / 2) p q zs l) (second (n / 2 * (p + q)) xs ys (cut_within runs) (sym low.same)) high
+
+  ys_long : length ys ≡ n / 2 * p + n / 2 * q
+  ys_long = sym low.same ∙ length-take-le (n / 2 * (p + q)) xs (cut_within runs) ∙ omega (arith, cuts runs)
+
+  zs_long : length zs ≡ (n - n / 2) * p + (n - n / 2) * q
+  zs_long = sym high_split.same ∙ length-drop (n / 2 * (p + q)) xs ∙ omega (arith, cuts runs, sum runs)
+
+  pieces : Four (n / 2 * p) (n / 2 * q) ((n - n / 2) * p) ((n - n / 2) * q) both
+  pieces = record {
+    a = take (n / 2 * p) ys;
+    b = drop (n / 2 * p) ys;
+    c = take ((n - n / 2) * p) zs;
+    d = drop ((n - n / 2) * p) zs;
+    la = length-take-le (n / 2 * p) ys (omega (arith, ys_long));
+    lb = length-drop (n / 2 * p) ys ∙ omega (arith, ys_long);
+    lc = length-take-le ((n - n / 2) * p) zs (omega (arith, zs_long));
+    ld = length-drop ((n - n / 2) * p) zs ∙ omega (arith, zs_long);
+    whole =
+        both_is
+        ∙ ap (λ (l : List ℕ). l ++ zs) (sym (take-append-drop (n / 2 * p) ys))
+        ∙ ap (λ (l : List ℕ). (take (n / 2 * p) ys ++ drop (n / 2 * p) ys) ++ l) (sym (take-append-drop ((n - n / 2) * p) zs))
+        ∙ append_assoc (take (n / 2 * p) ys) (drop (n / 2 * p) ys) (take ((n - n / 2) * p) zs ++ drop ((n - n / 2) * p) zs);
+  }
+
   pub split_whole : {r : List ℕ} → r ≡ rotated (n / 2 * q) (mid_of (n / 2 * p) (n * p + n / 2 * q - n / 2 * p) both)
       → Merged n p q (put_mid (n / 2 * p) (n * p + n / 2 * q - n / 2 * p) both r) xs
-  split_whole =
-      let within = cut_within runs in
-      split_of_halves runs (halves_split refl (second (n / 2 * (p + q)) xs ys within (sym low.same)) low high (joined (n / 2 * (p + q)) xs ys within (sym low.same) zs))
+  unfolding pieces
+  split_whole {r} turned =
+      let all : n / 2 + (n - n / 2) ≡ n = omega arith in
+      let first : Merged (n / 2) p q (pieces.a ++ pieces.b) (take (n / 2 * (p + q)) xs)
+      = subst (λ (l : List ℕ). Merged (n / 2) p q l (take (n / 2 * (p + q)) xs)) (sym (take-append-drop (n / 2 * p) ys)) low in
+      let last : Merged (n - n / 2) p q (pieces.c ++ pieces.d) (drop (n / 2 * (p + q)) xs)
+      = subst (λ (l : List ℕ). Merged (n - n / 2) p q l (drop (n / 2 * (p + q)) xs)) (sym (take-append-drop ((n - n / 2) * p) zs)) high_split in
+      let m = merged_halves (n / 2) (n - n / 2) p q pieces.a pieces.c pieces.b pieces.d (take (n / 2 * (p + q)) xs) (drop (n / 2 * (p + q)) xs)
+      pieces.la pieces.lc pieces.lb pieces.ld first last in
+      rw (middle-turned pieces (n * p + n / 2 * q - n / 2 * p) (omega (arith, cuts runs)) r turned)
+      (subst (λ (k : ℕ). Merged k p q (pieces.a ++ (pieces.c ++ (pieces.b ++ pieces.d))) xs) all
+      (subst (λ (l : List ℕ). Merged (n / 2 + (n - n / 2)) p q (pieces.a ++ (pieces.c ++ (pieces.b ++ pieces.d))) l) (take-append-drop (n / 2 * (p + q)) xs) m))
+
+-- the same of the two parts that the slice was cut in: s is the slice with both back
+module _ {n p q : ℕ} {xs s : List ℕ} (runs : Runs n p q xs) (halves : HalvesSplit n p q xs s) where
+  short : length halves.ys ≡ length (take (n / 2 * (p + q)) xs)
+  short = sym halves.low.same
+
+  high_lent_again : Merged (n - n / 2) p q halves.zs
+      (mid_of (n / 2 * (p + q)) (length (halves.ys ++ drop (n / 2 * (p + q)) xs) - n / 2 * (p + q)) (halves.ys ++ drop (n / 2 * (p + q)) xs))
+  high_lent_again =
+      subst (λ (l : List ℕ). Merged (n - n / 2) p q halves.zs l) (sym (second (n / 2 * (p + q)) xs halves.ys (cut_within runs) short)) halves.high
+
+  both_back : both runs halves.low high_lent_again ≡ s
+  both_back = both_is runs halves.low high_lent_again ∙ sym halves.back
+
+  pub split_of_halves : {r : List ℕ} → r ≡ rotated (n / 2 * q) (mid_of (n / 2 * p) (n * p + n / 2 * q - n / 2 * p) s)
+      → Merged n p q (put_mid (n / 2 * p) (n * p + n / 2 * q - n / 2 * p) s r) xs
+  split_of_halves {r} turned =
+      subst (λ (l : List ℕ). Merged n p q (put_mid (n / 2 * p) (n * p + n / 2 * q - n / 2 * p) l r) xs) both_back
+      (split_whole runs halves.low high_lent_again
+      (subst (λ (l : List ℕ). r ≡ rotated (n / 2 * q) (mid_of (n / 2 * p) (n * p + n / 2 * q - n / 2 * p) l)) (sym both_back) turned))

@@ -6,6 +6,7 @@ use Rattle.flat.proofs.Turn.{literally, from_literal}
 use Rattle.recursion.specs.Merge.{Merged}
 use Rattle.recursion.specs.Private.{Block}
 use Rattle.lists.proofs.Parts.{in_front, behind}
+use Rattle.recursion.proofs.Cuts.{rows_cut}
 
 -- a block that fills its slice is turned where each of its words is: past it there is none
 pub filled_turn : (m n : ℕ) (xs ys : List ℕ) → length xs ≡ m * n → length ys ≡ length xs
@@ -89,7 +90,9 @@ module _ {m n : ℕ} {xs : List ℕ} (b : Block m n xs) where
   rows_long = b.fill ∙ ap (λ (k : ℕ). k * n) (sym rows_sum) ∙ add-mul (m / 2) (m - m / 2) n
 
   pub lower_block : {v : List ℕ} → 1 < m → length v + m / 2 * n ≡ length xs → Block (m - m / 2) n v
-  lower_block h e = record { rows = omega arith; columns = b.columns; fill = omega (arith, rows_long) }
+  lower_block h e =
+      let cut = rows_cut b h in
+      record { rows = cut.rows₂; columns = cut.columns₂; fill = omega (arith, cut.all) }
 
   pub tall_turned : {u v ys zs ws : List ℕ} → u ≡ take (m / 2 * n) xs → v ≡ drop (m / 2 * n) xs → Turn (m / 2) n u ys → Turn (m - m / 2) n v zs
       → Merged n (m / 2) (m - m / 2) (ys ++ zs) ws → Turn m n xs ws
