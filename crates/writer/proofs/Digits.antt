@@ -6,7 +6,7 @@ use Rattle.sheets.specs.Print.{limit, digits, decimal}
 use Rattle.sheets.proofs.Numbers.{decimal_one, decimal_digit}
 
 -- all digits but the last, then the last
-decimal_last : (v : ℕ) → 10 ≤ v → v ≤ limit → decimal v ≡ decimal (v / 10) ++ ((48 + v % 10) ∷ [])
+pub decimal_last : (v : ℕ) → 10 ≤ v → v ≤ limit → decimal v ≡ decimal (v / 10) ++ ((48 + v % 10) ∷ [])
 decimal_last v h l =
     let e : v / 10 * 10 + v % 10 ≡ v = omega arith in
     rw e at (decimal_digit (v / 10) (v % 10) (omega arith) (omega arith) (omega arith))
@@ -31,3 +31,6 @@ pub printed_decimal : (v : ℕ) → v ≤ limit → printed v ≡ decimal v
 unfolding decimal
 printed_decimal v l =
     sym (decimal_from_appends digits appends 10 v (omega arith) (length-decimal-le 10 v (omega arith) (omega arith) (omega arith)))
+
+pub printed_same : (u v : ℕ) → u ≡ v → v ≤ limit → printed u ≡ decimal v
+printed_same u v e l = ap printed e ∙ printed_decimal v l

@@ -1,5 +1,5 @@
 -- Texts put one behind the other: what is left to be put leads to the whole. From the law of runs of stores.
-use Rattle.lists.proofs.Kit.{◌≡◌, refl, sym, ap, ◌∙◌, List, [], ◌∷◌, ◌++◌, append-nil, suc, take-suc, take_all, set, append_assoc, ℕ, ◌+◌, ◌<◌, ◌≤◌, arith, length, take, drop, drop-drop, sets-eq, get_or, length-append, drop_of_length-le, sets, length-sets, drop-next}
+use Rattle.lists.proofs.Kit.{◌≡◌, refl, sym, ap, ◌∙◌, List, [], ◌∷◌, ◌++◌, append-nil, suc, take-suc, take_all, set, append_assoc, ℕ, ◌+◌, ◌<◌, ◌≤◌, arith, length, take, drop, drop-drop, sets-eq, get_or, length-append, drop_of_length-le, sets, length-sets, drop-next, take-append-drop}
 use Rattle.sheets.specs.Print.{tab_byte, decimal, field, fields}
 use Rattle.writer.specs.PrivateBytes.{Room, Put}
 use Rattle.sheets.proofs.Stores.{sets-append}
@@ -61,6 +61,20 @@ module _ (vs : List ℕ) (i : ℕ) {out₀ : List ℕ} {at : ℕ} {text out : Li
 -- a part that was overwritten
 pub overwritten : (at k : ℕ) (out text : List ℕ) → k ≡ length text → at + length text ≤ length out → put_mid at k out text ≡ sets out at text
 overwritten at k out text e h = rw (e, drop-drop (length text) at out) (sym (append_assoc (take at out) text (drop (at + length text) out)) ∙ sym (sets-eq text out at h))
+
+-- a text that was written so that it ends at a place
+pub ended_put : (start : ℕ) {out out' : List ℕ} {at end : ℕ} (text : List ℕ) → Room out at text → end ≡ at + length text → start + length text ≡ end
+    → drop start out' ≡ text ++ drop end out → take start out' ≡ take start out → Put out at text end out'
+ended_put start {out} {out'} {at} {end} text r e s written before =
+    let same : start ≡ at = omega (arith, e, s) in
+    record {
+      place = e;
+      bytes =
+          sym (take-append-drop start out')
+          ∙ ap (λ (l : List ℕ). l ++ drop start out') before
+          ∙ ap (λ (l : List ℕ). take start out ++ l) written
+          ∙ rw (same, e) (sym (append_assoc (take at out) text (drop (at + length text) out)) ∙ sym (sets-eq text out at r.fits));
+    }
 
 -- a field is its tab and its number
 module _ {out : List ℕ} {at : ℕ} (v : ℕ) (r : Room out at (field v)) where

@@ -7,7 +7,7 @@ use crate::writer::Writer;
 
 // How many digits a number has.
 // Kept: a count becomes a `usize` by `as`: the library has no `From<u32>` for it, and `try_from` would answer an error that none gives.
-fn digits_of(value: u32) -> usize
+pub(crate) fn digits_of(value: u32) -> usize
     ensures { result ≡ length (decimal value) }
 {
     match value.checked_ilog10() {

@@ -1,8 +1,12 @@
 // A thin writer over lent bytes: it keeps the place of the next byte. Private to the library.
+//
+// A field, fields and a line are inlined, so that the place stays in a register: a method that is called reads it back from memory behind each byte.
 ghost use Rattle.std.specs.Prelude.{◌≡◌, ◌/◌, ◌<◌, length};
 ghost use Rattle.sheets.specs.Print.{decimal, field, fields, line};
 ghost use Rattle.sheets.specs.Sheet.{rows_text};
 ghost use Rattle.writer.specs.PrivateWriter.{HasRoom, Writes};
+
+use crate::page::digits_of;
 
 // The lent bytes, and the place of the next one.
 #[derive(Drop)]
@@ -51,17 +55,20 @@ impl<'a> Writer<'a> {
     }
 
     // A field: a tab and a number.
+    #[inline(always)]
     fn field(&mut self, value: u32)
         requires { HasRoom self.old (field value) }
         ensures same_reference { self.new.out.ghost_name ≡ self.old.out.ghost_name }
         ensures put { Writes self.old (field value) self.new }
     {
         self.text(b"\t");
-        let mut buffer = itoa::Buffer::new();
-        self.text(buffer.format(value).as_bytes());
+        let end = self.at + digits_of(value);
+        itoa::write_digits(u64::from(value), &mut self.out[..], end);
+        self.at = end;
     }
 
     // A field for each number.
+    #[inline(always)]
     fn fields(&mut self, numbers: &[u32])
         requires { HasRoom self.old (fields numbers.now) }
         ensures same_reference { self.new.out.ghost_name ≡ self.old.out.ghost_name }
@@ -73,6 +80,7 @@ impl<'a> Writer<'a> {
     }
 
     // A line of a word and numbers.
+    #[inline(always)]
     pub(crate) fn line(&mut self, word: &[u8], numbers: &[u32])
         requires { HasRoom self.old (line word.now numbers.now) }
         ensures same_reference { self.new.out.ghost_name ≡ self.old.out.ghost_name }
