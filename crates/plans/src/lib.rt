@@ -88,7 +88,8 @@ fn plan_of(axes: &mut [usize]) -> Swaps
     Swaps { places, count }
 }
 
-// The plan of an order, or 7.
+// The plan of an order, or 7. Inlined, so that a call that knows its axes has their tables alone, and a refusal no frame.
+#[inline(always)]
 pub fn plan(axes: Axes, order: usize) -> Result<Swaps, Refusal>
     ensures { PlanPromise (count_of axes) order (in_c result) }
 {
