@@ -22,7 +22,7 @@ module _ {short long g s : ℕ} (some : 0 < short) (words : 0 < g) (reach : long
   reaches : s ≤ long
   reaches = ⊎_elim (λ (k : long < s). absurd (omega (arith, enough, l.room, mul-le-mul_right (short * g) k))) (λ (k : s ≤ long). k) (lt-or-ge long s)
 
-  parted : Parted short long g s (long / s) (long % s)
+  pub parted : Parted short long g s (long / s) (long % s)
   parted =
       let y = long / s in
       let pos : 0 < s = omega (arith, l.some) in

@@ -103,13 +103,13 @@ block_more {m} {n} {g} {t} {words} {xs} {ys} {zs} e a room s =
     (subst (λ (k : ℕ). TurnedAt m n g (t * k) ys (put_mid (t * words) (t * words + words - t * words) ys zs)) e (part_turned (omega (arith, e)) room (laid-turned s)))
 
 -- blocks of one line, turned, are as they were
-rows_stand : {y m n g : ℕ} {xs : List ℕ} → m ≡ 1 → BlocksTurned y m n g xs xs
+pub rows_stand : {y m n g : ℕ} {xs : List ℕ} → m ≡ 1 → BlocksTurned y m n g xs xs
 rows_stand {y} {m} {n} {g} {xs} one = all-turned (record { same = refl; placed = λ k i j u hk hi hj hu. stands k i j u (omega arith); stands = λ p h. refl })
   where
     stands : (k i j u : ℕ) → i ≡ 0 → get_or xs (k * (m * n * g) + ((j * m + i) * g + u)) 0 ≡ get_or xs (k * (m * n * g) + ((i * n + j) * g + u)) 0
     stands k i j u z = rw (z, one) (same_word xs (omega arith))
 
-columns_stand : {y m n g : ℕ} {xs : List ℕ} → n ≡ 1 → BlocksTurned y m n g xs xs
+pub columns_stand : {y m n g : ℕ} {xs : List ℕ} → n ≡ 1 → BlocksTurned y m n g xs xs
 columns_stand {y} {m} {n} {g} {xs} one = all-turned (record { same = refl; placed = λ k i j u hk hi hj hu. stands k i j u (omega arith); stands = λ p h. refl })
   where
     stands : (k i j u : ℕ) → j ≡ 0 → get_or xs (k * (m * n * g) + ((j * m + i) * g + u)) 0 ≡ get_or xs (k * (m * n * g) + ((i * n + j) * g + u)) 0
