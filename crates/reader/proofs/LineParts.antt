@@ -33,7 +33,7 @@ module _ (bytes word : List ℕ) (n : ℕ) where
   no_word out out' k e = (rw (sym (pointwise_same (take (length word) bytes) word) ∙ e), k)
 
   module _ {fields : List ℕ} (stands : pointwise eqb (take (length word) bytes) word ≡ true) (is : fields ≡ drop (length word) bytes) where
-    past_word : read_line word n bytes ≡ after (read_fields n fields) closed
+    pub past_word : read_line word n bytes ≡ after (read_fields n fields) closed
     unfolding read_line
     past_word = rw (sym (pointwise_same (take (length word) bytes) word) ∙ stands, is)
 
